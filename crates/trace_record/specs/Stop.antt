@@ -1,0 +1,41 @@
+-- The stops of a tracee, and the wait status that tells each (ptrace(2), "Syscall-stops", "PTRACE_EVENT stops",
+-- "Signal-delivery-stop").
+use Rattle.std.specs.Prelude.{◌+◌, ◌*◌, ℕ}
+use Rattle.trace_status.specs.WaitStatus.{IsSignal}
+use Rattle.trace_status.specs.declared.wait_status.WaitStatus.{WaitStatus}
+use Rattle.trace_status.specs.declared.wait_status.WaitStatus.TheVariants.{Stopped, PtraceEvent, PtraceSyscall}
+use Rattle.trace_record.specs.declared.stop.Stop.{Stop}
+use Rattle.trace_record.specs.declared.stop.Stop.TheVariants.{Start, Enter, Exit, Seccomp, Fork, Clone, Exec, Signal}
+
+-- the wait status that a wait for the tracee pid answers at a stop
+abbrev pub stop_wait_status : ℕ → Stop → WaitStatus
+stop_wait_status pid Start = PtraceEvent pid 5 128
+stop_wait_status pid Enter = PtraceSyscall pid
+stop_wait_status pid Exit = PtraceSyscall pid
+stop_wait_status pid (Seccomp ret_data) = PtraceEvent pid 5 7
+stop_wait_status pid (Fork child) = PtraceEvent pid 5 1
+stop_wait_status pid (Clone child) = PtraceEvent pid 5 3
+stop_wait_status pid (Exec former) = PtraceEvent pid 5 4
+stop_wait_status pid (Signal signal) = Stopped pid signal
+
+-- its raw value
+abbrev pub stop_status : Stop → ℕ
+stop_status Start = 0x80057f
+stop_status Enter = 0x857f
+stop_status Exit = 0x857f
+stop_status (Seccomp ret_data) = 0x7057f
+stop_status (Fork child) = 0x1057f
+stop_status (Clone child) = 0x3057f
+stop_status (Exec former) = 0x4057f
+stop_status (Signal signal) = signal * 0x100 + 0x7f
+
+-- a stop that a tracee can make: a signal that arrives is one of Linux's
+abbrev pub IsStop : Stop → Type 0
+IsStop (Signal signal) = IsSignal signal
+IsStop Start = Unit {0}
+IsStop Enter = Unit {0}
+IsStop Exit = Unit {0}
+IsStop (Seccomp ret_data) = Unit {0}
+IsStop (Fork child) = Unit {0}
+IsStop (Clone child) = Unit {0}
+IsStop (Exec former) = Unit {0}

@@ -1,0 +1,15 @@
+//! Laws of the definitions: each function is its contract alone.
+
+ghost use Rattle.std.specs.Prelude.{ℕ};
+ghost use Rattle.trace_status.specs.WaitStatus.{Encodes};
+ghost use Rattle.trace_record.specs.Death.{IsDeath, death_status, death_wait_status};
+ghost use Rattle.trace_record.specs.Stop.{IsStop, stop_status, stop_wait_status};
+ghost use Rattle.trace_record.specs.declared.death.Death.{Death};
+ghost use Rattle.trace_record.specs.declared.stop.Stop.{Stop};
+
+/// The raw value of each stop and of each death is told, and as the status that its name says. By what
+/// `trace_status::decode` ensures, it decodes to that status.
+pub fn statuses_are_told()
+    ensures stops { (pid : ℕ) (stop : Stop) → IsStop stop → Encodes (stop_wait_status pid stop) (stop_status stop) }
+    ensures deaths { (pid : ℕ) (death : Death) → IsDeath death → Encodes (death_wait_status pid death) (death_status death) }
+{}

@@ -1,0 +1,56 @@
+//! The stops of a tracee.
+
+ghost use Rattle.std.specs.Prelude.{◌≡◌, ◌+◌, ◌*◌};
+
+/// The bits of a raw wait status that tell a stop by SIGTRAP, without the event in the third byte.
+const EVENT_STOP: u32 = 0x057f;
+
+/// The raw wait status of a syscall-stop, SIGTRAP with the bit of PTRACE_O_TRACESYSGOOD.
+const SYSCALL_STOP: u32 = 0x857f;
+
+/// A stop at which a tracee waits for its tracer (ptrace(2), "Stopped states"). A signal is 1 to 64.
+#[derive(Clone, Copy, Debug, PartialEq, Eq, Hash)]
+pub enum Stop {
+    /// The first stop of a tracee (`PTRACE_EVENT_STOP`, 128).
+    Start,
+    /// A syscall-enter-stop.
+    Enter,
+    /// A syscall-exit-stop.
+    Exit,
+    /// `PTRACE_EVENT_SECCOMP`, with the 16 bits of return data that the filter gave.
+    Seccomp(u16),
+    /// `PTRACE_EVENT_FORK`, with the new tracee's id.
+    Fork(u32),
+    /// `PTRACE_EVENT_CLONE`, with the new tracee's id.
+    Clone(u32),
+    /// `PTRACE_EVENT_EXEC`, with the former thread id.
+    Exec(u32),
+    /// A signal-delivery-stop, with the signal that arrives.
+    Signal(u8),
+}
+
+impl Stop {
+    ghost use Rattle.trace_record.specs.Stop.{stop_status};
+
+    /// The raw wait status that tells the stop (ptrace(2), "Syscall-stops", "PTRACE_EVENT stops").
+    pub fn status(&self) -> u32
+        ensures { result ≡ stop_status self.now }
+    {
+        match *self {
+            Stop::Start => event_stop(128),
+            Stop::Enter | Stop::Exit => SYSCALL_STOP,
+            Stop::Seccomp(_) => event_stop(7),
+            Stop::Fork(_) => event_stop(1),
+            Stop::Clone(_) => event_stop(3),
+            Stop::Exec(_) => event_stop(4),
+            Stop::Signal(signal) => u32::from(signal) << 8 | 0x7f,
+        }
+    }
+}
+
+/// The raw wait status of the event of this number.
+fn event_stop(event: u8) -> u32
+    ensures { result ≡ event * 0x10000 + 0x057f }
+{
+    u32::from(event) << 16 | EVENT_STOP
+}

@@ -1,6 +1,6 @@
 -- The stops of a tracee, and the wait status that tells each (ptrace(2), "Syscall-stops", "PTRACE_EVENT stops",
 -- "Signal-delivery-stop").
-use Rattle.std.specs.Prelude.{◌+◌, ◌*◌, ℕ}
+use Rattle.std.specs.Prelude.{◌+◌, ◌*◌, ℕ, Option, Some, None}
 use Rattle.trace_status.specs.WaitStatus.{IsSignal}
 use Rattle.trace_status.specs.declared.wait_status.WaitStatus.{WaitStatus}
 use Rattle.trace_status.specs.declared.wait_status.WaitStatus.TheVariants.{Stopped, PtraceEvent, PtraceSyscall}
@@ -39,3 +39,14 @@ IsStop (Seccomp ret_data) = Unit {0}
 IsStop (Fork child) = Unit {0}
 IsStop (Clone child) = Unit {0}
 IsStop (Exec former) = Unit {0}
+
+-- the new tracee that a stop tells of (ptrace(2), PTRACE_EVENT_FORK, PTRACE_EVENT_CLONE, PTRACE_GETEVENTMSG)
+abbrev pub child_of : Stop → Option ℕ
+child_of (Fork child) = Some child
+child_of (Clone child) = Some child
+child_of Start = None
+child_of Enter = None
+child_of Exit = None
+child_of (Seccomp ret_data) = None
+child_of (Exec former) = None
+child_of (Signal signal) = None

@@ -30,7 +30,7 @@ pub enum Stop {
 }
 
 impl Stop {
-    ghost use Rattle.trace_record.specs.Stop.{stop_status};
+    ghost use Rattle.trace_record.specs.Stop.{child_of, stop_status};
 
     /// The raw wait status that tells the stop (ptrace(2), "Syscall-stops", "PTRACE_EVENT stops").
     pub fn status(&self) -> u32
@@ -44,6 +44,16 @@ impl Stop {
             Stop::Clone(_) => event_stop(3),
             Stop::Exec(_) => event_stop(4),
             Stop::Signal(signal) => u32::from(signal) << 8 | 0x7f,
+        }
+    }
+
+    /// The id of the new tracee that the stop tells of: that of a fork or a clone, else None.
+    pub fn child(&self) -> Option<u32>
+        ensures { result ≡ child_of self.now }
+    {
+        match *self {
+            Stop::Fork(child) | Stop::Clone(child) => Some(child),
+            _ => None,
         }
     }
 }

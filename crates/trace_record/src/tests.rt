@@ -24,6 +24,14 @@ fn a_stop_decodes_as_its_name_says(rt: HostRuntime) {
 }
 
 #[test]
+fn a_birth_names_its_child(rt: HostRuntime) {
+    assert_eq!(rt; Stop::Fork(10).child(), Some(10));
+    assert_eq!(rt; Stop::Clone(11).child(), Some(11));
+    assert_eq!(rt; Stop::Exec(12).child(), None);
+    assert_eq!(rt; Stop::Start.child(), None);
+}
+
+#[test]
 fn a_death_decodes_as_its_name_says(rt: HostRuntime) {
     let exited = Death::Exited(3);
     assert_eq!(rt; exited.status(), 0x0300);

@@ -1,0 +1,7 @@
+pub mod Births
+pub mod Events
+pub mod Going
+pub mod Places
+pub mod Rosters
+pub mod Search
+pub mod Standing

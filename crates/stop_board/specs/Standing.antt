@@ -1,0 +1,34 @@
+-- What it means that words stand at a history: each row's word is the one that the history leaves.
+use Rattle.std.specs.Prelude.{◌≡◌, ℕ, Bool, true, false, List, length, Some, slice_get, EachIndex}
+use Rattle.stop_board.specs.declared.roster.Row.{Row}
+use Rattle.stop_board.specs.declared.word.Word.{Word}
+use Rattle.stop_board.specs.declared.state.State.TheVariants as state
+use Rattle.stop_board.specs.Event.{History}
+use Rattle.stop_board.specs.Roster.{IsRoster}
+use Rattle.stop_board.specs.State.{state_after}
+use Rattle.stop_board.specs.History.{IsLegal}
+use Rattle.stop_board.specs.Word.{word_after}
+
+-- `taken` is the set of rows whose tracees have taken them up
+pub record AreAt (rows : List Row) (words : List Word) (taken : ℕ → Bool) (h : History) : Type 0 where
+  pub legal : IsLegal rows h
+  pub held : EachIndex rows (λ row. slice_get words row ≡ Some (word_after taken h row))
+  pub up : (row : ℕ) → taken row ≡ true → state_after rows h row ≡ state.Running
+
+-- no row
+abbrev pub none_taken : ℕ → Bool
+none_taken row = false
+
+-- what a board holds: its rows and the word of each
+pub record Held : Type 0 where
+  pub rows : List Row
+  pub words : List Word
+
+-- whatever the history: a word for each row of a roster
+pub record IsHeld (rows : List Row) (words : List Word) : Type 0 where
+  pub roster : IsRoster rows
+  pub each : length words ≡ length rows
+
+-- a board stands at a history; nobody takes a row up on a board
+abbrev pub StandsAt : Held → History → Type 0
+StandsAt board h = AreAt board.rows board.words none_taken h

@@ -1,0 +1,21 @@
+//! The state of a row.
+
+/// What a row's history has come to. Numbers are those of the row's last stop, 0 before any; statuses are raw
+/// wait statuses.
+#[derive(Clone, Copy, Debug, PartialEq, Eq, Hash)]
+pub enum State {
+    /// There is no such row.
+    Absent,
+    /// Its parent has not borne it yet.
+    Unborn,
+    /// It runs.
+    Running,
+    /// It stands at a stop that nobody has claimed: number and status.
+    Stopped(u32, u32),
+    /// A tracer has claimed its stop: number and tracer.
+    Claimed(u32, u32),
+    /// It has ended, and nobody has claimed its death: number and status.
+    Dead(u32, u32),
+    /// It has ended, and a tracer has claimed its death.
+    Reaped,
+}

@@ -1,7 +1,10 @@
 pub mod Births
+pub mod Children
+pub mod Claims
 pub mod Events
 pub mod Going
 pub mod Places
 pub mod Rosters
 pub mod Search
+pub mod Settled
 pub mod Standing

@@ -1,13 +1,13 @@
 -- What the rows of a roster have to do with each other.
-use Rattle.std.proofs.Common.{refl, ◌≡◌, ◌≢◌, ◌+◌, ◌<◌, ◌≤◌, ◌++◌, ◌∷◌, [], ℕ, zero, suc, Bool, true, false, not, ◌&&◌, ◌||◌, Some, None, Option, List, length, get_or, take, find, position, is_some, arith, take-take, get_or-take, length-take, min, ◌∙◌, sym, ap, inl, inr, append_assoc, append-nil, eqb, eqb-true, eq-eqb, le-leb, leb-true, cond, count_by}
-use Rattle.std.proofs.lemmas.Bool.{cases_order, not-false}
+use Rattle.std.proofs.Common.{refl, ◌≡◌, ◌≢◌, ◌+◌, ◌<◌, ◌≤◌, ◌++◌, ◌∷◌, [], ℕ, zero, suc, Bool, true, false, not, ◌&&◌, ◌||◌, Some, None, Option, List, length, get_or, take, find, position, is_some, arith, take-take, get_or-take, length-take, min, ◌∙◌, sym, ap, inl, inr, append_assoc, append-nil, eqb, eqb-true, eq-eqb, nat_le, if◌then◌else◌, le-leb, leb-true, cond, count_by}
+use Rattle.std.proofs.lemmas.Bool.{and_parts, cases_Bool, cases_order, not-false, or_cases}
 use Rattle.std.proofs.lemmas.List.Quantifiers.{position-Some}
 use Rattle.std.proofs.lemmas.List.Sums.{count_by_more_yes, sum_by-take-le}
 use Rattle.std.proofs.lemmas.Option.{slice_get-get_or}
 use Rattle.stop_board.specs.declared.roster.Row.{Row}
 use Rattle.stop_board.specs.declared.roster.RosterError.{RosterError}
 use Rattle.stop_board.specs.declared.roster.RosterError.TheVariants as fault
-use Rattle.stop_board.specs.Roster.{IsRoster, fault_after, family_fault, first_fault, has_ids, is_child_of, is_leader, is_root, most_rows, nobody, or_later, parent_in, parent_of, rank_of, roster_fault, row_at, row_of, with_tid}
+use Rattle.stop_board.specs.Roster.{IsChild, IsPlaced, is_id, IsRoster, fault_after, family_fault, first_fault, has_ids, is_child_of, is_leader, is_root, most_rows, nobody, or_later, parent_in, parent_of, rank_of, roster_fault, row_at, row_of, with_tid}
 use Rattle.stop_board.proofs.Places.{fails_each, first_place, found_in_front}
 
 both_none : (first later : Option RosterError) → or_later first later ≡ None → (first ≡ None) × (later ≡ None)
@@ -119,3 +119,63 @@ same_rank rows i j within_i within_j parents ranks =
       | inr (inl before) ↦ absurd (omega (arith, rank_grows rows i j within_i within_j before parents))
       | inr (inr after) ↦ absurd (omega (arith, rank_grows rows j i within_j within_i after (sym parents)))
     ]
+
+-- ---- the facts of the law on placed rows
+
+pub tid_in_range : (rows : List Row) → IsRoster rows → (row : ℕ) → row < length rows → (1 ≤ (row_at rows row).tid) × ((row_at rows row).tid ≤ 4194303)
+tid_in_range rows roster row within =
+    let it : Row = row_at rows row in
+    let ids = (fits rows roster row within).ids in
+    let three = (and_parts (is_id it.tid && is_id it.tgid && is_id it.pgid) (is_root it || is_id it.parent) ids).0 in
+    let two = (and_parts (is_id it.tid && is_id it.tgid) (is_id it.pgid) three).0 in
+    let one = (and_parts (is_id it.tid) (is_id it.tgid) two).0 in
+    let ends = and_parts (nat_le 1 it.tid) (nat_le it.tid 4194303) one in
+    (leb-true 1 it.tid ends.0, leb-true it.tid 4194303 ends.1)
+
+-- a row that is no root has a parent
+pub has_parent : (rows : List Row) → IsRoster rows → (row : ℕ) → row < length rows → is_root (row_at rows row) ≡ false → (parent : ℕ) × (parent_of rows row ≡ Some parent)
+has_parent rows roster row within child =
+    let there : parent_in (take row rows) (row_at rows row) ≡ with_tid (take row rows) (row_at rows row).parent = rw child in
+    let family = family_of (length (take row rows)) (row_at rows row) (parent_in (take row rows) (row_at rows row)) child (fits rows roster row within).family in
+    let place = found_in_front (λ (q : Row). eqb q.tid (row_at rows row).parent) rows row family.0 nobody (sym there ∙ family.1) in
+    (place.0, ap (λ b. cond b None (row_of rows (row_at rows row).parent)) child ∙ place.3)
+
+root_leads : (at : ℕ) (row : Row) (parent : Option Row) → is_root row ≡ true → parent ≡ None → family_fault at row parent ≡ None → is_leader row ≡ true
+root_leads at row None root none h =
+    let e : (if is_leader row then None else Some (fault.GroupMismatch at)) ≡ None = rw root at h in no_mismatch _ _ e
+root_leads at row (Some parent) root none h = cc
+
+pub root_is_leader : (rows : List Row) → IsRoster rows → (row : ℕ) → row < length rows → is_root (row_at rows row) ≡ true → is_leader (row_at rows row) ≡ true
+root_is_leader rows roster row within root =
+    root_leads (length (take row rows)) (row_at rows row) (parent_in (take row rows) (row_at rows row)) root (rw root) (fits rows roster row within).family
+
+pub no_root : (rows : List Row) → IsRoster rows → (row : ℕ) → row < length rows → parent_of rows row ≡ None → is_root (row_at rows row) ≡ true
+no_root rows roster row within none =
+    elim (cases_Bool (is_root (row_at rows row))) [
+      | inl root ↦ root
+      | inr child ↦ let found = has_parent rows roster row within child in let clash : Some found.0 ≡ None = sym found.1 ∙ none in cc
+    ]
+
+child_of_parent : (parent row : Row) → row.parent ≡ parent.tid → is_child_of parent row ≡ true → IsChild parent row
+child_of_parent parent row tid family =
+    let both = and_parts (is_leader row || eqb row.tgid parent.tgid) (eqb row.pgid parent.pgid) family in
+    record {
+      parent_tid = tid;
+      group = elim (or_cases (is_leader row) (eqb row.tgid parent.tgid) both.0) [
+        | inl leads ↦ inl (eqb-true row.tgid row.tid leads)
+        | inr shares ↦ inr (eqb-true row.tgid parent.tgid shares)
+      ];
+      process_group = eqb-true row.pgid parent.pgid both.1;
+    }
+
+pub placed : (rows : List Row) → IsRoster rows → (row : ℕ) → row < length rows → IsPlaced rows row
+placed rows roster row within = record {
+  tid = tid_in_range rows roster row within;
+  found = row_of-tid rows roster row within;
+  root = λ none.
+      let root = no_root rows roster row within none in
+      (eqb-true _ _ root, eqb-true _ _ (root_is_leader rows roster row within root));
+  child = λ parent of_parent.
+      let known = parent_of-Some rows roster row parent within of_parent in
+      (known.before, child_of_parent (row_at rows parent) (row_at rows row) (sym known.tid) known.family);
+}

@@ -74,6 +74,11 @@ abbrev pub is_of_parent : ℕ → Option ℕ → Bool
 is_of_parent parent None = false
 is_of_parent parent (Some p) = p == parent
 
+-- of an event history, newest first: no event is one of the row `beside`
+abbrev pub IsSilent : Option ℕ → History → Type 0
+IsSilent beside [] = Unit {0}
+IsSilent beside (e ∷ h) = (beside ≢ Some (subject e)) × IsSilent beside h
+
 -- whether a row is a born child of another
 abbrev pub is_born_child : List Row → History → (parent row : ℕ) → Bool
 is_born_child rows h parent row = is_of_parent parent (parent_of rows row) && is_born rows h row

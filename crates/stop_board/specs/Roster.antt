@@ -1,6 +1,6 @@
 -- Rosters: the rows of all tracees. A row has the ids that Linux gives a thread (gettid(2), getpid(2),
 -- getpgid(2)) and its parent's tid, or 0 for a root. Each parent stands before its children.
-use Rattle.std.specs.Prelude.{◌≡◌, ◌==◌, ◌&&◌, ◌||◌, ◌++◌, ◌∷◌, [], ℕ, Bool, not, nat_le, List, length, take, Option, Some, None, is_some, if◌then◌else◌, find, position, count_by, slice_index_or}
+use Rattle.std.specs.Prelude.{◌≡◌, ◌⊎◌, ◌<◌, ◌≤◌, ◌==◌, ◌&&◌, ◌||◌, ◌++◌, ◌∷◌, [], ℕ, Bool, not, nat_le, List, length, take, Option, Some, None, is_some, if◌then◌else◌, find, position, count_by, slice_index_or}
 use Rattle.stop_board.specs.declared.roster.Row.{Row}
 use Rattle.stop_board.specs.declared.roster.RosterError.{RosterError}
 use Rattle.stop_board.specs.declared.roster.RosterError.TheVariants as fault
@@ -80,3 +80,16 @@ parent_of rows row = if is_root (row_at rows row) then None else row_of rows (ro
 -- a row's place among the rows of its parent, from 0
 abbrev pub rank_of : List Row → ℕ → ℕ
 rank_of rows row = count_by (λ q. q.parent == (row_at rows row).parent) (take row rows)
+
+-- what a row with a parent has in common with it
+pub record IsChild (parent row : Row) : Type 0 where
+  pub parent_tid : row.parent ≡ parent.tid
+  pub group : (row.tgid ≡ row.tid) ⊎ (row.tgid ≡ parent.tgid)
+  pub process_group : row.pgid ≡ parent.pgid
+
+-- what holds of a row of a roster: each parent stands before its children, a root leads a thread group of its own
+pub record IsPlaced (rows : List Row) (row : ℕ) : Type 0 where
+  pub tid : (1 ≤ (row_at rows row).tid) × ((row_at rows row).tid ≤ 4194303)
+  pub found : row_of rows (row_at rows row).tid ≡ Some row
+  pub root : parent_of rows row ≡ None → ((row_at rows row).parent ≡ 0) × ((row_at rows row).tgid ≡ (row_at rows row).tid)
+  pub child : (parent : ℕ) → parent_of rows row ≡ Some parent → (parent < row) × IsChild (row_at rows parent) (row_at rows row)

@@ -3,6 +3,7 @@
 #![tactic(auto)]
 
 mod board;
+mod laws;
 mod memory;
 mod refused;
 mod roster;
@@ -11,6 +12,10 @@ mod steps;
 mod word;
 
 pub use board::{Board, Got};
+pub use laws::{
+    a_stop_is_claimed_once, births_are_counted, children_are_born_in_order,
+    older_histories_are_legal, rows_are_placed, settled_rows_stay_settled,
+};
 pub use memory::NoMemory;
 pub use refused::Refused;
 pub use roster::{Roster, RosterError, Row};

@@ -1,0 +1,114 @@
+//! The one-thread stop board, on two lives worked out by hand from ptrace(2) and waitid(2).
+
+use std::test::Fail;
+use stop_board::{Board, Got, Refused, Roster, Row, State};
+use trace_record::{Death, Kind, Resume, Stop};
+
+const ROOT: Row = Row {
+    tid: 100,
+    tgid: 100,
+    pgid: 77,
+    parent: 0,
+};
+
+/// A thread of the root's group.
+const THREAD: Row = Row {
+    tid: 101,
+    tgid: 100,
+    pgid: 77,
+    parent: 100,
+};
+
+const SYSCALL: Resume = Resume {
+    kind: Kind::Syscall,
+    signal: 0,
+};
+
+const CONT: Resume = Resume {
+    kind: Kind::Cont,
+    signal: 0,
+};
+
+#[test]
+fn a_second_claim_gets_nothing(rt: HostRuntime) -> Result<(), Fail> {
+    let roster = Roster::new(rt.alloc(), &[ROOT])?;
+    let mut board = Board::new(rt.alloc(), &roster)?;
+    assert_eq!(rt; board.state(0), State::Running);
+    assert_eq!(rt; board.publish(0, Stop::Start), Ok(1));
+    assert_eq!(rt; board.state(0), State::Stopped(1, 0x80057f));
+    assert_eq!(rt; board.claim(0, 0), Ok(Got::Stop(1, 0x80057f)));
+    assert_eq!(rt; board.claim(0, 1), Err(Refused::NotWaitable));
+    assert_eq!(rt; board.state(0), State::Claimed(1, 0));
+    Ok(())
+}
+
+#[test]
+fn a_thread_is_borne_and_its_leader_exits_last(rt: HostRuntime) -> Result<(), Fail> {
+    let roster = Roster::new(rt.alloc(), &[ROOT, THREAD])?;
+    let mut board = Board::new(rt.alloc(), &roster)?;
+    assert_eq!(rt; board.publish(1, Stop::Start), Err(Refused::Unborn));
+    assert_eq!(rt; board.publish(0, Stop::Start), Ok(1));
+    assert_eq!(rt; board.claim(0, 0), Ok(Got::Stop(1, 0x80057f)));
+    assert_eq!(rt; board.resume(0, 1, SYSCALL), Err(Refused::NotHolder));
+    assert_eq!(rt; board.resume(0, 0, SYSCALL), Ok(()));
+    assert_eq!(rt; board.publish(0, Stop::Clone(101)), Ok(2));
+    assert_eq!(rt; board.state(1), State::Running);
+    assert_eq!(rt; board.claim(0, 0), Ok(Got::Stop(2, 0x03057f)));
+    assert_eq!(rt; board.resume(0, 0, CONT), Ok(()));
+    assert_eq!(rt; board.publish(0, Stop::Clone(101)), Err(Refused::NotNext));
+    assert_eq!(rt;
+        board.exit(0, Death::Exited(3)),
+        Err(Refused::GroupAlive(1))
+    );
+    assert_eq!(rt; board.exit(1, Death::Exited(0)), Ok(()));
+    assert_eq!(rt; board.exit(0, Death::Exited(3)), Ok(()));
+    assert_eq!(rt; board.claim(0, 2), Ok(Got::Ended(2, 0x000300)));
+    assert_eq!(rt; board.state(0), State::Reaped);
+    assert_eq!(rt; board.claim(0, 0), Err(Refused::NotWaitable));
+    Ok(())
+}
+
+#[test]
+fn what_is_not_there_is_refused_first(rt: HostRuntime) -> Result<(), Fail> {
+    let roster = Roster::new(rt.alloc(), &[ROOT, THREAD])?;
+    let mut board = Board::new(rt.alloc(), &roster)?;
+    assert_eq!(rt; board.state(2), State::Absent);
+    assert_eq!(rt; board.publish(2, Stop::Start), Err(Refused::NoRow));
+    assert_eq!(rt; board.exit(2, Death::Exited(0)), Err(Refused::NoRow));
+    assert_eq!(rt; board.claim(2, 0), Err(Refused::NoRow));
+    assert_eq!(rt; board.claim(1, 16), Err(Refused::NoRow));
+    assert_eq!(rt; board.resume(1, 16, CONT), Err(Refused::NoRow));
+    assert_eq!(rt; board.state(1), State::Unborn);
+    assert_eq!(rt; board.claim(1, 15), Err(Refused::Unborn));
+    assert_eq!(rt; board.resume(1, 15, CONT), Err(Refused::Unborn));
+    assert_eq!(rt; board.exit(1, Death::Exited(0)), Err(Refused::Unborn));
+    assert_eq!(rt; board.resume(0, 0, CONT), Err(Refused::NotClaimed));
+    Ok(())
+}
+
+#[test]
+fn a_row_that_never_stopped_dies_with_number_0(rt: HostRuntime) -> Result<(), Fail> {
+    let roster = Roster::new(rt.alloc(), &[ROOT])?;
+    let mut board = Board::new(rt.alloc(), &roster)?;
+    let killed = Death::Signaled {
+        signal: 11,
+        core: true,
+    };
+    assert_eq!(rt; board.exit(0, killed), Ok(()));
+    assert_eq!(rt; board.state(0), State::Dead(0, 0x00008b));
+    assert_eq!(rt; board.exit(0, killed), Err(Refused::NotRunning));
+    assert_eq!(rt; board.publish(0, Stop::Start), Err(Refused::NotRunning));
+    assert_eq!(rt; board.claim(0, 15), Ok(Got::Ended(0, 0x00008b)));
+    assert_eq!(rt; board.state(0), State::Reaped);
+    Ok(())
+}
+
+#[test]
+fn the_laws_are_there() {
+    stop_board::a_stop_is_claimed_once();
+    stop_board::births_are_counted();
+    stop_board::children_are_born_in_order();
+    stop_board::older_histories_are_legal();
+    stop_board::rows_are_placed();
+    stop_board::settled_rows_stay_settled();
+}

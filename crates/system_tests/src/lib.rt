@@ -1,0 +1,10 @@
+//! Tests that cross crates, and those that refuse each growth of a call in turn. They stand here, since a crate
+//! with tests is proved twice.
+#![tactic(auto)]
+
+#[cfg(test)]
+mod board;
+#[cfg(test)]
+mod growth;
+#[cfg(test)]
+mod roster;

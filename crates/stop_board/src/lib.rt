@@ -18,6 +18,6 @@ pub use laws::{
 };
 pub use memory::NoMemory;
 pub use refused::Refused;
-pub use roster::{Roster, RosterError, Row, fault_after};
+pub use roster::{Roster, RosterError, Row, fault_after, place_of};
 pub use state::State;
 pub use word::{Phase, Word};

@@ -228,8 +228,8 @@ fn is_child_of(parent: Row, row: Row) -> bool
     (is_leader(row) || row.tgid == parent.tgid) && row.pgid == parent.pgid
 }
 
-/// The place of the first row of a thread id.
-pub(crate) fn place_of(rows: &[Row], tid: u32) -> Option<usize>
+/// The place of the first row of a thread id, in rows that may not be a roster yet.
+pub fn place_of(rows: &[Row], tid: u32) -> Option<usize>
     ensures place { result ≡ row_of rows.now tid }
     ensures within { IfSome result (λ i. i < length rows.now) }
 {

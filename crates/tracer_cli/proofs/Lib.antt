@@ -1,0 +1,5 @@
+pub mod Cuts
+pub mod Digits
+pub mod LinesRead
+pub mod RosterGrows
+pub mod SixWords

@@ -1,0 +1,21 @@
+use Rattle.std.proofs.Common.{◌≡◌, ◌+◌, ◌≤◌, [], All, None, length, vec_len}
+use Rattle.stop_board.specs.Roster.{first_fault}
+use Rattle.tracer_cli.specs.Command.{IsOrder}
+use Rattle.tracer_cli.specs.File.{content_after, nothing}
+use Rattle.tracer_cli.specs.Lines.{lines_of}
+use Rattle.tracer_cli.proofs.reading.read_lines.Given as goal
+
+-- what the lines left make of the content so far is what all lines make of nothing
+abbrev pub invariant-loop-rest : goal.invariant-loop-rest
+invariant-loop-rest g l = record {
+  room : l.number + length l.rest ≤ length l.text + 1;
+  counted : l.number + length (lines_of l.rest) ≡ length (lines_of l.text) + 1;
+  first : 1 ≤ l.number;
+  few : vec_len l.rows ≤ 64;
+  roster : first_fault [] l.rows.items ≡ None;
+  range : All IsOrder l.orders.items;
+  read : content_after l.number (record { rows = l.rows.items; orders = l.orders.items }) (lines_of l.rest) ≡ content_after 1 nothing (lines_of l.text);
+}
+
+abbrev pub decreases-loop-rest : goal.decreases-loop-rest
+decreases-loop-rest g l = length l.rest

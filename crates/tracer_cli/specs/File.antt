@@ -1,0 +1,92 @@
+-- What a replay file says: its rows and its orders, or its first fault, with the line.
+use Rattle.std.specs.Prelude.{◌≡◌, ◌+◌, ◌<◌, ◌≤◌, ◌++◌, ◌∷◌, [], ℕ, Bool, true, false, max, nat_le, nat_lt, List, length, Option, Some, None, Result, Ok, Err, IfErr, IsOk, if◌then◌else◌}
+use Rattle.stop_board.specs.declared.roster.Row.{Row}
+use Rattle.stop_board.specs.declared.roster.RosterError.{RosterError}
+use Rattle.stop_board.specs.Roster.{fault_after, row_of}
+use Rattle.tracer_cli.specs.declared.cause.Cause.{Cause}
+use Rattle.tracer_cli.specs.declared.cause.Cause.TheVariants.{NoMemory, NoSuchTracee, TooMany}
+use Rattle.tracer_cli.specs.declared.cause.CaseError.{CaseError}
+use Rattle.tracer_cli.specs.declared.command.Command.{Command}
+use Rattle.tracer_cli.specs.declared.order.Order.{Order}
+use Rattle.tracer_cli.specs.declared.grammar.Line.{Line}
+use Rattle.tracer_cli.specs.declared.grammar.Line.TheVariants as line
+use Rattle.tracer_cli.specs.Cause.{cause_of}
+use Rattle.tracer_cli.specs.Grammar.{◌>>=◌, line_of}
+use Rattle.tracer_cli.specs.Lines.{lines_of, words_of}
+
+-- the rows, and the commands to them, each in the order of the file
+pub record Content : Type 0 where
+  pub rows : List Row
+  pub orders : List Order
+
+abbrev pub nothing : Content
+nothing = record { rows = []; orders = [] }
+
+-- commands have begun
+abbrev pub has_begun : Content → Bool
+has_begun so_far = nat_lt 0 (length so_far.orders)
+
+-- the most rows, and the most bytes
+abbrev pub most_bytes : ℕ
+most_bytes = 16777216
+
+abbrev pub with_row : Content → Row → Content
+with_row so_far row = record { rows = so_far.rows ++ row ∷ []; orders = so_far.orders }
+
+abbrev pub with_order : Content → (row : ℕ) → Command → Content
+with_order so_far row command = record { rows = so_far.rows; orders = so_far.orders ++ (record { row = row; command = command }) ∷ [] }
+
+-- a row that has no fault behind those before it, where there is room
+abbrev pub row_added : Content → Row → Option RosterError → Result Content Cause
+row_added so_far row (Some fault) = Err (cause_of fault)
+row_added so_far row None = if nat_lt (length so_far.rows) 64 then Ok (with_row so_far row) else Err TooMany
+
+-- a command to a row that is there
+abbrev pub order_added : Content → Command → Option ℕ → Result Content Cause
+order_added so_far command None = Err NoSuchTracee
+order_added so_far command (Some row) = Ok (with_order so_far row command)
+
+abbrev pub line_added : Content → Line → Result Content Cause
+line_added so_far line.Nothing = Ok so_far
+line_added so_far (line.Row row) = row_added so_far row (fault_after so_far.rows row)
+line_added so_far (line.Command tid command) = order_added so_far command (row_of so_far.rows tid)
+
+-- what one more line makes of the content so far, or its first fault
+abbrev pub line_read : Content → List ℕ → Result Content Cause
+line_read so_far line = line_of (has_begun so_far) (words_of line) >>= line_added so_far
+
+-- lines count from n
+abbrev pub at_line : {A : Type 0} → ℕ → Result A Cause → Result A CaseError
+at_line n (Ok x) = Ok x
+at_line n (Err cause) = Err (record { line = n; cause = cause })
+
+abbrev pub and_lines : Result Content CaseError → (Content → Result Content CaseError) → Result Content CaseError
+and_lines (Ok so_far) rest = rest so_far
+and_lines (Err error) rest = Err error
+
+unfoldable pub content_after : (n : ℕ) → Content → List (List ℕ) → Result Content CaseError
+content_after n so_far [] = Ok so_far
+content_after n so_far (line ∷ lines) = and_lines (at_line n (line_read so_far line)) (λ more. content_after (n + 1) more lines)
+
+-- the content of a file, or its first fault
+abbrev pub content_of : List ℕ → Result Content CaseError
+content_of text =
+    if nat_le (length text) most_bytes then content_after 1 nothing (lines_of text) else Err (record { line = 1; cause = TooMany })
+
+-- want of memory is answered on a line of the file that has no fault and before which there is none; of an empty
+-- file on line 1
+pub record IsWant {A : Type 0} (text : List ℕ) (line : ℕ) (read : Result A CaseError) : Type 0 where
+  pub first : 1 ≤ line
+  pub last : line ≤ max 1 (length (lines_of text))
+  pub before : IfErr read (λ fault. line < fault.line)
+
+-- a refusal is the file's first fault, or want of memory
+abbrev pub Refuses : {A : Type 0} → List ℕ → Cause → (line : ℕ) → Result A CaseError → Type 0
+Refuses text NoMemory line read = IsWant text line read
+Refuses text cause line read = read ≡ Err (record { line = line; cause = cause })
+
+-- what a line made of the content: the definition's content or its fault; want of memory only where it has no fault
+abbrev pub TakesLine : Result (Unit {0}) Cause → Content → Result Content Cause → Type 0
+TakesLine (Ok done) new read = read ≡ Ok new
+TakesLine (Err NoMemory) new read = IsOk read
+TakesLine (Err cause) new read = read ≡ Err cause

@@ -1,0 +1,6 @@
+pub mod Cause
+pub mod Command
+pub mod File
+pub mod Grammar
+pub mod Lines
+pub mod Numbers

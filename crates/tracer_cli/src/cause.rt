@@ -1,0 +1,81 @@
+//! Why a file is refused.
+
+use std::fmt;
+
+/// What is wrong with a line, in the order in which a line is tested.
+#[derive(Clone, Copy, Debug, PartialEq, Eq, Hash)]
+pub enum Cause {
+    /// The first word is unknown or out of place, a keyword is wrong, there are too few or too many words.
+    UnknownWord,
+    /// A word is no number, or the number is out of range.
+    BadNumber,
+    /// A word is no hexadecimal bytes.
+    BadHex,
+    /// No tracee has this id.
+    NoSuchTracee,
+    /// An earlier tracee has this id.
+    TwiceTracee,
+    /// No earlier tracee is the parent.
+    ParentLater,
+    /// The groups are not those of a root, or of a child of this parent.
+    GroupMismatch,
+    /// An exec in a thread group that has other rows.
+    SharedExec,
+    /// There are too many rows, steps, pages or bytes.
+    TooMany,
+    /// Bytes at an address without a page.
+    Unmapped,
+    /// The file ends inside a block.
+    NoEnd,
+    /// No signal that a tracee of a case can get.
+    Signal,
+    /// A birth that does not name the next child.
+    ChildOrder,
+    /// A growth was refused.
+    NoMemory,
+}
+
+impl Cause {
+    /// The cause's name, as it is printed.
+    pub fn name(self) -> &'static str {
+        match self {
+            Cause::UnknownWord => "UnknownWord",
+            Cause::BadNumber => "BadNumber",
+            Cause::BadHex => "BadHex",
+            Cause::NoSuchTracee => "NoSuchTracee",
+            Cause::TwiceTracee => "TwiceTracee",
+            Cause::ParentLater => "ParentLater",
+            Cause::GroupMismatch => "GroupMismatch",
+            Cause::SharedExec => "SharedExec",
+            Cause::TooMany => "TooMany",
+            Cause::Unmapped => "Unmapped",
+            Cause::NoEnd => "NoEnd",
+            Cause::Signal => "Signal",
+            Cause::ChildOrder => "ChildOrder",
+            Cause::NoMemory => "NoMemory",
+        }
+    }
+}
+
+impl fmt::Display for Cause {
+    fn fmt<W: fmt::Write>(&self, f: &mut fmt::Formatter<W>) -> fmt::Result {
+        f.write_str(self.name())
+    }
+}
+
+/// Why a file is refused, and the line of it, from 1.
+#[derive(Clone, Copy, Debug, PartialEq, Eq, Hash)]
+pub struct CaseError {
+    pub line: u32,
+    pub cause: Cause,
+}
+
+impl fmt::Display for CaseError {
+    fn fmt<W: fmt::Write>(&self, f: &mut fmt::Formatter<W>) -> fmt::Result {
+        let line = self.line;
+        let cause = self.cause.name();
+        write!(f, "line {line}: {cause}")
+    }
+}
+
+impl std::error::Error for CaseError {}

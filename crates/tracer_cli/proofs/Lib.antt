@@ -3,3 +3,4 @@ pub mod Digits
 pub mod LinesRead
 pub mod RosterGrows
 pub mod SixWords
+pub mod Written

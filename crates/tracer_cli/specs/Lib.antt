@@ -4,3 +4,5 @@ pub mod File
 pub mod Grammar
 pub mod Lines
 pub mod Numbers
+pub mod Replay
+pub mod Replies

@@ -8,6 +8,8 @@ mod lines;
 mod numbers;
 mod order;
 mod reading;
+mod replay;
+mod replies;
 
 pub use cause::{CaseError, Cause};
-pub use command::Command;
+pub use replay::replay_text;

@@ -1,0 +1,13 @@
+use Rattle.std.proofs.Common.{◌≡◌, ◌+◌, ◌≤◌, length}
+use Rattle.tracer_cli.specs.Lines.{lines_of}
+use Rattle.tracer_cli.proofs.replay.last_line.Given as goal
+
+-- the lines so far and those left are all lines
+abbrev pub invariant-loop-rest : goal.invariant-loop-rest
+invariant-loop-rest l = record {
+  room : l.count + length l.rest ≤ length l.text;
+  counted : l.count + length (lines_of l.rest) ≡ length (lines_of l.text);
+}
+
+abbrev pub decreases-loop-rest : goal.decreases-loop-rest
+decreases-loop-rest l = length l.rest

@@ -1,0 +1,71 @@
+//! A replay file from bytes to bytes.
+
+ghost use Rattle.std.specs.Prelude.{◌≡◌, ◌<◌, ◌^◌, [], All, IfErr, IfOk, Ok, length, max};
+ghost use Rattle.stop_board.specs.Roster.{IsRoster};
+ghost use Rattle.tracer_cli.specs.Command.{IsOrder};
+ghost use Rattle.tracer_cli.specs.File.{Refuses};
+ghost use Rattle.tracer_cli.specs.Lines.{lines_of};
+ghost use Rattle.tracer_cli.specs.Replay.{replay_of};
+ghost use Rattle.tracer_cli.specs.Replies.{replies};
+
+use crate::cause::{CaseError, Cause};
+use crate::lines::cut_line;
+use crate::order::Order;
+use crate::reading::read;
+use crate::replies::write_replies;
+use std::alloc::Allocator;
+use stop_board::{Board, NoMemory, Roster, Row};
+
+/// The longest reply is that of a leader's exit which a row of seven digits holds back.
+const LONGEST: usize = b"refused GroupAlive 4194303\n".len();
+
+/// The replies of the one-thread stop board to the commands of a replay file, a line each, or why the file is
+/// refused: its first faulty line, with the least cause of that line. Want of memory is told on a line that has no
+/// fault and before which there is none, at most the last line.
+pub fn replay_text<A: Allocator + Copy>(alloc: A, text: &[u8]) -> Result<Vec<u8, A>, CaseError>
+    ensures ok { IfOk result (λ bytes. replay_of text.now ≡ Ok bytes.items) }
+    ensures err { IfErr result (λ error. Refuses text.now error.cause error.line (replay_of text.now)) }
+{
+    let script = read(alloc, text)?;
+    match run(alloc, script.rows.as_slice(), script.orders.as_slice()) {
+        Ok(bytes) => Ok(bytes),
+        Err(NoMemory) => Err(CaseError {
+            line: last_line(text),
+            cause: Cause::NoMemory,
+        }),
+    }
+}
+
+/// The replies to orders on a new board.
+fn run<A: Allocator + Copy>(
+    alloc: A,
+    rows: &[Row],
+    orders: &[Order],
+) -> Result<Vec<u8, A>, NoMemory>
+    requires roster { IsRoster rows.now }
+    requires range { All IsOrder orders.now }
+    ensures { IfOk result (λ bytes. bytes.items ≡ replies rows.now [] orders.now) }
+{
+    let Ok(roster) = Roster::new(alloc, rows) else {
+        return Err(NoMemory);
+    };
+    let mut board = Board::new(alloc, &roster)?;
+    let mut out = String::with_capacity(alloc, orders.len().saturating_mul(LONGEST))?;
+    write_replies(&mut out, rows, &mut board, orders)?;
+    Ok(out.into_bytes())
+}
+
+/// The number of a file's last line, 1 of an empty file.
+fn last_line(text: &[u8]) -> u32
+    requires { length text.now < 2 ^ 32 }
+    ensures { result ≡ max 1 (length (lines_of text.now)) }
+{
+    let mut rest = text;
+    let mut count = 0u32;
+    while !rest.is_empty() {
+        let (_, after) = cut_line(rest);
+        rest = after;
+        count += 1;
+    }
+    count.max(1)
+}

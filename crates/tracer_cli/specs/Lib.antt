@@ -1,5 +1,6 @@
 pub mod Cause
 pub mod Command
+pub mod Failure
 pub mod File
 pub mod Grammar
 pub mod Lines

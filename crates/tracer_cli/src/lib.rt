@@ -1,8 +1,11 @@
 //! The program `tracer` as a library: what it reads, and what it answers.
 #![tactic(auto)]
 
+mod arguments;
 mod cause;
 mod command;
+mod entry;
+mod failure;
 mod grammar;
 mod lines;
 mod numbers;
@@ -12,4 +15,5 @@ mod replay;
 mod replies;
 
 pub use cause::{CaseError, Cause};
+pub use entry::program;
 pub use replay::replay_text;

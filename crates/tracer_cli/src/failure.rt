@@ -1,0 +1,79 @@
+//! How a run of the program ends otherwise than done.
+
+ghost use Rattle.std.specs.Prelude.{◌≡◌};
+
+use crate::cause::{CaseError, Cause};
+use std::alloc::{AllocError, AllocFailed};
+use std::fmt;
+use std::io::{self, ErrorKind};
+
+/// Why the program did not do what it was asked for.
+#[derive(Debug, Drop)]
+pub enum Failure {
+    /// The file is refused.
+    Refused(CaseError),
+    /// The words are no command line, with clap's text.
+    Usage(String),
+    /// A growth was refused.
+    NoMemory,
+    /// The file, or standard input, cannot be read.
+    CannotRead,
+    /// Standard output cannot be written.
+    CannotWrite,
+}
+
+impl Failure {
+    ghost use Rattle.tracer_cli.specs.Failure.{failure_status};
+
+    /// The exit status: 1 for a refused file, 2 for the command line, 3 else.
+    pub fn status(&self) -> u8
+        ensures { result ≡ failure_status self.now }
+    {
+        match self {
+            Failure::Refused(_) => 1,
+            Failure::Usage(_) => 2,
+            Failure::NoMemory | Failure::CannotRead | Failure::CannotWrite => 3,
+        }
+    }
+}
+
+impl fmt::Display for Failure {
+    fn fmt<W: fmt::Write>(&self, f: &mut fmt::Formatter<W>) -> fmt::Result {
+        match self {
+            Failure::Refused(error) => write!(f, "tracer: {error}\n"),
+            Failure::Usage(text) => write!(f, "{text}"),
+            Failure::NoMemory => write!(f, "tracer: no memory\n"),
+            Failure::CannotRead => write!(f, "tracer: cannot read\n"),
+            Failure::CannotWrite => write!(f, "tracer: cannot write\n"),
+        }
+    }
+}
+
+impl From<AllocError> for Failure {
+    fn from(_error: AllocError) -> Failure {
+        Failure::NoMemory
+    }
+}
+
+impl<T: Drop> From<AllocFailed<T>> for Failure {
+    fn from(_error: AllocFailed<T>) -> Failure {
+        Failure::NoMemory
+    }
+}
+
+impl From<CaseError> for Failure {
+    fn from(error: CaseError) -> Failure {
+        match error.cause {
+            Cause::NoMemory => Failure::NoMemory,
+            _ => Failure::Refused(error),
+        }
+    }
+}
+
+/// Why reading failed.
+pub fn read_failure(error: &io::Error) -> Failure {
+    match error.kind() {
+        ErrorKind::OutOfMemory => Failure::NoMemory,
+        _ => Failure::CannotRead,
+    }
+}

@@ -7,4 +7,8 @@ mod board;
 #[cfg(test)]
 mod growth;
 #[cfg(test)]
+mod program;
+#[cfg(test)]
+mod replay;
+#[cfg(test)]
 mod roster;

@@ -1,4 +1,5 @@
--- The cause that a roster's fault is told as.
+-- The causes of a refusal: their names, and the cause that a roster's fault is told as.
+use Rattle.std.specs.Prelude.{ℕ, List, codes}
 use Rattle.stop_board.specs.declared.roster.RosterError.{RosterError}
 use Rattle.stop_board.specs.declared.roster.RosterError.TheVariants as fault
 use Rattle.tracer_cli.specs.declared.cause.Cause.{Cause}
@@ -11,3 +12,20 @@ cause_of (fault.Twice row) = cause.TwiceTracee
 cause_of (fault.ParentLater row) = cause.ParentLater
 cause_of (fault.GroupMismatch row) = cause.GroupMismatch
 cause_of fault.NoMemory = cause.NoMemory
+
+-- as it is printed
+abbrev pub cause_name : Cause → List ℕ
+cause_name cause.UnknownWord = codes "UnknownWord"
+cause_name cause.BadNumber = codes "BadNumber"
+cause_name cause.BadHex = codes "BadHex"
+cause_name cause.NoSuchTracee = codes "NoSuchTracee"
+cause_name cause.TwiceTracee = codes "TwiceTracee"
+cause_name cause.ParentLater = codes "ParentLater"
+cause_name cause.GroupMismatch = codes "GroupMismatch"
+cause_name cause.SharedExec = codes "SharedExec"
+cause_name cause.TooMany = codes "TooMany"
+cause_name cause.Unmapped = codes "Unmapped"
+cause_name cause.NoEnd = codes "NoEnd"
+cause_name cause.Signal = codes "Signal"
+cause_name cause.ChildOrder = codes "ChildOrder"
+cause_name cause.NoMemory = codes "NoMemory"

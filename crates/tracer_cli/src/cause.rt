@@ -1,5 +1,7 @@
 //! Why a file is refused.
 
+ghost use Rattle.std.specs.Prelude.{◌≡◌};
+
 use std::fmt;
 
 /// What is wrong with a line, in the order in which a line is tested.
@@ -36,8 +38,12 @@ pub enum Cause {
 }
 
 impl Cause {
+    ghost use Rattle.tracer_cli.specs.Cause.{cause_name};
+
     /// The cause's name, as it is printed.
-    pub fn name(self) -> &'static str {
+    pub fn name(self) -> &'static str
+        ensures { result.now ≡ cause_name self }
+    {
         match self {
             Cause::UnknownWord => "UnknownWord",
             Cause::BadNumber => "BadNumber",

@@ -1,9 +1,9 @@
 -- Runs of bytes, and bytes that were stored one run after the other.
-use Rattle.std.proofs.Common.{◌≡◌, ◌⊎◌, ℕ, zero, suc, ◌+◌, ◌-◌, ◌%◌, ◌<◌, ◌≤◌, ◌^◌, Bool, true, false, Option, Some, None, List, length, get_or, take, drop, inl, inr, refl, sym, ap, ◌∙◌, arith}
+use Rattle.std.proofs.Common.{[], ◌∷◌, ◌++◌, ◌≡◌, ◌⊎◌, ℕ, zero, suc, ◌+◌, ◌-◌, ◌%◌, ◌<◌, ◌≤◌, ◌^◌, Bool, true, false, Option, Some, None, List, length, get_or, take, drop, inl, inr, refl, sym, ap, ◌∙◌, arith}
 use Rattle.std.specs.Prelude.{IsSome, if◌then◌else◌}
 use Rattle.std.proofs.lemmas.Bool.{cases_lt, lt-ltb, le-ltb, ltb-true}
 use Rattle.std.proofs.lemmas.List.{length-take-le, length-drop, get_or-take, get_or-drop}
-use Rattle.trace_pages.specs.FlatMemory.{FlatMemory, IsPiece, RunEnd, Full, Absent, Top, byte_at, byte_after_store, end_from, is_among, run_end}
+use Rattle.trace_pages.specs.FlatMemory.{FlatMemory, IsPiece, RunEnd, Full, Absent, Top, byte_at, byte_after_store, end_from, is_among, run, run_end}
 use Rattle.trace_pages.proofs.Among.{among_above, among_below, among_yes}
 
 -- ---- one step of a run
@@ -81,6 +81,89 @@ pub run_end-past_top : (m : FlatMemory) (at n : ℕ) (piece : List ℕ) → at <
     → run_end m at n ≡ Top
 run_end-past_top m at n piece below is within top =
     run_end-past m at n piece below is (omega arith) ∙ run_end-top m (at + length piece) (n - length piece) (omega arith) top
+
+-- ---- the bytes of a run
+run_step : (m : FlatMemory) (at n byte : ℕ) → at < 2 ^ 64 → byte_at m at ≡ Some byte → run m at (suc n) ≡ byte ∷ run m (at + 1) n
+unfolding run
+run_step m at n byte below is = rw (lt-ltb at (2 ^ 64) below, is) refl
+
+run_absent : (m : FlatMemory) (at n : ℕ) → at < 2 ^ 64 → byte_at m at ≡ None → run m at (suc n) ≡ []
+unfolding run
+run_absent m at n below is = rw (lt-ltb at (2 ^ 64) below, is) refl
+
+run_top : (m : FlatMemory) (at n : ℕ) → 2 ^ 64 ≤ at → run m at (suc n) ≡ []
+unfolding run
+run_top m at n above = rw (le-ltb at (2 ^ 64) above) refl
+
+run_none : (m : FlatMemory) (at : ℕ) → run m at 0 ≡ []
+unfolding run
+run_none m at = refl
+
+-- what the end of a run of at most n from an address on says of its length
+Says : RunEnd → ℕ → ℕ → ℕ → Type 0
+Says Full at n long = long ≡ n
+Says (Absent first) at n long = (long < n) × (at + long ≡ first)
+Says Top at n long = (long < n) × (at ≤ 2 ^ 64 → at + long ≡ 2 ^ 64)
+
+says_more : (e : RunEnd) (at n long : ℕ) → at < 2 ^ 64 → Says e (at + 1) n long → Says e at (suc n) (suc long)
+unfolding Says
+says_more Full at n long below says = omega arith
+says_more (Absent first) at n long below says = (omega (arith, says.0), omega (arith, says.1))
+says_more Top at n long below says = (omega (arith, says.0), λ h. omega (arith, says.1 (omega arith)))
+
+run_says : (m : FlatMemory) (n at : ℕ) → Says (run_end m at n) at n (length (run m at n))
+unfolding Says
+run_says m zero at = rw (run_end-none m at, run_none m at) refl
+run_says m (suc n) at = elim (cases_lt at (2 ^ 64)) as (λ _. Says (run_end m at (suc n)) at (suc n) (length (run m at (suc n)))) [
+  | inr above ↦ rw (run_end-top m at (suc n) (omega arith) above, run_top m at n above) (omega arith, λ h. omega arith)
+  | inl below ↦ elim (byte_at m at) as (λ o. byte_at m at ≡ o → Says (run_end m at (suc n)) at (suc n) (length (run m at (suc n)))) [
+    | None ↦ λ is. rw (run_end-absent m at (suc n) (omega arith) below is, run_absent m at n below is) (omega arith, omega arith)
+    | Some byte ↦ λ is. rw (step m at n byte below is, run_step m at n byte below is) (says_more (run_end m (at + 1) n) at n (length (run m (at + 1) n)) below (run_says m n (at + 1)))
+  ] refl
+]
+
+whole_end : (e : RunEnd) (at n long : ℕ) → Says e at n long → long ≡ n → e ≡ Full
+unfolding Says
+whole_end Full at n long says whole = refl
+whole_end (Absent first) at n long says whole = absurd (omega (arith, says.0))
+whole_end Top at n long says whole = absurd (omega (arith, says.0))
+
+pub length-run-Full : (m : FlatMemory) (at n : ℕ) → run_end m at n ≡ Full → length (run m at n) ≡ n
+unfolding Says
+length-run-Full m at n e = rw e at (run_says m n at)
+
+pub run_end-whole : (m : FlatMemory) (at n : ℕ) → length (run m at n) ≡ n → run_end m at n ≡ Full
+run_end-whole m at n whole = whole_end (run_end m at n) at n (length (run m at n)) (run_says m n at) whole
+
+pub length-run-Absent : (m : FlatMemory) (at n first : ℕ) → run_end m at n ≡ Absent first → at + length (run m at n) ≡ first
+unfolding Says
+length-run-Absent m at n first e = (rw e at (run_says m n at)).1
+
+pub length-run-Top : (m : FlatMemory) (at n : ℕ) → at ≤ 2 ^ 64 → run_end m at n ≡ Top → at + length (run m at n) ≡ 2 ^ 64
+unfolding Says
+length-run-Top m at n below e = (rw e at (run_says m n at)).1 below
+
+-- bytes that are all there begin the run
+run_passed : (m : FlatMemory) (piece : List ℕ) (at n : ℕ) → at + length piece ≤ 2 ^ 64
+    → ((j : ℕ) → j < length piece → byte_at m (at + j) ≡ Some (get_or piece j 0)) → run m at (length piece + n) ≡ piece ++ run m (at + length piece) n
+run_passed m [] at n below there =
+    let none : 0 + n ≡ n = omega arith in
+    let here : at ≡ at + 0 = omega arith in
+    ap (run m at) none ∙ ap (λ (a : ℕ). run m a n) here
+run_passed m (byte ∷ piece) at n below there =
+    let next : suc (length piece) + n ≡ suc (length piece + n) = omega arith in
+    let on : at + 1 + length piece ≡ at + suc (length piece) = omega arith in
+    let first : at + 0 ≡ at = omega arith in
+    ap (run m at) next
+    ∙ run_step m at (length piece + n) byte (omega arith) (rw first at (there 0 (omega arith)))
+    ∙ ap (λ (xs : List ℕ). byte ∷ xs) (run_passed m piece (at + 1) n (omega arith) (λ j h. let further : at + suc j ≡ at + 1 + j = omega arith in rw further at (there (suc j) (omega arith))))
+    ∙ ap (λ (a : ℕ). byte ∷ (piece ++ run m a n)) on
+
+pub run-past : (m : FlatMemory) (at n : ℕ) (piece : List ℕ) → at < 2 ^ 64 → IsPiece m at piece → length piece ≤ n
+    → run m at n ≡ piece ++ run m (at + length piece) (n - length piece)
+run-past m at n piece below is within =
+    let all : n ≡ length piece + (n - length piece) = omega arith in
+    ap (run m at) all ∙ run_passed m piece at (n - length piece) (piece_top at (length piece) below is.to_page_end) is.bytes
 
 -- ---- a run stored after another
 module _ (old mid new : FlatMemory) (at done count : ℕ) (bytes : List ℕ) (within : done + count ≤ length bytes)

@@ -41,13 +41,20 @@ run_end memory address (suc more) = if nat_lt address (2 ^ 64) then end_from add
 abbrev pub is_among : ℕ → ℕ → ℕ → Bool
 is_among from count address = nat_le from address && nat_lt address (from + count)
 
--- a page of zeros was mapped
+-- the byte there after a page of zeros was mapped
 abbrev pub byte_after_map : FlatMemory → ℕ → ℕ → Option ℕ
 byte_after_map before page address = if is_among page 4096 address then Some 0 else byte_at before address
 
--- bytes were stored from an address on
+-- the byte there after bytes were stored from an address on
 abbrev pub byte_after_store : FlatMemory → ℕ → List ℕ → ℕ → Option ℕ
 byte_after_store before at bytes address = if is_among at (length bytes) address then Some (slice_index bytes (address - at)) else byte_at before address
+
+-- these are the changes, and the only ones
+abbrev pub MapsPage : FlatMemory → FlatMemory → ℕ → Type 0
+MapsPage before after page = (address : ℕ) → byte_at after address ≡ byte_after_map before page address
+
+abbrev pub StoresBytes : FlatMemory → FlatMemory → ℕ → List ℕ → Type 0
+StoresBytes before after at bytes = (address : ℕ) → byte_at after address ≡ byte_after_store before at bytes address
 
 -- ---- the bytes from an address to the end of its page
 pub record IsPiece (memory : FlatMemory) (address : ℕ) (piece : List ℕ) : Type 0 where

@@ -3,15 +3,15 @@
 //! Contracts see it as a finite map from address to byte. It is kept as the list of the pages' addresses, in the
 //! order in which they were mapped, beside one list of all their bytes in the same order.
 
-ghost use Rattle.std.specs.Prelude.{◌≡◌, ◌<◌, ◌≤◌, ◌+◌, ◌-◌, ◌*◌, ◌%◌, ◌^◌, ℕ, IsSome, IfOk, IfErr, OnOk, OnErr, Some, None, MatchOption, IsOkUnless, nat_le, length};
+ghost use Rattle.std.specs.Prelude.{◌≡◌, ◌<◌, ◌≤◌, ◌+◌, ◌*◌, ◌%◌, IsSome, IfOk, OnOk, OnErr, Some, None, MatchOption, IsOkUnless, nat_le, length};
 ghost use Rattle.std.specs.FinMap as finite;
-ghost use Rattle.trace_pages.specs.FlatMemory.{IsPiece, RunEnd, byte_after_map, byte_after_store, byte_at, run_end};
 ghost use Rattle.trace_pages.specs.FlatMemory as flat;
+ghost use Rattle.trace_pages.specs.FlatMemory.{IsPiece, MapsPage, StoresBytes, byte_at, run_end};
 
 use crate::fault::Fault;
 use crate::map_error::MapError;
 use crate::no_memory::NoMemory;
-use crate::pages::{MOST_PAGES, PAGE_BYTES, piece_of, push_page, rest_of_page, write_piece};
+use crate::pages::{MOST_PAGES, piece_of, push_page, rest_of_page, write_piece};
 use std::alloc::{Allocator, Global};
 use std::marker::Model;
 
@@ -24,13 +24,13 @@ pub struct Memory<A: Allocator = Global> {
 
 impl<A: Allocator> Model for Memory<A> {
     ghost use Rattle.std.specs.Coded.{coded_ℕ};
-    ghost use Rattle.std.specs.FinMap as map;
+    ghost use Rattle.std.specs.FinMap as finite;
     ghost use Rattle.trace_pages.specs.FlatMemory.{FlatMemory};
     ghost use Rattle.trace_pages.specs.Pages.{ArePages, flat_of};
 
     ghost Value = { FlatMemory };
 
-    ghost coded = { map.code coded_ℕ coded_ℕ };
+    ghost coded = { finite.code coded_ℕ coded_ℕ };
 
     ghost view = { λ m. flat_of m.pages.items m.bytes.items };
 
@@ -66,7 +66,7 @@ impl<A: Allocator> Memory<A> {
     /// Adds the page of zeros at an address that is a multiple of 4096. A refusal leaves the memory as it was.
     pub fn map(&mut self, page: u64) -> Result<(), MapError>
         requires { page % 4096 ≡ 0 }
-        ensures ok { OnOk result ((address : ℕ) → byte_at self.new address ≡ byte_after_map self.old page address) }
+        ensures ok { OnOk result (MapsPage self.old self.new page) }
         ensures fault { (error : MapError) → map_refusal self.old page ≡ Some error → result ≡ Err error }
         ensures accepted { map_refusal self.old page ≡ None → IsOkUnless result MapError.NoMemory }
         ensures err { OnErr result (self.new ≡ self.old) }
@@ -84,7 +84,7 @@ impl<A: Allocator> Memory<A> {
     /// Writes the bytes from an address on, or none of them where one of their addresses is not mapped.
     pub fn store(&mut self, addr: u64, bytes: &[u8]) -> Result<(), Fault>
         ensures answer { result ≡ store_answer (run_end self.old addr (length bytes.now)) }
-        ensures ok { OnOk result ((address : ℕ) → byte_at self.new address ≡ byte_after_store self.old addr bytes.now address) }
+        ensures ok { OnOk result (StoresBytes self.old self.new addr bytes.now) }
         ensures err { OnErr result (self.new ≡ self.old) }
     {
         self.check_run(addr, bytes.len())?;
@@ -119,7 +119,7 @@ impl<A: Allocator> Memory<A> {
         requires whole { page % 4096 ≡ 0 }
         requires absent { byte_at self.old page ≡ None }
         requires room { finite.len self.old < 256 * 4096 }
-        ensures ok { OnOk result ((address : ℕ) → byte_at self.new address ≡ byte_after_map self.old page address) }
+        ensures ok { OnOk result (MapsPage self.old self.new page) }
         ensures err { OnErr result (self.new ≡ self.old) }
     {
         push_page(&mut self.pages, &mut self.bytes, page)
@@ -150,7 +150,7 @@ impl<A: Allocator> Memory<A> {
     /// Writes the bytes, page by page, where all their addresses are mapped.
     fn write_run(&mut self, addr: u64, bytes: &[u8])
         requires { run_end self.old addr (length bytes.now) ≡ flat.Full }
-        ensures { (address : ℕ) → byte_at self.new address ≡ byte_after_store self.old addr bytes.now address }
+        ensures { StoresBytes self.old self.new addr bytes.now }
     {
         let mut done = 0;
         while done < bytes.len() {
@@ -165,7 +165,7 @@ impl<A: Allocator> Memory<A> {
     fn write_in_page(&mut self, addr: u64, bytes: &[u8])
         requires mapped { IsSome (byte_at self.old addr) }
         requires within { length bytes.now + addr % 4096 ≤ 4096 }
-        ensures { (address : ℕ) → byte_at self.new address ≡ byte_after_store self.old addr bytes.now address }
+        ensures { StoresBytes self.old self.new addr bytes.now }
     {
         write_piece(
             self.pages.as_slice(),

@@ -1,7 +1,7 @@
 //! Pages as they are kept: their addresses in one list, their bytes one after the other in another.
 
-ghost use Rattle.std.specs.Prelude.{◌≡◌, ◌≢◌, ◌<◌, ◌≤◌, ◌+◌, ◌-◌, ◌*◌, ◌%◌, ℕ, [], ◌∷◌, ◌++◌, IsSome, OnOk, OnErr, Some, None, MatchOption, length, slice_index};
-ghost use Rattle.trace_pages.specs.FlatMemory.{IsPiece, byte_after_store, byte_at};
+ghost use Rattle.std.specs.Prelude.{◌≡◌, ◌≤◌, ◌+◌, ◌%◌, [], ◌∷◌, ◌++◌, IsSome, OnOk, OnErr, Some, None, MatchOption, length};
+ghost use Rattle.trace_pages.specs.FlatMemory.{IsPiece, StoresBytes, byte_at};
 ghost use Rattle.trace_pages.specs.Pages.{ArePages, AppendsZeros, IsPlace, flat_of};
 
 use crate::no_memory::NoMemory;
@@ -11,7 +11,7 @@ use std::alloc::Allocator;
 const PAGE: u64 = 4096;
 
 /// The length of a page, as lists count.
-pub const PAGE_BYTES: usize = 4096;
+const PAGE_BYTES: usize = 4096;
 
 /// How many pages there can be.
 pub const MOST_PAGES: usize = 256;
@@ -34,7 +34,8 @@ fn place_of(pages: &[u64], addr: u64) -> Option<usize>
 /// The bytes from an address to the end of its page.
 pub fn piece_of<'a>(pages: &[u64], bytes: &'a [u8], addr: u64) -> Option<&'a [u8]>
     requires { ArePages pages.now bytes.now }
-    ensures { MatchOption result (byte_at (flat_of pages.now bytes.now) addr ≡ None) (λ piece. IsPiece (flat_of pages.now bytes.now) addr piece.now) }
+    ensures { let memory = flat_of pages.now bytes.now in
+        MatchOption result (byte_at memory addr ≡ None) (λ piece. IsPiece memory addr piece.now) }
 {
     let place = place_of(pages, addr)?;
     let from = place * PAGE_BYTES + (addr % PAGE) as usize;
@@ -46,7 +47,7 @@ pub fn write_piece(pages: &[u64], bytes: &mut [u8], addr: u64, piece: &[u8])
     requires kept { ArePages pages.now bytes.old }
     requires mapped { IsSome (byte_at (flat_of pages.now bytes.old) addr) }
     requires within { length piece.now + addr % 4096 ≤ 4096 }
-    ensures { (address : ℕ) → byte_at (flat_of pages.now bytes.new) address ≡ byte_after_store (flat_of pages.now bytes.old) addr piece.now address }
+    ensures { StoresBytes (flat_of pages.now bytes.old) (flat_of pages.now bytes.new) addr piece.now }
 {
     let Some(place) = place_of(pages, addr) else {
         unreachable!()

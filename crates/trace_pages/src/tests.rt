@@ -132,3 +132,9 @@ fn a_copy_has_the_same_bytes_and_its_own(rt: HostRuntime) -> Result<(), Fail> {
     assert_eq!(rt; copy.byte(0x11000), None);
     Ok(())
 }
+
+#[test]
+fn the_laws_are_there() {
+    runs_end_where_they_say();
+    runs_are_made_of_pieces();
+}

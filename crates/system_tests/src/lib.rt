@@ -1,0 +1,5 @@
+//! Tests that cross crates. This crate holds nothing else.
+#![tactic(auto)]
+
+#[cfg(test)]
+mod growth;

@@ -13,6 +13,7 @@ byte_at memory address = finite.get memory address
 -- ---- a run of bytes from an address on: at most so many, ended at the first address that is not mapped or after
 -- address 2^64 - 1
 
+-- a byte and what follows it, or nothing where no byte is
 abbrev pub begun : Option ℕ → List ℕ → List ℕ
 begun None rest = []
 begun (Some byte) rest = byte ∷ rest
@@ -27,6 +28,7 @@ pub data RunEnd : Type 0 where
   Absent : (address : ℕ) → RunEnd
   Top : RunEnd
 
+-- the end of what follows a byte, or the address where no byte is
 abbrev pub end_from : ℕ → Option ℕ → RunEnd → RunEnd
 end_from address None rest = Absent address
 end_from address (Some byte) rest = rest

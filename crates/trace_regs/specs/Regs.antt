@@ -11,7 +11,11 @@ words_of r =
     r.r15 ∷ r.r14 ∷ r.r13 ∷ r.r12 ∷ r.rbp ∷ r.rbx ∷ r.r11 ∷ r.r10 ∷ r.r9 ∷ r.r8 ∷ r.rax ∷ r.rcx ∷ r.rdx ∷ r.rsi ∷ r.rdi
     ∷ r.orig_rax ∷ r.rip ∷ r.cs ∷ r.eflags ∷ r.rsp ∷ r.ss ∷ r.fs_base ∷ r.gs_base ∷ r.ds ∷ r.es ∷ r.fs ∷ r.gs ∷ []
 
--- its bytes: the registers one after the other, each with its lowest byte first
+-- the arguments of a system call, first to sixth (syscall(2), "Architecture calling conventions")
+abbrev pub arguments_of : Regs → List ℕ
+arguments_of r = r.rdi ∷ r.rsi ∷ r.rdx ∷ r.r10 ∷ r.r8 ∷ r.r9 ∷ []
+
+-- the bytes of user_regs_struct: the registers one after the other, each with its lowest byte first
 unfoldable pub bytes_of : Regs → List ℕ
 bytes_of r = flat_map (to_le_bytes w64) (words_of r)
 

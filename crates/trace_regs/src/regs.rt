@@ -1,6 +1,6 @@
 //! The registers of x86-64, with the names and the order of the kernel's `user_regs_struct`.
 
-ghost use Rattle.std.specs.Prelude.{◌≡◌, [], ◌∷◌};
+ghost use Rattle.std.specs.Prelude.{◌≡◌};
 ghost use Rattle.std.specs.Int.{w64, cast_signed};
 ghost use Rattle.trace_regs.specs.Outcome.{Tells};
 
@@ -45,7 +45,7 @@ pub struct Regs {
 }
 
 impl Regs {
-    ghost use Rattle.trace_regs.specs.Regs.{AreWords, bytes_of, words_of};
+    ghost use Rattle.trace_regs.specs.Regs.{AreWords, arguments_of, bytes_of, words_of};
     ghost use Rattle.trace_regs.specs.declared.regs.Regs.{Regs};
 
     /// The number of the system call (syscall(2): `orig_rax` keeps it while `rax` takes the result).
@@ -57,7 +57,7 @@ impl Regs {
 
     /// The arguments of the system call, first to sixth (syscall(2), "Architecture calling conventions").
     pub fn args(&self) -> [u64; 6]
-        ensures { result ≡ self.now.rdi ∷ self.now.rsi ∷ self.now.rdx ∷ self.now.r10 ∷ self.now.r8 ∷ self.now.r9 ∷ [] }
+        ensures { result ≡ arguments_of self.now }
     {
         [self.rdi, self.rsi, self.rdx, self.r10, self.r8, self.r9]
     }

@@ -1,26 +1,41 @@
 # Each target says what it does and how long it may take.
 # `rt` is the command of the Rattle kit (README.md, "Building"); RT names another one.
 RT ?= rt
+RUSTC ?= rustc
+PYTHON ?= python3
 PREFIX ?= /usr/local
+OUT = bench/out
 
-.PHONY: all demo check bench install
+.PHONY: all demo check examples bench install
 
 all:
-	@echo "make: proving each crate, over what earlier runs kept (the first time: minutes)"
-	@$(RT) all check
-	@echo "make: there is no program yet, so bin/ stays empty"
+	@echo "make: proving the program and what it stands on, over what earlier runs kept (the first time: ten minutes)"
+	@cd crates/tracer && $(RT) run -- --help > /dev/null
+	@mkdir -p bin && cp crates/tracer/out/tracer bin/tracer
+	@echo "make: bin/tracer is built"
 
-demo:
-	@echo "demo: running the tests of the libraries, without waiting for the proofs (half a minute)"
-	@for crate in crates/*/; do echo "demo: $$crate"; (cd $$crate && $(RT) try --test) || exit 1; done
-	@echo "demo: there is not much to show yet: the libraries run, and there is no program"
+demo: examples
+
+examples:
+	@echo "examples: running the program on each file of examples/, without waiting for the proofs (half a minute)"
+	@for file in first thread; do echo "examples/replay/$$file:"; cat examples/replay/$$file; echo "prints:"; cat examples/replay/$$file.stdout; done
+	@cd crates/tracer && $(RT) try --cases ../../examples/replay -- replay
+	@echo "examples: each file printed the text that stands beside it"
 
 check:
-	@echo "check: proving every crate from nothing, then the must-fail edits and the tests (docs/STATUS.md has the time)"
+	@echo "check: proving every crate from nothing, then the must-fail edits, tests and programs (docs/STATUS.md has the time)"
 	@$(RT) ci
+	@$(MAKE) --no-print-directory examples
 
-bench:
-	@echo "bench: there is nothing to measure yet"
+bench: all
+	@echo "bench: timing bin/tracer and a plain Rust program in turn on one replay of 16 MB (some seconds)"
+	@mkdir -p $(OUT)
+	@$(RUSTC) -O --edition 2024 -o $(OUT)/generate bench/generate.rs
+	@$(RUSTC) -O --edition 2024 -o $(OUT)/plain bench/plain.rs
+	@$(OUT)/generate > $(OUT)/replay.txt
+	@$(PYTHON) bench/compare.py bin/tracer $(OUT)/plain $(OUT)/replay.txt
 
-install:
-	@echo "install: there is no program yet, so nothing goes to $(PREFIX)/bin"
+install: all
+	@echo "install: copying bin/tracer to $(DESTDIR)$(PREFIX)/bin"
+	@install -d $(DESTDIR)$(PREFIX)/bin
+	@install -m 755 bin/tracer $(DESTDIR)$(PREFIX)/bin/tracer

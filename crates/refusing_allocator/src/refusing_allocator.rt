@@ -29,7 +29,9 @@ impl<B: Allocator> RefusingAllocator<B> {
 }
 
 unsafe impl<B: Allocator> Allocator for RefusingAllocator<B> {
-    ghost dealloc_token = { λ heap ty ptr. B.dealloc_token heap.inner ty ptr };
+    ghost use Rattle.refusing_allocator.specs.RefusingAllocator.{inner_of};
+
+    ghost dealloc_token = { λ heap ty ptr. B.dealloc_token (inner_of heap) ty ptr };
 
     fn allocate(&self, size: usize, align: usize) -> Result<*mut u8, AllocError> {
         if self.grants.is_next_granted() {

@@ -4,7 +4,6 @@
 
 mod board;
 mod laws;
-mod memory;
 mod refused;
 mod roster;
 mod state;
@@ -16,8 +15,8 @@ pub use laws::{
     a_stop_is_claimed_once, births_are_counted, children_are_born_in_order,
     older_histories_are_legal, rows_are_placed, settled_rows_stay_settled,
 };
-pub use memory::NoMemory;
 pub use refused::Refused;
 pub use roster::{Roster, RosterError, Row, fault_after, place_of};
 pub use state::State;
+pub use trace_pages::NoMemory;
 pub use word::{Phase, Word};

@@ -3,9 +3,9 @@
 ghost use Rattle.std.specs.Prelude.{◌≡◌, ◌<◌, ◌≤◌, ℕ, List, length, IfOk, IfSome, IsOkUnless, slice_get};
 ghost use Rattle.stop_board.specs.Roster.{family_fault, fault_after, has_ids, is_child_of, is_id, is_leader, is_root, parent_in, roster_fault, row_of, with_tid};
 
-use crate::memory::NoMemory;
 use std::alloc::{AllocError, Allocator, Global};
 use std::marker::Model;
+use trace_pages::NoMemory;
 
 /// How many rows a roster has at most.
 const MOST_ROWS: usize = 64;

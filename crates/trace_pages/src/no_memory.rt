@@ -1,8 +1,8 @@
-//! Want of memory.
+//! The only error of what only grows.
 
 use std::alloc::{AllocError, AllocFailed};
 
-/// A growth was refused: the only error of a call that can fail for nothing else.
+/// There was no memory.
 #[derive(Clone, Copy, Debug, PartialEq, Eq, Hash)]
 pub struct NoMemory;
 

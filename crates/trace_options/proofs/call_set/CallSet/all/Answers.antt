@@ -1,0 +1,5 @@
+use Rattle.trace_options.proofs.Members.{has_call-all}
+use Rattle.trace_options.proofs.call_set.CallSet.all.Goals as goal
+
+pub returns : goal.returns
+returns c = has_call-all

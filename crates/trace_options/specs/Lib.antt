@@ -1,0 +1,4 @@
+pub mod Calls
+pub mod Event
+pub mod Options
+pub mod WaitFlags

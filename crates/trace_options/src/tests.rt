@@ -1,0 +1,148 @@
+use super::*;
+
+/// The events and their numbers, from ptrace(2) and `<sys/ptrace.h>`.
+const EVENTS: [(u8, Event); 8] = [
+    (1, Event::Fork),
+    (2, Event::Vfork),
+    (3, Event::Clone),
+    (4, Event::Exec),
+    (5, Event::VforkDone),
+    (6, Event::Exit),
+    (7, Event::Seccomp),
+    (128, Event::Stop),
+];
+
+#[test]
+fn options_are_their_bits(rt: HostRuntime) {
+    for (bits, option) in [
+        (0x1, Options::TRACESYSGOOD),
+        (0x2, Options::TRACEFORK),
+        (0x4, Options::TRACEVFORK),
+        (0x8, Options::TRACECLONE),
+        (0x10, Options::TRACEEXEC),
+        (0x20, Options::TRACEVFORKDONE),
+        (0x40, Options::TRACEEXIT),
+        (0x80, Options::TRACESECCOMP),
+    ] {
+        assert_eq!(rt; Options::from_bits(bits), Some(option), "{bits:#x}");
+        assert_eq!(rt; option.bits(), bits);
+    }
+    assert_eq!(rt;
+        Options::from_bits(0).map(|options| options.bits()),
+        Some(0)
+    );
+    assert_eq!(rt;
+        Options::from_bits(0xff).map(|options| options.bits()),
+        Some(0xff)
+    );
+    assert_eq!(rt; Options::from_bits(0x100), None);
+    assert_eq!(rt; Options::from_bits(0x8000_0001), None);
+}
+
+#[test]
+fn options_are_added(rt: HostRuntime) {
+    let mut options = Options::TRACESYSGOOD;
+    assert!(rt; !options.contains(Options::TRACEFORK));
+    options.insert(Options::TRACEFORK);
+    options.insert(Options::TRACECLONE);
+    options.insert(Options::TRACEFORK);
+    assert_eq!(rt; options.bits(), 0xb);
+    assert!(rt; options.contains(Options::TRACEFORK));
+    let mut more = Options::TRACEFORK;
+    more.insert(Options::TRACEEXEC);
+    assert!(rt; !options.contains(more), "one of the two is not there");
+}
+
+#[test]
+fn wait_flags_are_their_bits(rt: HostRuntime) {
+    for (bits, flag) in [
+        (1, WaitFlags::WNOHANG),
+        (2, WaitFlags::WUNTRACED),
+        (2, WaitFlags::WSTOPPED),
+        (4, WaitFlags::WEXITED),
+        (8, WaitFlags::WCONTINUED),
+        (0x0100_0000, WaitFlags::WNOWAIT),
+        (0x4000_0000, WaitFlags::WALL),
+    ] {
+        assert_eq!(rt; WaitFlags::from_bits(bits), Some(flag), "{bits:#x}");
+        assert_eq!(rt; flag.bits(), bits);
+    }
+    assert_eq!(rt; WaitFlags::from_bits(0x10), None);
+    assert_eq!(rt; WaitFlags::from_bits(0x8000_0000), None);
+    let mut flags = WaitFlags::WEXITED;
+    flags.insert(WaitFlags::WNOHANG);
+    assert_eq!(rt; flags.bits(), 5);
+    assert!(rt; flags.contains(WaitFlags::WNOHANG));
+    assert!(rt; !flags.contains(WaitFlags::WSTOPPED));
+}
+
+#[test]
+fn an_event_is_its_number(rt: HostRuntime) {
+    for (code, event) in EVENTS {
+        assert_eq!(rt; event.code(), code, "{event:?}");
+        assert_eq!(rt; Event::from_code(code), Some(event));
+    }
+    for code in [0, 8, 127, 129, 255] {
+        assert_eq!(rt; Event::from_code(code), None, "{code}");
+    }
+}
+
+#[test]
+fn a_tracer_takes_some_options(rt: HostRuntime) {
+    for (bits, answer) in [
+        (0x1, Ok(())),
+        (0x1b, Ok(())),
+        (0x9b, Ok(())),
+        (0x0, Err(Errno::EINVAL)),
+        (0x1a, Err(Errno::EINVAL)),
+        (0x3, Err(Errno::EINVAL)),
+        (0x9, Err(Errno::EINVAL)),
+        (0x5, Err(Errno::EINVAL)),
+        (0x21, Err(Errno::EINVAL)),
+        (0x41, Err(Errno::EINVAL)),
+    ] {
+        assert_eq!(rt;
+            Options::from_bits(bits).map(check),
+            Some(answer),
+            "{bits:#x}"
+        );
+    }
+}
+
+#[test]
+fn the_set_of_all_calls_has_the_highest_too(rt: HostRuntime) {
+    for nr in [0, 127, 128, u64::MAX] {
+        assert!(rt; CallSet::all().contains(nr), "{nr}");
+        assert!(rt; !CallSet::none().contains(nr), "{nr}");
+    }
+}
+
+#[test]
+fn calls_are_added_one_by_one(rt: HostRuntime) {
+    let mut some = CallSet::none();
+    some.add(0);
+    some.add(59);
+    some.add(127);
+    for (nr, is_in) in [
+        (0, true),
+        (1, false),
+        (59, true),
+        (127, true),
+        (128, false),
+        (187, false),
+    ] {
+        assert_eq!(rt; some.contains(nr), is_in, "{nr}");
+    }
+    let mut every = CallSet::none();
+    for nr in 0..128 {
+        every.add(nr);
+    }
+    assert!(rt; every.contains(127));
+    assert!(rt; !every.contains(128));
+    assert!(rt; every != CallSet::all());
+    let filter = Filter {
+        calls: some,
+        ret_data: 0xffff,
+    };
+    assert!(rt; filter.calls.contains(59));
+}

@@ -1,0 +1,6 @@
+mod Among
+mod Entries
+mod Places
+mod Counts
+mod Changes
+mod Runs

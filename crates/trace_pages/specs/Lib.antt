@@ -1,0 +1,3 @@
+pub mod FlatMemory
+pub mod Memory
+pub mod Pages

@@ -1,0 +1,177 @@
+//! The memory of a tracee.
+//!
+//! Contracts see it as a finite map from address to byte. It is kept as the list of the pages' addresses, in the
+//! order in which they were mapped, beside one list of all their bytes in the same order.
+
+ghost use Rattle.std.specs.Prelude.{◌≡◌, ◌<◌, ◌≤◌, ◌+◌, ◌*◌, ◌%◌, IsSome, IfOk, OnOk, OnErr, Some, None, MatchOption, IsOkUnless, nat_le, length};
+ghost use Rattle.std.specs.FinMap as finite;
+ghost use Rattle.trace_pages.specs.FlatMemory as flat;
+ghost use Rattle.trace_pages.specs.FlatMemory.{IsPiece, MapsPage, StoresBytes, byte_at, run_end};
+
+use crate::fault::Fault;
+use crate::map_error::MapError;
+use crate::no_memory::NoMemory;
+use crate::pages::{MOST_PAGES, piece_of, push_page, rest_of_page, write_piece};
+use std::alloc::{Allocator, Global};
+use std::marker::Model;
+
+/// The memory of a tracee: at most 256 pages of 4096 bytes, each at an address that is a multiple of 4096.
+#[derive(Drop)]
+pub struct Memory<A: Allocator = Global> {
+    pages: Vec<u64, A>,
+    bytes: Vec<u8, A>,
+}
+
+impl<A: Allocator> Model for Memory<A> {
+    ghost use Rattle.std.specs.Coded.{coded_ℕ};
+    ghost use Rattle.std.specs.FinMap as finite;
+    ghost use Rattle.trace_pages.specs.FlatMemory.{FlatMemory};
+    ghost use Rattle.trace_pages.specs.Pages.{ArePages, flat_of};
+
+    ghost Value = { FlatMemory };
+
+    ghost coded = { finite.code coded_ℕ coded_ℕ };
+
+    ghost view = { λ m. flat_of m.pages.items m.bytes.items };
+
+    ghost invariant = { λ m. ArePages m.pages.items m.bytes.items };
+}
+
+impl<A: Allocator + Copy> Memory<A> {
+    /// Memory with no page.
+    pub fn new(alloc: A) -> Memory<A>
+        ensures { result ≡ finite.empty }
+    {
+        Memory {
+            pages: Vec::new(alloc),
+            bytes: Vec::new(alloc),
+        }
+    }
+
+    /// A copy: memory with the same bytes at the same addresses, in the memory of the same allocator.
+    pub fn copy(&self) -> Result<Memory<A>, NoMemory>
+        ensures { IfOk result (λ copy. copy ≡ self.now) }
+    {
+        let alloc = *self.pages.allocator();
+        let pages = Vec::from_slice(alloc, self.pages.as_slice())?;
+        let bytes = Vec::from_slice(alloc, self.bytes.as_slice())?;
+        Ok(Memory { pages, bytes })
+    }
+}
+
+impl<A: Allocator> Memory<A> {
+    ghost use Rattle.trace_pages.specs.Memory.{map_refusal, store_answer};
+    ghost use Rattle.trace_pages.specs.declared.map_error.MapError.{MapError};
+
+    /// Adds the page of zeros at an address that is a multiple of 4096. A refusal leaves the memory as it was.
+    pub fn map(&mut self, page: u64) -> Result<(), MapError>
+        requires { page % 4096 ≡ 0 }
+        ensures ok { OnOk result (MapsPage self.old self.new page) }
+        ensures fault { (error : MapError) → map_refusal self.old page ≡ Some error → result ≡ Err error }
+        ensures accepted { map_refusal self.old page ≡ None → IsOkUnless result MapError.NoMemory }
+        ensures err { OnErr result (self.new ≡ self.old) }
+    {
+        if self.byte(page).is_some() {
+            return Err(MapError::Mapped);
+        }
+        if self.is_full() {
+            return Err(MapError::TooMany);
+        }
+        self.add_page(page)?;
+        Ok(())
+    }
+
+    /// Writes the bytes from an address on, or none of them where one of their addresses is not mapped.
+    pub fn store(&mut self, addr: u64, bytes: &[u8]) -> Result<(), Fault>
+        ensures answer { result ≡ store_answer (run_end self.old addr (length bytes.now)) }
+        ensures ok { OnOk result (StoresBytes self.old self.new addr bytes.now) }
+        ensures err { OnErr result (self.new ≡ self.old) }
+    {
+        self.check_run(addr, bytes.len())?;
+        self.write_run(addr, bytes);
+        Ok(())
+    }
+
+    /// The byte at an address, or None where none is mapped.
+    pub fn byte(&self, addr: u64) -> Option<u8>
+        ensures { result ≡ byte_at self.now addr }
+    {
+        let piece = self.piece(addr)?;
+        Some(piece[0])
+    }
+
+    /// The bytes from an address to the end of its page, or None where no page has the address.
+    pub fn piece(&self, addr: u64) -> Option<&[u8]>
+        ensures { MatchOption result (byte_at self.now addr ≡ None) (λ piece. IsPiece self.now addr piece.now) }
+    {
+        piece_of(self.pages.as_slice(), self.bytes.as_slice(), addr)
+    }
+
+    /// Whether there are as many pages as there can be.
+    fn is_full(&self) -> bool
+        ensures { result ≡ nat_le (256 * 4096) (finite.len self.now) }
+    {
+        self.pages.len() >= MOST_PAGES
+    }
+
+    /// Adds a page of zeros.
+    fn add_page(&mut self, page: u64) -> Result<(), NoMemory>
+        requires whole { page % 4096 ≡ 0 }
+        requires absent { byte_at self.old page ≡ None }
+        requires room { finite.len self.old < 256 * 4096 }
+        ensures ok { OnOk result (MapsPage self.old self.new page) }
+        ensures err { OnErr result (self.new ≡ self.old) }
+    {
+        push_page(&mut self.pages, &mut self.bytes, page)
+    }
+
+    /// Whether the addresses from one on are mapped, or the first that is not.
+    fn check_run(&self, addr: u64, len: usize) -> Result<(), Fault>
+        ensures { result ≡ store_answer (run_end self.now addr len) }
+    {
+        let mut at = addr;
+        let mut left = len;
+        while left > 0 {
+            let Some(piece) = self.piece(at) else {
+                return Err(Fault { addr: at });
+            };
+            if left <= piece.len() {
+                return Ok(());
+            }
+            left -= piece.len();
+            let Some(next) = at.checked_add(piece.len() as u64) else {
+                return Err(Fault { addr: u64::MAX });
+            };
+            at = next;
+        }
+        Ok(())
+    }
+
+    /// Writes the bytes, page by page, where all their addresses are mapped.
+    fn write_run(&mut self, addr: u64, bytes: &[u8])
+        requires { run_end self.old addr (length bytes.now) ≡ flat.Full }
+        ensures { StoresBytes self.old self.new addr bytes.now }
+    {
+        let mut done = 0;
+        while done < bytes.len() {
+            let at = addr + done as u64;
+            let step = rest_of_page(at).min(bytes.len() - done);
+            self.write_in_page(at, &bytes[done..done + step]);
+            done += step;
+        }
+    }
+
+    /// Writes bytes that end within the page of an address that is mapped.
+    fn write_in_page(&mut self, addr: u64, bytes: &[u8])
+        requires mapped { IsSome (byte_at self.old addr) }
+        requires within { length bytes.now + addr % 4096 ≤ 4096 }
+        ensures { StoresBytes self.old self.new addr bytes.now }
+    {
+        write_piece(
+            self.pages.as_slice(),
+            self.bytes.as_mut_slice(),
+            addr,
+            bytes,
+        );
+    }
+}

@@ -1,0 +1,140 @@
+use super::*;
+use std::test::Fail;
+
+/// The last page of the address space.
+const TOP: u64 = 0xffff_ffff_ffff_f000;
+
+#[test]
+fn a_page_is_mapped_once(rt: HostRuntime) {
+    let mut memory = Memory::new(rt.alloc());
+    assert_eq!(rt; memory.byte(0x10000), None);
+    assert_eq!(rt; memory.map(0x10000), Ok(()));
+    assert_eq!(rt; memory.map(0x10000), Err(MapError::Mapped));
+    for (addr, byte) in [
+        (0xffff, None),
+        (0x10000, Some(0)),
+        (0x10fff, Some(0)),
+        (0x11000, None),
+    ] {
+        assert_eq!(rt; memory.byte(addr), byte, "{addr:#x}");
+    }
+}
+
+#[test]
+fn there_are_at_most_256_pages(rt: HostRuntime) {
+    let mut memory = Memory::new(rt.alloc());
+    for at in 0..256u64 {
+        assert_eq!(rt; memory.map(at * 4096), Ok(()), "{at}");
+    }
+    assert_eq!(rt; memory.map(0x100000), Err(MapError::TooMany));
+    assert_eq!(rt; memory.map(0xff000), Err(MapError::Mapped));
+    assert_eq!(rt; memory.byte(0xfffff), Some(0));
+    assert_eq!(rt; memory.byte(0x100000), None);
+}
+
+#[test]
+fn a_store_that_meets_an_absent_page_changes_nothing(rt: HostRuntime) {
+    let mut memory = Memory::new(rt.alloc());
+    assert!(rt; memory.map(0x10000).is_ok());
+    assert_eq!(rt;
+        memory.store(0x10ffe, &[1, 2, 3, 4]),
+        Err(Fault { addr: 0x11000 })
+    );
+    assert_eq!(rt; memory.byte(0x10ffe), Some(0));
+    assert_eq!(rt; memory.byte(0x10fff), Some(0));
+    assert_eq!(rt;
+        memory.store(0xfffe, &[1, 2, 3, 4]),
+        Err(Fault { addr: 0xfffe })
+    );
+    assert_eq!(rt; memory.byte(0x10000), Some(0));
+    assert_eq!(rt; memory.store(0x10ffe, &[1, 2]), Ok(()));
+    assert_eq!(rt; memory.byte(0x10fff), Some(2));
+}
+
+#[test]
+fn a_store_goes_over_two_pages(rt: HostRuntime) {
+    let mut memory = Memory::new(rt.alloc());
+    assert!(rt; memory.map(0x11000).is_ok());
+    assert!(rt; memory.map(0x20000).is_ok());
+    assert!(rt; memory.map(0x10000).is_ok());
+    assert_eq!(rt; memory.store(0x10ffe, &[1, 2, 3, 4]), Ok(()));
+    for (addr, byte) in [
+        (0x10ffd, 0),
+        (0x10ffe, 1),
+        (0x10fff, 2),
+        (0x11000, 3),
+        (0x11001, 4),
+        (0x11002, 0),
+        (0x20000, 0),
+        (0x20001, 0),
+    ] {
+        assert_eq!(rt; memory.byte(addr), Some(byte), "{addr:#x}");
+    }
+}
+
+#[test]
+fn a_store_ends_at_the_last_address(rt: HostRuntime) {
+    let mut memory = Memory::new(rt.alloc());
+    assert!(rt; memory.map(TOP).is_ok());
+    assert!(rt; memory.map(0).is_ok());
+    let end = Err(Fault { addr: u64::MAX });
+    assert_eq!(rt; memory.store(u64::MAX - 1, &[7, 8, 9]), end);
+    assert_eq!(rt; memory.byte(u64::MAX - 1), Some(0));
+    assert_eq!(rt; memory.byte(0), Some(0), "it does not go on at address 0");
+    assert_eq!(rt; memory.store(u64::MAX - 1, &[7, 8]), Ok(()));
+    assert_eq!(rt; memory.byte(u64::MAX), Some(8));
+}
+
+#[test]
+fn a_store_of_no_bytes_is_done_anywhere(rt: HostRuntime) {
+    let mut memory = Memory::new(rt.alloc());
+    assert_eq!(rt; memory.store(0x12345, &[]), Ok(()));
+    assert_eq!(rt; memory.store(u64::MAX, &[]), Ok(()));
+}
+
+#[test]
+fn a_piece_ends_with_its_page(rt: HostRuntime) {
+    let mut memory = Memory::new(rt.alloc());
+    assert!(rt; memory.map(0x10000).is_ok());
+    assert!(rt; memory.map(0x20000).is_ok());
+    assert!(rt; memory.store(0x10ffd, &[1, 2, 3]).is_ok());
+    assert_eq!(rt; memory.piece(0x10ffd), Some([1, 2, 3].as_slice()));
+    assert_eq!(rt; memory.piece(0x10000).map(|piece| piece.len()), Some(4096));
+    assert_eq!(rt; memory.piece(0x11000), None);
+    assert_eq!(rt; memory.piece(0xffff), None);
+}
+
+#[test]
+fn a_copy_has_the_same_bytes_and_its_own(rt: HostRuntime) -> Result<(), Fail> {
+    let mut memory = Memory::new(rt.alloc());
+    assert!(rt; memory.map(0x10000).is_ok());
+    assert!(rt; memory.map(TOP).is_ok());
+    assert!(rt; memory.store(0x10010, b"hello").is_ok());
+    let mut copy = memory.copy()?;
+    for addr in [
+        0,
+        0xffff,
+        0x10000,
+        0x10010,
+        0x10014,
+        0x10fff,
+        0x11000,
+        TOP,
+        u64::MAX,
+    ] {
+        assert_eq!(rt; copy.byte(addr), memory.byte(addr), "{addr:#x}");
+    }
+    assert!(rt; copy.store(0x10010, b"J").is_ok());
+    assert!(rt; memory.store(0x10014, b"!").is_ok());
+    assert!(rt; memory.map(0x11000).is_ok());
+    assert_eq!(rt; memory.byte(0x10010), Some(b'h'));
+    assert_eq!(rt; copy.byte(0x10014), Some(b'o'));
+    assert_eq!(rt; copy.byte(0x11000), None);
+    Ok(())
+}
+
+#[test]
+fn the_laws_are_there() {
+    runs_end_where_they_say();
+    runs_are_made_of_pieces();
+}

@@ -2,7 +2,7 @@
 
 use std::alloc::{AllocError, Allocator};
 use std::test::Fail;
-use stop_board::{Roster, RosterError, Row};
+use stop_board::{Roster, RosterError, Row, fault_after, place_of};
 
 const ROOT: Row = Row {
     tid: 100,
@@ -108,4 +108,20 @@ fn no_more_than_64_rows_are_accepted(rt: HostRuntime) -> Result<(), Fail> {
         )
     );
     Ok(())
+}
+
+#[test]
+fn one_more_row_is_tested_behind_others(rt: HostRuntime) {
+    let rows = [ROOT, row(101, 100, 77, 100)];
+    assert_eq!(rt; fault_after(&rows, row(102, 100, 77, 101)), None);
+    assert_eq!(rt;
+        fault_after(&rows, row(101, 101, 77, 100)),
+        Some(RosterError::Twice(2))
+    );
+    assert_eq!(rt;
+        fault_after(&[], row(101, 101, 77, 100)),
+        Some(RosterError::ParentLater(0))
+    );
+    assert_eq!(rt; place_of(&rows, 101), Some(1));
+    assert_eq!(rt; place_of(&rows, 102), None);
 }

@@ -1,6 +1,7 @@
 pub mod Cuts
 pub mod Decimals
 pub mod Digits
+pub mod LinesBack
 pub mod LinesRead
 pub mod RosterGrows
 pub mod SixWords

@@ -1,5 +1,5 @@
 -- What `decimal` writes is a word, and is read as its number.
-use Rattle.std.proofs.Common.{refl, ◌≡◌, ◌+◌, ◌*◌, ◌^◌, ◌<◌, ◌≤◌, ◌&&◌, ◌∷◌, [], ℕ, Bool, true, false, nat_lt, nat_le, List, Option, Some, None, Result, Ok, length, drop, cond, arith, eqb, ne_eqb, lt-ltb, le-leb, slice_index, decimal, ap, sym, ◌∙◌, if◌then◌else◌}
+use Rattle.std.proofs.Common.{refl, ◌≡◌, ◌+◌, ◌*◌, ◌^◌, ◌<◌, ◌≤◌, ◌&&◌, ◌∷◌, [], ℕ, Bool, true, false, nat_lt, nat_le, List, Some, None, Ok, length, drop, cond, arith, eqb, ne_eqb, lt-ltb, le-leb, decimal, ap, ◌∙◌}
 use Rattle.std.proofs.lemmas.Bool.{and_from}
 use Rattle.std.proofs.lemmas.Fmt.{decimal_is_IsNumeral}
 use Rattle.std.proofs.lemmas.Str.Parse.{digit_from_value}

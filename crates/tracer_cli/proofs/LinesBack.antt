@@ -1,30 +1,24 @@
 -- The words of each row and each command say that row and that command.
-use Rattle.std.proofs.Common.{refl, ◌≡◌, ◌+◌, ◌^◌, ◌<◌, ◌≤◌, ◌&&◌, ◌||◌, ◌∷◌, [], ℕ, Bool, true, false, not, Option, Some, None, List, Result, Ok, Err, length, arith, cond, eqb, eqb-true, leb-true, nat_le, codes, decimal, is_some, ap, sym, ◌∙◌, inl, inr, ◌⊎◌, lit<, lit≤}
+use Rattle.std.proofs.Common.{refl, ◌≡◌, ◌^◌, ◌<◌, ◌≤◌, ◌&&◌, ◌||◌, ℕ, Bool, true, false, not, Option, Some, None, List, Ok, length, arith, cond, eqb, eqb-true, leb-true, nat_le, codes, decimal, is_some, ap, sym, ◌∙◌, inl, inr, ◌⊎◌, lit<}
 use Rattle.std.proofs.lemmas.Bool.{and_parts, not-false, or_cases}
 use Rattle.trace_record.specs.declared.stop.Stop.{Stop}
 use Rattle.trace_record.specs.declared.stop.Stop.TheVariants as stop
 use Rattle.trace_record.specs.declared.resume.Kind.{Kind}
 use Rattle.trace_record.specs.declared.resume.Kind.TheVariants as kind
 use Rattle.trace_record.specs.declared.resume.Resume.{Resume}
-use Rattle.trace_record.specs.declared.death.Death.{Death}
 use Rattle.trace_record.specs.declared.death.Death.TheVariants as death
-use Rattle.trace_record.specs.Stop.{IsStop}
-use Rattle.trace_record.specs.Death.{IsDeath}
 use Rattle.stop_board.specs.declared.roster.Row.{Row}
 use Rattle.stop_board.specs.declared.roster.RosterError.{RosterError}
 use Rattle.stop_board.specs.declared.roster.RosterError.TheVariants as fault
 use Rattle.stop_board.specs.Roster.{family_fault, fault_after, has_ids, is_id, is_root, parent_in, with_tid}
-use Rattle.tracer_cli.specs.declared.cause.Cause.{Cause}
 use Rattle.tracer_cli.specs.declared.command.Command.{Command}
 use Rattle.tracer_cli.specs.declared.command.Command.TheVariants as command
-use Rattle.tracer_cli.specs.declared.grammar.Line.{Line}
 use Rattle.tracer_cli.specs.declared.grammar.Line.TheVariants as line
-use Rattle.tracer_cli.specs.declared.grammar.Ending.TheVariants as ending
 use Rattle.tracer_cli.specs.declared.grammar.Numbered.{Numbered}
 use Rattle.tracer_cli.specs.declared.grammar.Numbered.TheVariants as numbered
 use Rattle.tracer_cli.specs.Command.{IsCommand}
-use Rattle.tracer_cli.specs.Grammar.{◌>>=◌, claim_line, exit_line, id_of, line_of, number_between, publish_numbered, publish_plain, resume_line, row_line, state_line, stop_of, death_of, plain_stop, numbered_stop, kind_of, ending_of}
-use Rattle.tracer_cli.specs.Spelling.{IsId, IsSpelled, command_words, death_words, kind_word, row_words, stop_words}
+use Rattle.tracer_cli.specs.Grammar.{◌>>=◌, claim_line, exit_line, id_of, line_of, number_between, publish_numbered, publish_plain, resume_line, row_line, state_line, stop_of, plain_stop, numbered_stop, kind_of}
+use Rattle.tracer_cli.specs.Spelling.{IsId, IsSpelled, command_words, kind_word, row_words}
 use Rattle.tracer_cli.proofs.Decimals.{decimal_between, decimal_is_word}
 use Rattle.tracer_cli.proofs.Spelled.{AreWords, is_word}
 

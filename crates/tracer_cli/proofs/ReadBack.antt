@@ -1,20 +1,18 @@
 -- A spelled content is read back, row by row and then order by order.
-use Rattle.std.proofs.Common.{refl, ◌≡◌, ◌+◌, ◌<◌, ◌≤◌, ◌++◌, ◌∷◌, [], ℕ, Bool, true, false, None, Some, Option, List, Result, Ok, Err, length, length-append, get_or, arith, cond, le-leb, lt-ltb, leb-true, append_assoc, append-nil, ap, sym, ◌∙◌}
+use Rattle.std.proofs.Common.{◌≡◌, ◌+◌, ◌<◌, ◌≤◌, ◌++◌, ◌∷◌, [], ℕ, Bool, true, false, None, Some, Option, List, Ok, length, length-append, arith, cond, le-leb, lt-ltb, append_assoc, append-nil, ap, sym, ◌∙◌}
 use Rattle.std.proofs.lemmas.List.Elements.{All-head, All-tail}
 use Rattle.std.specs.List.{All, join_with_byte}
 use Rattle.stop_board.specs.declared.roster.Row.{Row}
 use Rattle.stop_board.specs.declared.roster.RosterError.{RosterError}
-use Rattle.stop_board.specs.Roster.{IsRoster, fault_after, first_fault, row_at, row_of}
+use Rattle.stop_board.specs.Roster.{IsRoster, fault_after, first_fault, row_at}
 use Rattle.stop_board.proofs.Rosters.{few_rows, row_of-tid, tid_in_range}
-use Rattle.tracer_cli.specs.declared.cause.Cause.{Cause}
-use Rattle.tracer_cli.specs.declared.cause.CaseError.{CaseError}
 use Rattle.tracer_cli.specs.declared.command.Command.{Command}
 use Rattle.tracer_cli.specs.declared.order.Order.{Order}
 use Rattle.tracer_cli.specs.declared.grammar.Line.{Line}
 use Rattle.tracer_cli.specs.declared.grammar.Line.TheVariants as line
 use Rattle.tracer_cli.specs.Grammar.{◌>>=◌, line_of}
-use Rattle.tracer_cli.specs.Lines.{lines_of, words_of}
-use Rattle.tracer_cli.specs.File.{Content, content_after, content_of, has_begun, line_added, line_read, most_bytes, nothing, order_added, row_added, with_order, with_row}
+use Rattle.tracer_cli.specs.Lines.{lines_of}
+use Rattle.tracer_cli.specs.File.{Content, content_after, content_of, has_begun, line_added, line_read, most_bytes, order_added, row_added}
 use Rattle.tracer_cli.specs.Spelling.{IsContent, IsOrderOf, line_text, order_words, orders_text, row_words, rows_text, spelling}
 use Rattle.tracer_cli.proofs.LinesBack.{command_are_words, command_line_read, row_are_words, row_line_read, row_ranges}
 use Rattle.tracer_cli.proofs.LinesRead.{all_read, goes_on}

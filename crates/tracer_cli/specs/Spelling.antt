@@ -1,6 +1,6 @@
 -- A content as a file: one line for each row, then one for each order. Numbers are decimal, one space stands between
 -- words, and a line feed ends each line.
-use Rattle.std.specs.Prelude.{◌≡◌, ◌<◌, ◌≤◌, ◌++◌, ◌∷◌, [], ℕ, Bool, true, false, List, length, codes, decimal}
+use Rattle.std.specs.Prelude.{◌≡◌, ◌<◌, ◌≤◌, ◌++◌, ◌∷◌, [], ℕ, false, List, length, codes, decimal}
 use Rattle.std.specs.List.{All, join_with_byte}
 use Rattle.trace_record.specs.declared.stop.Stop.{Stop}
 use Rattle.trace_record.specs.declared.stop.Stop.TheVariants as stop

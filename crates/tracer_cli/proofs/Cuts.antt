@@ -35,7 +35,8 @@ split_nowhere p xs h =
     let past = nowhere p xs h in
     slice_split_none p xs (λ k d within. fails_before_first p xs k d (omega arith))
 
-keeps_first : (part : List ℕ) (parts : List (List ℕ)) → 0 < length parts → without_empty_end (part ∷ parts) ≡ part ∷ without_empty_end parts
+-- a part with others behind it stays, empty or not
+pub keeps_first : (part : List ℕ) (parts : List (List ℕ)) → 0 < length parts → without_empty_end (part ∷ parts) ≡ part ∷ without_empty_end parts
 keeps_first part [] some = absurd (omega arith)
 keeps_first part (next ∷ parts) some = refl
 

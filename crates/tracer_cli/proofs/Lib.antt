@@ -1,6 +1,10 @@
 pub mod Cuts
+pub mod Decimals
 pub mod Digits
+pub mod LinesBack
 pub mod LinesRead
+pub mod ReadBack
 pub mod RosterGrows
 pub mod SixWords
+pub mod Spelled
 pub mod Written

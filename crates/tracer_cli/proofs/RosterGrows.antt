@@ -4,7 +4,8 @@ use Rattle.stop_board.specs.declared.roster.Row.{Row}
 use Rattle.stop_board.specs.declared.roster.RosterError.{RosterError}
 use Rattle.stop_board.specs.Roster.{fault_after, first_fault, or_later}
 
-both_none : (first later : Option RosterError) → or_later first later ≡ None → (first ≡ None) × (later ≡ None)
+-- no fault of the one or the other
+pub both_none : (first later : Option RosterError) → or_later first later ≡ None → (first ≡ None) × (later ≡ None)
 both_none None later h = (refl, h)
 both_none (Some fault) later h = cc
 

@@ -7,3 +7,4 @@ pub mod Lines
 pub mod Numbers
 pub mod Replay
 pub mod Replies
+pub mod Spelling

@@ -7,6 +7,7 @@ mod command;
 mod entry;
 mod failure;
 mod grammar;
+mod laws;
 mod lines;
 mod numbers;
 mod order;
@@ -16,4 +17,5 @@ mod replies;
 
 pub use cause::{CaseError, Cause};
 pub use entry::program;
+pub use laws::what_is_spelled_is_read;
 pub use replay::replay_text;

@@ -1,0 +1,5 @@
+use Rattle.tracer_cli.proofs.ReadBack.{read_back}
+use Rattle.tracer_cli.proofs.laws.what_is_spelled_is_read.Goals as goal
+
+pub returns : goal.returns
+returns c = read_back

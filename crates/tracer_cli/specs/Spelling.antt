@@ -1,0 +1,110 @@
+-- A content as a file: one line for each row, then one for each order. Numbers are decimal, one space stands between
+-- words, and a line feed ends each line.
+use Rattle.std.specs.Prelude.{◌≡◌, ◌<◌, ◌≤◌, ◌++◌, ◌∷◌, [], ℕ, false, List, length, codes, decimal}
+use Rattle.std.specs.List.{All, join_with_byte}
+use Rattle.trace_record.specs.declared.stop.Stop.{Stop}
+use Rattle.trace_record.specs.declared.stop.Stop.TheVariants as stop
+use Rattle.trace_record.specs.declared.resume.Kind.{Kind}
+use Rattle.trace_record.specs.declared.resume.Kind.TheVariants as kind
+use Rattle.trace_record.specs.declared.death.Death.{Death}
+use Rattle.trace_record.specs.declared.death.Death.TheVariants as death
+use Rattle.stop_board.specs.declared.roster.Row.{Row}
+use Rattle.stop_board.specs.Roster.{IsRoster, row_at}
+use Rattle.tracer_cli.specs.declared.command.Command.{Command}
+use Rattle.tracer_cli.specs.declared.command.Command.TheVariants as command
+use Rattle.tracer_cli.specs.declared.order.Order.{Order}
+use Rattle.tracer_cli.specs.Command.{IsCommand}
+use Rattle.tracer_cli.specs.File.{Content, most_bytes}
+
+-- ---- words
+
+abbrev pub row_words : Row → List (List ℕ)
+row_words row = codes "row" ∷ decimal row.tid ∷ decimal row.tgid ∷ decimal row.pgid ∷ decimal row.parent ∷ []
+
+abbrev pub stop_words : Stop → List (List ℕ)
+stop_words stop.Start = codes "start" ∷ []
+stop_words stop.Enter = codes "enter" ∷ []
+stop_words stop.Exit = codes "exit" ∷ []
+stop_words (stop.Seccomp ret_data) = codes "seccomp" ∷ decimal ret_data ∷ []
+stop_words (stop.Fork child) = codes "fork" ∷ decimal child ∷ []
+stop_words (stop.Clone child) = codes "clone" ∷ decimal child ∷ []
+stop_words (stop.Exec former) = codes "exec" ∷ decimal former ∷ []
+stop_words (stop.Signal signal) = codes "signal" ∷ decimal signal ∷ []
+
+abbrev pub kind_word : Kind → List ℕ
+kind_word kind.Syscall = codes "syscall"
+kind_word kind.Cont = codes "cont"
+
+-- a file has no word for a core dump
+abbrev pub death_words : Death → List (List ℕ)
+death_words (death.Exited code) = codes "exited" ∷ decimal code ∷ []
+death_words (death.Signaled signal core) = codes "killed" ∷ decimal signal ∷ []
+
+abbrev pub command_words : (tid : ℕ) → Command → List (List ℕ)
+command_words tid (command.Publish stop) = codes "publish" ∷ decimal tid ∷ stop_words stop
+command_words tid (command.Claim tracer) = codes "claim" ∷ decimal tid ∷ decimal tracer ∷ []
+command_words tid (command.Resume tracer how) = codes "resume" ∷ decimal tid ∷ decimal tracer ∷ kind_word how.kind ∷ decimal how.signal ∷ []
+command_words tid (command.Exit death) = codes "exit" ∷ decimal tid ∷ death_words death
+command_words tid command.State = codes "state" ∷ decimal tid ∷ []
+
+-- an order names its row by the row's tid
+abbrev pub order_words : List Row → Order → List (List ℕ)
+order_words rows order = command_words (row_at rows order.row).tid order.command
+
+-- ---- lines
+
+-- words as a line
+abbrev pub line_text : List (List ℕ) → List ℕ
+line_text words = join_with_byte 32 words ++ 10 ∷ []
+
+abbrev pub rows_text : List Row → List ℕ
+rows_text [] = []
+rows_text (row ∷ rows) = line_text (row_words row) ++ rows_text rows
+
+abbrev pub orders_text : List Row → List Order → List ℕ
+orders_text rows [] = []
+orders_text rows (order ∷ orders) = line_text (order_words rows order) ++ orders_text rows orders
+
+abbrev pub spelling : Content → List ℕ
+spelling content = rows_text content.rows ++ orders_text content.rows content.orders
+
+-- ---- what can be spelled
+
+-- the id of a tracee
+abbrev pub IsId : ℕ → Type 0
+IsId number = (1 ≤ number) × (number ≤ 4194303)
+
+-- the ranges of a stop that a file can write, beside those of IsStop
+abbrev pub IsSpelledStop : Stop → Type 0
+IsSpelledStop stop.Start = Unit {0}
+IsSpelledStop stop.Enter = Unit {0}
+IsSpelledStop stop.Exit = Unit {0}
+IsSpelledStop (stop.Seccomp ret_data) = ret_data < 65536
+IsSpelledStop (stop.Fork child) = IsId child
+IsSpelledStop (stop.Clone child) = IsId child
+IsSpelledStop (stop.Exec former) = IsId former
+IsSpelledStop (stop.Signal signal) = Unit {0}
+
+abbrev pub IsSpelledDeath : Death → Type 0
+IsSpelledDeath (death.Exited code) = Unit {0}
+IsSpelledDeath (death.Signaled signal core) = core ≡ false
+
+-- the ranges of a command that a file can write, beside those of IsCommand
+abbrev pub IsSpelled : Command → Type 0
+IsSpelled (command.Publish stop) = IsSpelledStop stop
+IsSpelled (command.Claim tracer) = tracer ≤ 15
+IsSpelled (command.Resume tracer how) = tracer ≤ 15
+IsSpelled (command.Exit death) = IsSpelledDeath death
+IsSpelled command.State = Unit {0}
+
+-- an order to one of the rows
+pub record IsOrderOf (rows : List Row) (order : Order) : Type 0 where
+  pub there : order.row < length rows
+  pub in_range : IsCommand order.command
+  pub spelled : IsSpelled order.command
+
+-- what a file can say
+pub record IsContent (content : Content) : Type 0 where
+  pub roster : IsRoster content.rows
+  pub orders : All (IsOrderOf content.rows) content.orders
+  pub size : length (spelling content) ≤ most_bytes

@@ -10,7 +10,8 @@ use Rattle.stop_board.specs.declared.roster.RosterError.TheVariants as fault
 use Rattle.stop_board.specs.Roster.{IsChild, IsPlaced, is_id, IsRoster, fault_after, family_fault, first_fault, has_ids, is_child_of, is_leader, is_root, most_rows, nobody, or_later, parent_in, parent_of, rank_of, roster_fault, row_at, row_of, with_tid}
 use Rattle.stop_board.proofs.Places.{fails_each, first_place, found_in_front}
 
-both_none : (first later : Option RosterError) → or_later first later ≡ None → (first ≡ None) × (later ≡ None)
+-- of two faults, the first that there is
+pub both_none : (first later : Option RosterError) → or_later first later ≡ None → (first ≡ None) × (later ≡ None)
 both_none None later h = (refl, h)
 both_none (Some fault) later h = cc
 

@@ -5,7 +5,7 @@ use Rattle.std.specs.List.{All, join_with_byte}
 use Rattle.stop_board.specs.declared.roster.Row.{Row}
 use Rattle.stop_board.specs.declared.roster.RosterError.{RosterError}
 use Rattle.stop_board.specs.Roster.{IsRoster, fault_after, first_fault, row_at}
-use Rattle.stop_board.proofs.Rosters.{few_rows, row_of-tid, tid_in_range}
+use Rattle.stop_board.proofs.Rosters.{both_none, few_rows, row_of-tid, tid_in_range}
 use Rattle.tracer_cli.specs.declared.command.Command.{Command}
 use Rattle.tracer_cli.specs.declared.order.Order.{Order}
 use Rattle.tracer_cli.specs.declared.grammar.Line.{Line}
@@ -16,7 +16,6 @@ use Rattle.tracer_cli.specs.File.{Content, content_after, content_of, has_begun,
 use Rattle.tracer_cli.specs.Spelling.{IsContent, IsOrderOf, line_text, order_words, orders_text, row_words, rows_text, spelling}
 use Rattle.tracer_cli.proofs.LinesBack.{command_are_words, command_line_read, row_are_words, row_line_read, row_ranges}
 use Rattle.tracer_cli.proofs.LinesRead.{all_read, goes_on}
-use Rattle.tracer_cli.proofs.RosterGrows.{both_none}
 use Rattle.tracer_cli.proofs.Spelled.{AreWords, line_ended, words_in_line, words_joined}
 
 -- a spelled line is the first line, and its words are read

@@ -2,12 +2,8 @@
 use Rattle.std.proofs.Common.{refl, ◌≡◌, ◌++◌, ◌∷◌, [], List, Option, Some, None, append_assoc, append-nil, ap, sym, ◌∙◌}
 use Rattle.stop_board.specs.declared.roster.Row.{Row}
 use Rattle.stop_board.specs.declared.roster.RosterError.{RosterError}
+use Rattle.stop_board.proofs.Rosters.{both_none}
 use Rattle.stop_board.specs.Roster.{fault_after, first_fault, or_later}
-
--- no fault of the one or the other
-pub both_none : (first later : Option RosterError) → or_later first later ≡ None → (first ≡ None) × (later ≡ None)
-both_none None later h = (refl, h)
-both_none (Some fault) later h = cc
 
 none_both : (first later : Option RosterError) → first ≡ None → later ≡ None → or_later first later ≡ None
 none_both None later first_none later_none = later_none

@@ -68,6 +68,15 @@ fn a_file_is_replayed_from_standard_input(rt: HostRuntime) -> Result<(), Fail> {
 }
 
 #[test]
+fn a_file_that_is_named_is_read(rt: HostRuntime) -> Result<(), Fail> {
+    let ended = run_with(&rt, &["replay", "/dev/null"], &mut FILE)?;
+    assert_eq!(rt; ended.status, 0);
+    assert_eq!(rt; ended.output.as_slice(), [].as_slice());
+    assert_eq!(rt; ended.errors.as_slice(), [].as_slice());
+    Ok(())
+}
+
+#[test]
 fn a_refused_file_prints_its_line_and_cause_alone(rt: HostRuntime) -> Result<(), Fail> {
     let ended = run_with(
         &rt,

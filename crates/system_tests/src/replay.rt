@@ -169,6 +169,13 @@ fn no_file_has_more_than_64_rows(rt: HostRuntime) -> Result<(), Fail> {
         cause: Cause::TooMany,
     };
     assert_eq!(rt; refusal(&rt, file.as_bytes()), Some(many));
+    let mut file = roots(rt.alloc(), 64)?;
+    file.push_str("row 64 64 1 0\n")?;
+    let twice = CaseError {
+        line: 65,
+        cause: Cause::TwiceTracee,
+    };
+    assert_eq!(rt; refusal(&rt, file.as_bytes()), Some(twice));
     Ok(())
 }
 

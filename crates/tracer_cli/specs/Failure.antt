@@ -1,5 +1,9 @@
--- The exit status of each failure.
-use Rattle.std.specs.Prelude.{ℕ}
+-- The exit status of each failure, what is told of it on standard error, and the failure of a refused file.
+use Rattle.std.specs.Prelude.{◌++◌, ℕ, List, codes, string_bytes}
+use Rattle.tracer_cli.specs.declared.cause.Cause.{Cause}
+use Rattle.tracer_cli.specs.declared.cause.Cause.TheVariants as cause
+use Rattle.tracer_cli.specs.declared.cause.CaseError.{CaseError}
+use Rattle.tracer_cli.specs.CaseError.{refusal_text}
 use Rattle.tracer_cli.specs.declared.failure.Failure.{Failure}
 use Rattle.tracer_cli.specs.declared.failure.Failure.TheVariants.{Refused, Usage, NoMemory, CannotRead, CannotWrite}
 
@@ -9,3 +13,19 @@ failure_status (Usage text) = 2
 failure_status NoMemory = 3
 failure_status CannotRead = 3
 failure_status CannotWrite = 3
+
+-- messages end with a line feed
+abbrev pub failure_text : Failure → List ℕ
+failure_text (Refused error) = codes "tracer: " ++ (refusal_text error ++ codes "\n")
+failure_text (Usage text) = string_bytes text
+failure_text NoMemory = codes "tracer: no memory\n"
+failure_text CannotRead = codes "tracer: cannot read\n"
+failure_text CannotWrite = codes "tracer: cannot write\n"
+
+-- want of memory while a file is read is no refusal of the file
+abbrev pub failure_by : Cause → CaseError → Failure
+failure_by cause.NoMemory error = NoMemory
+failure_by other error = Refused error
+
+abbrev pub failure_of : CaseError → Failure
+failure_of error = failure_by error.cause error

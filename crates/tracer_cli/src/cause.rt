@@ -64,6 +64,11 @@ impl Cause {
 }
 
 impl fmt::Display for Cause {
+    ghost use Rattle.std.specs.Prelude.{Some};
+    ghost use Rattle.tracer_cli.specs.Cause.{cause_name};
+
+    ghost output = { λ cause. Some (cause_name cause) };
+
     fn fmt<W: fmt::Write>(&self, f: &mut fmt::Formatter<W>) -> fmt::Result {
         f.write_str(self.name())
     }
@@ -77,6 +82,11 @@ pub struct CaseError {
 }
 
 impl fmt::Display for CaseError {
+    ghost use Rattle.std.specs.Prelude.{Some};
+    ghost use Rattle.tracer_cli.specs.CaseError.{refusal_text};
+
+    ghost output = { λ error. Some (refusal_text error) };
+
     fn fmt<W: fmt::Write>(&self, f: &mut fmt::Formatter<W>) -> fmt::Result {
         let line = self.line;
         let cause = self.cause.name();

@@ -38,6 +38,11 @@ impl Failure {
 }
 
 impl fmt::Display for Failure {
+    ghost use Rattle.std.specs.Prelude.{Some};
+    ghost use Rattle.tracer_cli.specs.Failure.{failure_text};
+
+    ghost output = { λ failure. Some (failure_text failure) };
+
     fn fmt<W: fmt::Write>(&self, f: &mut fmt::Formatter<W>) -> fmt::Result {
         match self {
             Failure::Refused(error) => write!(f, "tracer: {error}\n"),
@@ -50,18 +55,30 @@ impl fmt::Display for Failure {
 }
 
 impl From<AllocError> for Failure {
+    ghost use Rattle.tracer_cli.specs.declared.failure.Failure.TheVariants as failure;
+
+    ghost from_gives = { λ _ e. e ≡ failure.NoMemory };
+
     fn from(_error: AllocError) -> Failure {
         Failure::NoMemory
     }
 }
 
 impl<T: Drop> From<AllocFailed<T>> for Failure {
+    ghost use Rattle.tracer_cli.specs.declared.failure.Failure.TheVariants as failure;
+
+    ghost from_gives = { λ _ e. e ≡ failure.NoMemory };
+
     fn from(_error: AllocFailed<T>) -> Failure {
         Failure::NoMemory
     }
 }
 
 impl From<CaseError> for Failure {
+    ghost use Rattle.tracer_cli.specs.Failure.{failure_of};
+
+    ghost from_gives = { λ error e. e ≡ failure_of error };
+
     fn from(error: CaseError) -> Failure {
         match error.cause {
             Cause::NoMemory => Failure::NoMemory,

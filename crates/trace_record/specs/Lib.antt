@@ -1,3 +1,4 @@
+pub mod Content
 pub mod Death
 pub mod Resume
 pub mod Stop

@@ -5,11 +5,13 @@ mod death;
 mod laws;
 mod resume;
 mod stop;
+mod stop_record;
 
 pub use death::Death;
 pub use laws::statuses_are_told;
 pub use resume::{Kind, Resume};
 pub use stop::Stop;
+pub use stop_record::StopRecord;
 
 #[cfg(test)]
 mod tests;

@@ -1,5 +1,6 @@
 use super::*;
-use trace_status::{WaitStatus, decode};
+use trace_regs::Regs;
+use trace_status::{Part, SyscallInfo, WaitStatus, decode};
 
 #[test]
 fn a_stop_decodes_as_its_name_says(rt: HostRuntime) {
@@ -53,4 +54,113 @@ fn a_death_decodes_as_its_name_says(rt: HostRuntime) {
 #[test]
 fn the_law_is_there() {
     statuses_are_told();
+}
+
+/// The registers of a call with its number and its arguments.
+const CALL: Regs = Regs {
+    r15: 0,
+    r14: 0,
+    r13: 0,
+    r12: 0,
+    rbp: 0,
+    rbx: 0,
+    r11: 0,
+    r10: 4,
+    r9: 6,
+    r8: 5,
+    rax: 3,
+    rcx: 99,
+    rdx: 3,
+    rsi: 2,
+    rdi: 1,
+    orig_rax: 60,
+    rip: 0x401002,
+    cs: 0,
+    eflags: 0,
+    rsp: 0x7ff000,
+    ss: 0,
+    fs_base: 0,
+    gs_base: 0,
+    ds: 0,
+    es: 0,
+    fs: 0,
+    gs: 0,
+};
+
+#[test]
+fn a_record_shows_its_stop(rt: HostRuntime) {
+    let args = [1, 2, 3, 4, 5, 6];
+    let entry = Part::Entry { nr: 60, args };
+    let seccomp = Part::Seccomp {
+        nr: 60,
+        args,
+        ret_data: 0xffff,
+    };
+    let exit = Part::Exit {
+        rval: 3,
+        is_error: false,
+    };
+    let mut record = StopRecord::empty(rt.alloc(), 9);
+    record.regs = CALL;
+    for (stop, raw, part, message) in [
+        (Stop::Start, 0x80057f, Part::Quiet, 0),
+        (Stop::Enter, 0x857f, entry, 0),
+        (Stop::Exit, 0x857f, exit, 0),
+        (Stop::Seccomp(0xffff), 0x7057f, seccomp, 0xffff),
+        (Stop::Fork(10), 0x1057f, Part::Quiet, 10),
+        (Stop::Clone(11), 0x3057f, Part::Quiet, 11),
+        (Stop::Exec(8), 0x4057f, Part::Quiet, 8),
+        (Stop::Signal(15), 0x0f7f, Part::Quiet, 0),
+    ] {
+        record.stop = stop;
+        assert_eq!(rt; record.status(), raw, "{stop:?}");
+        assert_eq!(rt; record.event_message(), message, "{stop:?}");
+        let info = SyscallInfo {
+            arch: 0xC000003E,
+            ip: 0x401002,
+            sp: 0x7ff000,
+            part,
+        };
+        assert_eq!(rt; record.info(), info, "{stop:?}");
+    }
+}
+
+#[test]
+fn the_last_4095_answers_are_errors(rt: HostRuntime) {
+    let mut record = StopRecord::empty(rt.alloc(), 9);
+    record.stop = Stop::Exit;
+    for (rax, rval, is_error) in [
+        (u64::MAX, -1, true),
+        (u64::MAX - 4094, -4095, true),
+        (u64::MAX - 4095, -4096, false),
+        (0, 0, false),
+    ] {
+        record.regs.rax = rax;
+        let part = Part::Exit { rval, is_error };
+        assert_eq!(rt; record.info().part, part, "{rax:#x}");
+    }
+}
+
+#[test]
+fn an_exit_stop_has_the_bytes_of_its_layout(rt: HostRuntime) {
+    let mut record = StopRecord::empty(rt.alloc(), 9);
+    record.stop = Stop::Exit;
+    record.regs = CALL;
+    let mut buffer = [0xaa; 33];
+    assert_eq!(rt; record.info().write_to(&mut buffer), 33);
+    let bytes = [
+        2, 0, 0, 0, 0x3e, 0, 0, 0xc0, 0x02, 0x10, 0x40, 0, 0, 0, 0, 0, 0, 0xf0, 0x7f, 0, 0, 0, 0,
+        0, 3, 0, 0, 0, 0, 0, 0, 0, 0,
+    ];
+    assert_eq!(rt; buffer, bytes);
+}
+
+#[test]
+fn an_empty_record_has_no_memory(rt: HostRuntime) {
+    let record = StopRecord::empty(rt.alloc(), 9);
+    assert_eq!(rt; record.tid, 9);
+    assert_eq!(rt; record.number, 0);
+    assert_eq!(rt; record.stop, Stop::Start);
+    assert_eq!(rt; record.regs, Regs::default());
+    assert_eq!(rt; record.memory.byte(0), None);
 }

@@ -1,1 +1,2 @@
+pub mod SyscallInfo
 pub mod WaitStatus

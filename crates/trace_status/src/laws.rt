@@ -1,6 +1,8 @@
 //! Laws of the definitions: each function is its contract alone.
 
-ghost use Rattle.std.specs.Prelude.{◌≡◌, ℕ};
+ghost use Rattle.std.specs.Prelude.{◌≡◌, ℕ, length};
+ghost use Rattle.trace_status.specs.SyscallInfo.{AreInPlace, info_bytes, layout};
+ghost use Rattle.trace_status.specs.declared.syscall_info.SyscallInfo.{SyscallInfo};
 ghost use Rattle.trace_status.specs.WaitStatus.{Encodes, pid_of};
 ghost use Rattle.trace_status.specs.declared.wait_status.WaitStatus.{WaitStatus};
 
@@ -10,4 +12,9 @@ pub fn one_to_one()
     ensures raw { (status : WaitStatus) (a b : ℕ) → Encodes status a → Encodes status b → a ≡ b }
     ensures status { (a b : WaitStatus) (raw : ℕ) →
         pid_of a ≡ pid_of b → Encodes a raw → Encodes b raw → a ≡ b }
+{}
+
+/// The fields of a syscall information's layout lie behind one another from its first byte to its last.
+pub fn fields_are_in_place()
+    ensures { (info : SyscallInfo) → AreInPlace 0 (layout info) (length (info_bytes info)) }
 {}

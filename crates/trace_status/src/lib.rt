@@ -1,10 +1,13 @@
 //! Wait statuses of traced threads: what wait(2) tells of a tracee, and the word that tells it.
 #![tactic(auto)]
 
+mod draft;
 mod laws;
+mod syscall_info;
 mod wait_status;
 
-pub use laws::one_to_one;
+pub use laws::{fields_are_in_place, one_to_one};
+pub use syscall_info::{Part, SyscallInfo};
 pub use wait_status::{WaitStatus, decode, encode};
 
 #[cfg(test)]

@@ -49,6 +49,107 @@ fn what_has_no_raw_value_is_refused(rt: HostRuntime) {
 }
 
 #[test]
-fn the_law_is_there() {
+fn the_laws_are_there() {
     one_to_one();
+    fields_are_in_place();
+}
+
+/// The information of a syscall-exit-stop whose call answered 3.
+const EXIT: SyscallInfo = SyscallInfo {
+    arch: 0xc000003e,
+    ip: 0x401002,
+    sp: 0x7ff000,
+    part: Part::Exit {
+        rval: 3,
+        is_error: false,
+    },
+};
+
+/// Its bytes, worked out by hand from the table of ptrace(2), `struct ptrace_syscall_info`.
+const EXIT_BYTES: [u8; 33] = [
+    2, 0, 0, 0, 0x3e, 0, 0, 0xc0, 0x02, 0x10, 0x40, 0, 0, 0, 0, 0, 0, 0xf0, 0x7f, 0, 0, 0, 0, 0, 3,
+    0, 0, 0, 0, 0, 0, 0, 0,
+];
+
+#[test]
+fn the_layout_is_cut_to_the_buffer(rt: HostRuntime) {
+    for long in [0, 24, 32, 33, 84] {
+        let mut buffer = [0xaa; 84];
+        assert_eq!(rt; EXIT.write_to(&mut buffer[..long]), 33, "{long}");
+        let cut = long.min(33);
+        assert_eq!(rt; &buffer[..cut], &EXIT_BYTES[..cut], "{long}");
+        for at in cut..84 {
+            assert_eq!(rt; buffer[at], 0xaa, "{long} {at}");
+        }
+    }
+}
+
+#[test]
+fn a_whole_layout_is_read(rt: HostRuntime) {
+    assert_eq!(rt; SyscallInfo::read(&EXIT_BYTES), Some(EXIT));
+}
+
+#[test]
+fn what_is_no_whole_layout_is_refused(rt: HostRuntime) {
+    assert_eq!(rt; SyscallInfo::read(&EXIT_BYTES[..32]), None);
+    let mut longer = [0; 34];
+    longer[..33].copy_from_slice(&EXIT_BYTES);
+    assert_eq!(rt; SyscallInfo::read(&longer), None);
+    let mut padded = EXIT_BYTES;
+    padded[1] = 1;
+    assert_eq!(rt; SyscallInfo::read(&padded), None);
+    let mut other = EXIT_BYTES;
+    other[32] = 2;
+    assert_eq!(rt; SyscallInfo::read(&other), None);
+    let mut entry = EXIT_BYTES;
+    entry[0] = 1;
+    assert_eq!(rt; SyscallInfo::read(&entry), None);
+}
+
+#[test]
+fn each_part_has_its_length(rt: HostRuntime) {
+    let args = [1, 2, 3, 4, 5, u64::MAX];
+    for (part, op, long) in [
+        (Part::Quiet, 0, 24),
+        (Part::Entry { nr: 60, args }, 1, 80),
+        (
+            Part::Exit {
+                rval: -1,
+                is_error: true,
+            },
+            2,
+            33,
+        ),
+        (
+            Part::Seccomp {
+                nr: 60,
+                args,
+                ret_data: 0x12345,
+            },
+            3,
+            84,
+        ),
+    ] {
+        let info = SyscallInfo { part, ..EXIT };
+        let mut buffer = [0; 84];
+        assert_eq!(rt; info.write_to(&mut buffer), long, "{part:?}");
+        assert_eq!(rt; buffer[0], op, "{part:?}");
+        assert_eq!(rt; SyscallInfo::read(&buffer[..long]), Some(info), "{part:?}");
+    }
+}
+
+#[test]
+fn a_seccomp_stop_fills_a_short_buffer(rt: HostRuntime) {
+    let info = SyscallInfo {
+        part: Part::Seccomp {
+            nr: 0x3c,
+            args: [7, 0, 0, 0, 0, 0],
+            ret_data: 9,
+        },
+        ..EXIT
+    };
+    let mut buffer = [0xaa; 33];
+    assert_eq!(rt; info.write_to(&mut buffer), 84);
+    assert_eq!(rt; &buffer[..4], [3, 0, 0, 0].as_slice());
+    assert_eq!(rt; &buffer[24..33], [0x3c, 0, 0, 0, 0, 0, 0, 0, 7].as_slice());
 }

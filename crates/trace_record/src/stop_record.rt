@@ -1,0 +1,103 @@
+//! The record of a stop: what a tracer that claims the stop is shown.
+//!
+//! A record is moved from the tracee to the tracer and back, never copied: its memory is the tracee's.
+
+ghost use Rattle.std.specs.Prelude.{◌≡◌};
+ghost use Rattle.trace_record.specs.Content.{content_by, empty_content, info_of, message_of};
+ghost use Rattle.trace_record.specs.Stop.{stop_status};
+
+use crate::stop::Stop;
+use std::alloc::{Allocator, Global};
+use trace_pages::Memory;
+use trace_regs::Regs;
+use trace_status::{Part, SyscallInfo};
+
+/// The architecture of x86-64 (`<linux/audit.h>`, `AUDIT_ARCH_X86_64`).
+const ARCH: u32 = 0xC000003E;
+
+/// A stop of a tracee, with its registers and its memory there.
+#[derive(Drop)]
+pub struct StopRecord<A: Allocator = Global> {
+    /// The thread id of the tracee.
+    pub tid: u32,
+    /// The number of the stop.
+    pub number: u32,
+    pub stop: Stop,
+    pub regs: Regs,
+    pub memory: Memory<A>,
+}
+
+impl<A: Allocator + Copy> StopRecord<A> {
+    /// The record of a tracee that has made no stop: number 0, registers 0, no memory.
+    pub fn empty(alloc: A, tid: u32) -> StopRecord<A>
+        ensures { content_by result.tid result.number result.stop result.regs result.memory ≡ empty_content tid }
+    {
+        StopRecord {
+            tid,
+            number: 0,
+            stop: Stop::Start,
+            regs: Regs::default(),
+            memory: Memory::new(alloc),
+        }
+    }
+}
+
+impl<A: Allocator> StopRecord<A> {
+    /// The raw wait status that tells the stop.
+    pub fn status(&self) -> u32
+        ensures { result ≡ stop_status self.now.stop }
+    {
+        self.stop.status()
+    }
+
+    /// What `PTRACE_GET_SYSCALL_INFO` tells of the stop (ptrace(2)).
+    pub fn info(&self) -> SyscallInfo
+        ensures { result ≡ info_of self.now.stop self.now.regs }
+    {
+        SyscallInfo {
+            arch: ARCH,
+            ip: self.regs.rip,
+            sp: self.regs.rsp,
+            part: part_at(self.stop, &self.regs),
+        }
+    }
+
+    /// The event message of the stop, or 0 where it has none (ptrace(2), `PTRACE_GETEVENTMSG`).
+    pub fn event_message(&self) -> u64
+        ensures { result ≡ message_of self.now.stop }
+    {
+        match self.stop {
+            Stop::Fork(child) | Stop::Clone(child) => u64::from(child),
+            Stop::Exec(former) => u64::from(former),
+            Stop::Seccomp(ret_data) => u64::from(ret_data),
+            _ => 0,
+        }
+    }
+}
+
+ghost use Rattle.trace_record.specs.Content.{part_of};
+
+/// What the kind of a stop adds to its information.
+fn part_at(stop: Stop, regs: &Regs) -> Part
+    ensures { result ≡ part_of stop regs.now }
+{
+    match stop {
+        Stop::Enter => Part::Entry {
+            nr: regs.nr(),
+            args: regs.args(),
+        },
+        Stop::Exit => {
+            let rval = regs.rax.cast_signed();
+            Part::Exit {
+                rval,
+                is_error: (-4095..0).contains(&rval),
+            }
+        }
+        Stop::Seccomp(ret_data) => Part::Seccomp {
+            nr: regs.nr(),
+            args: regs.args(),
+            ret_data: u32::from(ret_data),
+        },
+        _ => Part::Quiet,
+    }
+}

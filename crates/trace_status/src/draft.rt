@@ -1,0 +1,63 @@
+//! The bytes of a layout while they are put together.
+
+ghost use Rattle.std.specs.Prelude.{◌≡◌, ◌+◌, ◌≤◌, [], ◌++◌, length};
+ghost use Rattle.std.specs.Int.{w64, to_le_bytes};
+
+use std::marker::Model;
+
+/// How many bytes the longest layout has.
+const MOST: usize = 84;
+
+/// The bytes so far, at most 84.
+#[derive(Drop)]
+pub struct Draft {
+    bytes: [u8; 84],
+    len: usize,
+}
+
+impl Model for Draft {
+    ghost use Rattle.std.specs.Prelude.{ℕ, ◌≤◌, List, take};
+
+    ghost Value = { List ℕ };
+
+    ghost view = { λ d. take d.len d.bytes };
+
+    ghost invariant = { λ d. d.len ≤ 84 };
+}
+
+impl Draft {
+    /// No bytes.
+    pub fn new() -> Draft
+        ensures { result ≡ [] }
+    {
+        Draft {
+            bytes: [0; MOST],
+            len: 0,
+        }
+    }
+
+    /// Puts a piece behind the bytes.
+    pub fn push(&mut self, piece: &[u8])
+        requires { length self.old + length piece.now ≤ 84 }
+        ensures { self.new ≡ self.old ++ piece.now }
+    {
+        let end = self.len + piece.len();
+        self.bytes[self.len..end].copy_from_slice(piece);
+        self.len = end;
+    }
+
+    /// Puts the bytes of a word behind the bytes.
+    pub fn push_word(&mut self, word: u64)
+        requires { length self.old + 8 ≤ 84 }
+        ensures { self.new ≡ self.old ++ to_le_bytes w64 word }
+    {
+        self.push(&word.to_le_bytes());
+    }
+
+    /// The bytes.
+    pub fn as_slice(&self) -> &[u8]
+        ensures { result.now ≡ self.now }
+    {
+        &self.bytes[..self.len]
+    }
+}

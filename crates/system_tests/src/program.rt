@@ -26,6 +26,16 @@ impl Write for Broken {
     }
 }
 
+/// A stream whose reader finds no memory.
+#[derive(Drop)]
+struct Exhausted;
+
+impl Read for Exhausted {
+    fn read(&mut self, _buffer: &mut [u8]) -> io::Result<usize> {
+        Err(io::Error::from(ErrorKind::OutOfMemory))
+    }
+}
+
 /// How a run ended, and what it wrote.
 #[derive(Debug, Drop)]
 struct Ended {
@@ -137,6 +147,30 @@ fn what_cannot_be_read_is_told(rt: HostRuntime) -> Result<(), Fail> {
     assert_eq!(rt; broken.status, 3);
     assert_eq!(rt; broken.output.as_slice(), [].as_slice());
     assert_eq!(rt; broken.errors.as_slice(), told);
+    Ok(())
+}
+
+#[test]
+fn want_of_memory_is_told_apart_from_a_failed_read(rt: HostRuntime) -> Result<(), Fail> {
+    let ended = run_with(&rt, &["replay"], &mut Exhausted)?;
+    assert_eq!(rt; ended.status, 3);
+    assert_eq!(rt; ended.output.as_slice(), [].as_slice());
+    assert_eq!(rt;
+        ended.errors.as_slice(),
+        b"tracer: no memory\n".as_slice()
+    );
+    Ok(())
+}
+
+#[test]
+fn a_file_without_an_end_is_read_no_further_than_it_may_go(rt: HostRuntime) -> Result<(), Fail> {
+    let ended = run_with(&rt, &["replay", "/dev/zero"], &mut FILE)?;
+    assert_eq!(rt; ended.status, 1);
+    assert_eq!(rt; ended.output.as_slice(), [].as_slice());
+    assert_eq!(rt;
+        ended.errors.as_slice(),
+        b"tracer: line 1: TooMany\n".as_slice()
+    );
     Ok(())
 }
 

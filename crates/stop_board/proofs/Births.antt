@@ -1,5 +1,5 @@
 -- A child is born exactly where its rank is below its parent's births.
-use Rattle.std.proofs.Common.{refl, ◌≡◌, ◌≢◌, ◌+◌, ◌<◌, ◌≤◌, ◌∷◌, [], ℕ, Bool, true, false, ◌&&◌, ◌||◌, Some, None, Option, List, length, is_some, arith, ◌∙◌, sym, ap, inl, inr, cond, eqb, eqb-true, eq-eqb, ne_eqb, ltb, nat_lt, ltb-true, lt-ltb, le-ltb, if◌then◌else◌}
+use Rattle.std.proofs.Common.{refl, ◌≡◌, ◌≢◌, ◌+◌, ◌<◌, ◌∷◌, [], ℕ, Bool, true, false, ◌||◌, Some, None, Option, List, length, is_some, arith, ◌∙◌, sym, ap, inl, inr, eqb, eqb-true, eq-eqb, ne_eqb, nat_lt, lt-ltb, le-ltb, if◌then◌else◌}
 use Rattle.std.specs.List.{list_any}
 use Rattle.std.proofs.lemmas.Bool.{and_parts, cases_eq}
 use Rattle.std.proofs.lemmas.Bool.Decides.{eqb_tells, nat_tests}
@@ -9,7 +9,7 @@ use Rattle.stop_board.specs.Event as event
 use Rattle.stop_board.specs.Event.{Event, History, events_of, subject}
 use Rattle.stop_board.specs.Roster.{IsRoster, parent_of, rank_of, row_at, row_of}
 use Rattle.stop_board.specs.State.{is_birth, names}
-use Rattle.stop_board.specs.History.{Fits, IsLegal, births_in, births_after, is_next_child, names_next}
+use Rattle.stop_board.specs.History.{IsLegal, births_after, is_next_child, names_next}
 use Rattle.stop_board.proofs.Events.{claim_births, exit_births, resume_births}
 use Rattle.stop_board.proofs.Rosters.{parent_of-Some, row_of-Some, row_of-tid, same_rank}
 

@@ -1,20 +1,20 @@
 -- A parent's births are as many as its children that are born.
-use Rattle.std.proofs.Common.{refl, ◌≡◌, ◌≢◌, ◌+◌, ◌<◌, ◌≤◌, ◌∷◌, ◌++◌, [], ℕ, zero, suc, Bool, true, false, ◌&&◌, ◌||◌, Some, None, Option, List, length, is_some, min, arith, ◌∙◌, sym, ap, inl, inr, cond, count_by, take, eqb, eqb-true, eq-eqb, ne_eqb, nat_lt, ltb-true, lt-ltb, le-ltb, if◌then◌else◌, get_or, add-one, subst, take_all, zero-add}
-use Rattle.std.specs.List.{list_any, range_with_len}
+use Rattle.std.proofs.Common.{refl, ◌≡◌, ◌+◌, ◌-◌, ◌<◌, ◌≤◌, ◌∷◌, [], ℕ, zero, suc, Bool, true, false, Some, None, Option, List, length, is_some, min, arith, ◌∙◌, sym, ap, inl, inr, cond, count_by, take, eqb, eqb-true, eq-eqb, ne_eqb, nat_lt, lt-ltb, le-ltb, if◌then◌else◌, get_or, add-one, subst, take_all, zero-add}
+use Rattle.std.specs.List.{range_with_len}
 use Rattle.std.proofs.lemmas.Bool.{and_parts, cases_Bool, cases_lt}
-use Rattle.std.proofs.lemmas.Bool.Decides.{eqb_tells, nat_tests}
+use Rattle.std.proofs.lemmas.Bool.Decides.{eqb_tells}
 use Rattle.std.proofs.lemmas.List.Sums.{count_by_more_no, count_by_more_yes, sum_by_more_le}
 use Rattle.std.proofs.lemmas.List.FromFn.{get_or-range_with_len, length-range_with_len}
 use Rattle.trace_record.specs.Stop.{child_of}
 use Rattle.stop_board.specs.declared.roster.Row.{Row}
 use Rattle.stop_board.specs.Event as event
 use Rattle.stop_board.specs.Event.{Event, History, events_of, subject}
-use Rattle.stop_board.specs.Roster.{IsRoster, nobody, parent_of, rank_of, row_at, row_of, is_root}
+use Rattle.stop_board.specs.Roster.{IsRoster, most_rows, nobody, parent_of, rank_of, row_at, row_of}
 use Rattle.stop_board.specs.State.{is_born, is_borne}
-use Rattle.stop_board.specs.History.{Fits, IsLegal, births_in, births_after, is_born_child, is_of_parent, is_next_child, names_next}
+use Rattle.stop_board.specs.History.{IsLegal, births_after, is_born_child, is_of_parent, is_next_child, names_next}
 use Rattle.stop_board.proofs.Births.{born_by_rank}
 use Rattle.stop_board.proofs.Events.{claim_births, exit_births, resume_births}
-use Rattle.stop_board.proofs.Rosters.{no_root, parent_of-Some, row_of-Some, row_of-tid, tid_in_range}
+use Rattle.stop_board.proofs.Rosters.{few_rows, no_root, parent_of-Some, row_of-Some, row_of-tid, tid_in_range}
 
 -- how many of some rows have a parent of this tid
 abbrev pub children : ℕ → List Row → ℕ
@@ -71,6 +71,48 @@ births_are_few rows (event.Publish at number stop ∷ h) legal parent =
 births_are_few rows (event.Claim at number tracer ∷ h) legal parent = rw claim_births (births_are_few rows h legal.1 parent)
 births_are_few rows (event.Resume at number how tracer ∷ h) legal parent = rw resume_births (births_are_few rows h legal.1 parent)
 births_are_few rows (event.Exit at death ∷ h) legal parent = rw exit_births (births_are_few rows h legal.1 parent)
+
+-- ---- a row has fewer children than there are rows, since the first row is nobody's child
+
+first_is_root : (rows : List Row) → IsRoster rows → 0 < length rows → (row_at rows 0).parent ≡ 0
+first_is_root rows roster within =
+    elim (parent_of rows 0) as (λ o. parent_of rows 0 ≡ o → (row_at rows 0).parent ≡ 0) [
+      | None ↦ λ none. eqb-true (row_at rows 0).parent 0 (no_root rows roster 0 within none)
+      | Some parent ↦ λ found. absurd (omega (arith, (parent_of-Some rows roster 0 parent within found).before))
+    ] refl
+
+few_so_far : (rows : List Row) (tid : ℕ) → 1 ≤ tid → (row_at rows 0).parent ≡ 0 → (n : ℕ) → n < length rows → children tid (take (n + 1) rows) ≤ n
+few_so_far rows tid some root zero within =
+    let other : eqb (row_at rows 0).parent tid ≡ false = ne_eqb _ _ (λ same. absurd (omega arith)) in
+    let none : children tid (take (0 + 1) rows) ≡ children tid (take 0 rows) = count_by_more_no (λ (q : Row). eqb q.parent tid) rows 0 nobody within other in
+    omega arith
+few_so_far rows tid some root (suc n) within =
+    let before : children tid (take (n + 1) rows) ≤ n = few_so_far rows tid some root n (omega arith) in
+    let test : Row → Bool = λ q. eqb q.parent tid in
+    let Few : ℕ → Type 0 = λ k. children tid (take (k + 1) rows) ≤ k in
+    subst Few (add-one n) (
+    elim (cases_Bool (test (row_at rows (n + 1)))) [
+      | inl passes ↦ let more : count_by test (take ((n + 1) + 1) rows) ≡ count_by test (take (n + 1) rows) + 1 = count_by_more_yes test rows (n + 1) nobody (omega arith) passes in omega arith
+      | inr fails ↦ let same : count_by test (take ((n + 1) + 1) rows) ≡ count_by test (take (n + 1) rows) = count_by_more_no test rows (n + 1) nobody (omega arith) fails in omega arith
+    ])
+
+pub few_children : (rows : List Row) → IsRoster rows → (row : ℕ) → row < length rows → children (row_at rows row).tid rows < length rows
+few_children rows roster row within =
+    let last : ℕ = length rows - 1 in
+    let some = (tid_in_range rows roster row within).0 in
+    let counted = few_so_far rows (row_at rows row).tid some (first_is_root rows roster (omega arith)) last (omega arith) in
+    let whole : take (last + 1) rows ≡ rows = take_all (last + 1) rows (omega arith) in
+    let all : children (row_at rows row).tid rows ≤ last = rw whole at counted in
+    omega arith
+
+-- a row that bears its next child has borne less than 63
+pub next_is_few : (rows : List Row) → IsRoster rows → (parent births : ℕ) → parent < length rows → (tid : ℕ) → is_next_child rows parent births (row_of rows tid) ≡ true
+    → births + 1 < most_rows
+next_is_few rows roster parent births within tid next =
+    let room = room_for_next rows parent births (row_of rows tid) tid refl next in
+    let children = few_children rows roster parent within in
+    let few = few_rows rows roster in
+    omega arith
 
 -- ---- the born children of the first rows
 

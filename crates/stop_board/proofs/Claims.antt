@@ -1,12 +1,11 @@
 -- A legal history has at most one claim for each publish.
-use Rattle.std.proofs.Common.{refl, ◌≡◌, ◌≢◌, ◌+◌, ◌<◌, ◌≤◌, ◌∷◌, ◌++◌, [], ℕ, Bool, true, false, List, arith, ◌∙◌, sym, ap, inl, inr, cond, eqb, eqb-true, ne_eqb, if◌then◌else◌}
-use Rattle.std.proofs.lemmas.Bool.Decides.{eqb_tells}
+use Rattle.std.proofs.Common.{refl, ◌≡◌, ◌+◌, ◌<◌, ◌≤◌, ◌∷◌, ◌++◌, [], ℕ, Bool, true, false, List, arith, ◌∙◌, sym, ap, inl, inr, cond, eqb, eqb-true}
 use Rattle.std.proofs.lemmas.Bool.{cases_Bool}
 use Rattle.stop_board.specs.declared.roster.Row.{Row}
 use Rattle.stop_board.specs.Event as event
 use Rattle.stop_board.specs.Event.{Event, History, events_of, subject}
 use Rattle.stop_board.specs.State.{number_in, last_number}
-use Rattle.stop_board.specs.History.{Fits, IsLegal, is_just_published, stop_claims_in}
+use Rattle.stop_board.specs.History.{IsLegal, is_just_published, stop_claims_in}
 
 -- a legal history stays legal when its newest events are dropped
 pub legal_end : (rows : List Row) (more h : History) → IsLegal rows (more ++ h) → IsLegal rows h

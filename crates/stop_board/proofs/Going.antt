@@ -1,5 +1,5 @@
 -- How a history goes on by a call that is answered: the event fits, and the words stand at the longer history.
-use Rattle.std.proofs.Common.{refl, ◌≡◌, ◌≢◌, ◌+◌, ◌<◌, ◌≤◌, ◌∷◌, [], ℕ, Bool, true, false, ◌||◌, ◌⊎◌, Some, None, Option, Ok, Err, Result, List, length, get_or, set, slice_get, is_some, arith, ◌∙◌, sym, ap, inl, inr, cond, eqb, eqb-true, nat_lt, ltb-true, lt-ltb, le-ltb, not, if◌then◌else◌, slice_set, get_or-set_same, get_or-set_other, length-set}
+use Rattle.std.proofs.Common.{refl, ◌≡◌, ◌≢◌, ◌+◌, ◌<◌, ◌∷◌, [], ℕ, Bool, true, false, ◌||◌, ◌⊎◌, Some, None, Option, Ok, Err, Result, List, length, set, slice_get, arith, ◌∙◌, sym, ap, inl, inr, cond, nat_lt, ltb-true, lt-ltb, le-ltb, not, if◌then◌else◌, slice_set, get_or-set_same, get_or-set_other, length-set}
 use Rattle.std.specs.List.{list_any}
 use Rattle.std.proofs.lemmas.Bool.{cases_eq, cases_lt}
 use Rattle.std.proofs.lemmas.Bool.Decides.{eqb_tells}
@@ -13,17 +13,17 @@ use Rattle.stop_board.specs.declared.refused.Refused.TheVariants as refused
 use Rattle.stop_board.specs.declared.board.Got.{Got}
 use Rattle.stop_board.specs.declared.state.State.{State}
 use Rattle.stop_board.specs.declared.state.State.TheVariants as state
-use Rattle.stop_board.specs.declared.word.Word.{Word}
-use Rattle.stop_board.specs.declared.word.Phase.{Phase}
-use Rattle.stop_board.specs.declared.word.Phase.TheVariants as phase
+use Rattle.stop_board.specs.Word.{Word}
+use Rattle.stop_board.specs.declared.phase.Phase.{Phase}
+use Rattle.stop_board.specs.declared.phase.Phase.TheVariants as phase
 use Rattle.stop_board.specs.Event as event
 use Rattle.stop_board.specs.Event.{Event, History, events_of, subject}
 use Rattle.stop_board.specs.Roster.{IsRoster, parent_of, row_at}
 use Rattle.stop_board.specs.State.{claimed_state, is_birth, is_borne, is_born, is_waitable, state_after, state_in, last_number, number_in}
-use Rattle.stop_board.specs.History.{Fits, IsLegal, births_after, bears_next, holding_back, most_stops}
+use Rattle.stop_board.specs.History.{Fits, births_after, bears_next, holding_back, most_stops}
 use Rattle.stop_board.specs.Sequential.{and_then, claim_answer, claim_by, claim_state, exit_answer, exit_by, goes_on, most_tracers, publish_answer, publish_by, resume_answer, resume_by, resume_state, running_by, unless_held}
 use Rattle.stop_board.specs.Step.{claimed, claimed_by, died, published, restarted, with_word}
-use Rattle.stop_board.specs.Word.{claimed_phase, opening, phase_in, state_by, word_after, word_at, word_in}
+use Rattle.stop_board.specs.Word.{claimed_phase, phase_in, state_by, word_after, word_at, word_in}
 use Rattle.stop_board.specs.Standing.{AreAt, none_taken}
 use Rattle.stop_board.proofs.Events.{own_events, other_events}
 use Rattle.stop_board.proofs.Standing.{held_state, held_word}

@@ -8,3 +8,4 @@ pub mod Rosters
 pub mod Search
 pub mod Settled
 pub mod Standing
+pub mod Words

@@ -1,5 +1,5 @@
 -- The first place of a list that passes a test, from what `find` says of a front of the list.
-use Rattle.std.proofs.Common.{◌≡◌, ◌≢◌, ◌<◌, ◌≤◌, ℕ, Bool, true, false, Some, None, List, length, get_or, take, position, find, slice_get, arith, ◌∙◌, sym, ap, get_or-take, length-take, min, ltb, inl, inr, ltb-true, lt-ltb, cond}
+use Rattle.std.proofs.Common.{◌≡◌, ◌<◌, ℕ, Bool, true, false, Some, None, List, length, get_or, take, position, find, slice_get, arith, ◌∙◌, sym, ap, get_or-take, length-take, min, ltb, inl, inr, lt-ltb, cond}
 use Rattle.std.specs.List.{position_or_len}
 use Rattle.std.proofs.lemmas.Bool.{cases_lt}
 use Rattle.std.proofs.lemmas.List.Folds.{find_at}

@@ -1,13 +1,12 @@
 -- What the rows of a roster have to do with each other.
-use Rattle.std.proofs.Common.{refl, ◌≡◌, ◌≢◌, ◌+◌, ◌<◌, ◌≤◌, ◌++◌, ◌∷◌, [], ℕ, zero, suc, Bool, true, false, not, ◌&&◌, ◌||◌, Some, None, Option, List, length, get_or, take, find, position, is_some, arith, take-take, get_or-take, length-take, min, ◌∙◌, sym, ap, inl, inr, append_assoc, append-nil, eqb, eqb-true, eq-eqb, nat_le, if◌then◌else◌, le-leb, leb-true, cond, count_by}
+use Rattle.std.proofs.Common.{refl, ◌≡◌, ◌+◌, ◌<◌, ◌≤◌, ◌++◌, ◌∷◌, [], ℕ, zero, suc, Bool, true, false, not, ◌&&◌, ◌||◌, Some, None, Option, List, length, take, is_some, arith, take-take, get_or-take, length-take, min, ◌∙◌, sym, ap, inl, inr, append_assoc, append-nil, eqb, eqb-true, eq-eqb, nat_le, if◌then◌else◌, leb-true, cond, count_by}
 use Rattle.std.proofs.lemmas.Bool.{and_parts, cases_Bool, cases_order, not-false, or_cases}
 use Rattle.std.proofs.lemmas.List.Quantifiers.{position-Some}
 use Rattle.std.proofs.lemmas.List.Sums.{count_by_more_yes, sum_by-take-le}
-use Rattle.std.proofs.lemmas.Option.{slice_get-get_or}
 use Rattle.stop_board.specs.declared.roster.Row.{Row}
 use Rattle.stop_board.specs.declared.roster.RosterError.{RosterError}
 use Rattle.stop_board.specs.declared.roster.RosterError.TheVariants as fault
-use Rattle.stop_board.specs.Roster.{IsChild, IsPlaced, is_id, IsRoster, fault_after, family_fault, first_fault, has_ids, is_child_of, is_leader, is_root, most_rows, nobody, or_later, parent_in, parent_of, rank_of, roster_fault, row_at, row_of, with_tid}
+use Rattle.stop_board.specs.Roster.{IsChild, IsPlaced, is_id, IsRoster, fault_after, family_fault, first_fault, has_ids, is_child_of, is_leader, is_root, most_rows, nobody, or_later, parent_in, parent_of, rank_of, row_at, row_of, with_tid}
 use Rattle.stop_board.proofs.Places.{fails_each, first_place, found_in_front}
 
 -- of two faults, the first that there is

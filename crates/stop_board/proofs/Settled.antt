@@ -1,15 +1,13 @@
 -- A settled row stays settled as the history goes on without the row that it is settled beside.
-use Rattle.std.proofs.Common.{refl, ◌≡◌, ◌≢◌, ◌+◌, ◌<◌, ◌≤◌, ◌∷◌, ◌++◌, [], ℕ, Bool, true, false, ◌||◌, ◌&&◌, ◌⊎◌, List, Option, Some, None, length, arith, ◌∙◌, sym, ap, inl, inr, cond, eqb, eqb-true, ne_eqb, nat_lt, subst, lt-ltb, le-ltb, if◌then◌else◌}
+use Rattle.std.proofs.Common.{refl, ◌≡◌, ◌≢◌, ◌<◌, ◌∷◌, ◌++◌, [], ℕ, Bool, true, false, ◌||◌, ◌⊎◌, List, Option, Some, length, arith, ◌∙◌, sym, ap, inl, inr, ne_eqb, subst, lt-ltb}
 use Rattle.std.specs.List.{list_any}
-use Rattle.std.proofs.lemmas.Bool.{cases_eq, cases_lt}
-use Rattle.trace_record.specs.Stop.{child_of}
+use Rattle.std.proofs.lemmas.Bool.{cases_eq}
 use Rattle.stop_board.specs.declared.roster.Row.{Row}
-use Rattle.stop_board.specs.declared.state.State.{State}
 use Rattle.stop_board.specs.declared.state.State.TheVariants as state
 use Rattle.stop_board.specs.Event as event
 use Rattle.stop_board.specs.Event.{Event, History, events_of, subject}
 use Rattle.stop_board.specs.Roster.{parent_of, row_at}
-use Rattle.stop_board.specs.State.{claimed_state, is_birth, is_borne, is_born, is_ended, is_waitable, names, number_in, state_after, state_in}
+use Rattle.stop_board.specs.State.{claimed_state, is_birth, is_borne, is_born, is_ended, is_waitable, number_in, state_after, state_in}
 use Rattle.stop_board.specs.History.{Fits, IsLegal, IsSettled, IsSilent, ended, unborn_below, unborn_beside}
 use Rattle.stop_board.proofs.Events.{own_events, other_events}
 use Rattle.stop_board.proofs.Going.{present}

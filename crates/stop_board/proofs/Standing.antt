@@ -1,22 +1,16 @@
 -- Words that stand at a history: what they show, and how they go on with an event.
-use Rattle.std.proofs.Common.{refl, ◌≡◌, ◌≢◌, ◌+◌, ◌<◌, ◌≤◌, ◌∷◌, [], ℕ, Bool, true, false, ◌||◌, Some, None, Option, Ok, Err, Result, List, length, get_or, set, slice_get, is_some, EachIndex, arith, ◌∙◌, sym, ap, inl, inr, cond, eqb, eqb-true, eq-eqb, ne_eqb, ltb, nat_lt, ltb-true, lt-ltb, le-ltb, not, if◌then◌else◌, slice_set, find}
-use Rattle.std.specs.List.{list_any, range_with_len}
-use Rattle.std.proofs.lemmas.Bool.{and_parts, cases_eq, cases_lt}
-use Rattle.std.proofs.lemmas.Option.{get_or_from_slice_get, slice_get-get_or}
-use Rattle.trace_record.specs.declared.stop.Stop.{Stop}
-use Rattle.trace_record.specs.Stop.{child_of}
+use Rattle.std.proofs.Common.{refl, ◌≡◌, ◌<◌, ◌∷◌, [], ℕ, Bool, true, false, Some, None, Option, List, length, arith, ◌∙◌, sym, ap, inl, inr, cond, nat_lt, lt-ltb, le-ltb}
+use Rattle.std.proofs.lemmas.Bool.{cases_lt}
+use Rattle.std.proofs.lemmas.Option.{get_or_from_slice_get}
 use Rattle.stop_board.specs.declared.roster.Row.{Row}
-use Rattle.stop_board.specs.declared.refused.Refused.{Refused}
-use Rattle.stop_board.specs.declared.state.State.{State}
 use Rattle.stop_board.specs.declared.state.State.TheVariants as state
-use Rattle.stop_board.specs.declared.word.Word.{Word}
-use Rattle.stop_board.specs.declared.word.Phase.{Phase}
+use Rattle.stop_board.specs.Word.{Word}
 use Rattle.stop_board.specs.Event as event
 use Rattle.stop_board.specs.Event.{Event, History, events_of, subject}
-use Rattle.stop_board.specs.Roster.{IsRoster, parent_of, rank_of, row_at, row_of}
-use Rattle.stop_board.specs.State.{is_borne, is_born, state_after, state_in, claimed_state, number_in, last_number}
-use Rattle.stop_board.specs.History.{Fits, IsLegal, births_in, births_after, bears_next, holding_back}
-use Rattle.stop_board.specs.Word.{is_borne_by, opening, phase_in, claimed_phase, raised, shown, state_by, word_after, word_at, word_in}
+use Rattle.stop_board.specs.Roster.{IsRoster, parent_of, rank_of, row_at}
+use Rattle.stop_board.specs.State.{is_borne, is_born, state_after, state_in, claimed_state, number_in}
+use Rattle.stop_board.specs.History.{births_after}
+use Rattle.stop_board.specs.Word.{is_borne_by, opening, phase_in, claimed_phase, raised, shown, state_by, word_after, word_at}
 use Rattle.stop_board.specs.Standing.{AreAt}
 use Rattle.stop_board.proofs.Births.{born_by_rank}
 use Rattle.stop_board.proofs.Rosters.{parent_of-Some}

@@ -1,6 +1,6 @@
 -- Events: what changes a row. Its tracee publishes a stop or exits, a tracer claims a stop or a death (waitid(2)
 -- without WNOWAIT) and resumes it (ptrace(2), PTRACE_SYSCALL and PTRACE_CONT). A history is a list of them.
-use Rattle.std.specs.Prelude.{◌≡◌, ◌==◌, ℕ, Bool, List, filter}
+use Rattle.std.specs.Prelude.{◌==◌, ℕ, List, filter}
 use Rattle.trace_record.specs.declared.stop.Stop.{Stop}
 use Rattle.trace_record.specs.declared.resume.Resume.{Resume as Restart}
 use Rattle.trace_record.specs.declared.death.Death.{Death}

@@ -1,6 +1,6 @@
 -- Legal histories: each event fits the state after those before it (ptrace(2), "Attaching and detaching",
 -- "Restarting"; waitid(2)). And what a history says of births and of rows that have come to rest.
-use Rattle.std.specs.Prelude.{◌≡◌, ◌≢◌, ◌==◌, ◌&&◌, ◌+◌, ◌≤◌, ◌∷◌, [], ℕ, Bool, true, false, not, List, length, Option, Some, None, is_some, if◌then◌else◌, find, count_by}
+use Rattle.std.specs.Prelude.{◌≡◌, ◌≢◌, ◌==◌, ◌&&◌, ◌+◌, ◌≤◌, ◌∷◌, [], ℕ, Bool, true, false, not, List, length, Option, Some, None, is_some, if◌then◌else◌, find}
 use Rattle.std.specs.List.{range_with_len}
 use Rattle.trace_record.specs.declared.stop.Stop.{Stop}
 use Rattle.trace_record.specs.Stop.{child_of}

@@ -1,5 +1,6 @@
 pub mod Event
 pub mod History
+pub mod Layout
 pub mod Roster
 pub mod Sequential
 pub mod Standing

@@ -1,6 +1,6 @@
 -- What one thread alone would be answered at a history: the refusals of each call, in the order of their tests,
 -- else its answer.
-use Rattle.std.specs.Prelude.{◌≡◌, ◌==◌, ◌+◌, ◌∷◌, ℕ, Bool, nat_lt, not, List, Option, Some, None, Result, Ok, Err, if◌then◌else◌}
+use Rattle.std.specs.Prelude.{◌==◌, ◌+◌, ◌∷◌, ℕ, Bool, nat_lt, not, List, Option, Some, None, Result, Ok, Err, if◌then◌else◌}
 use Rattle.trace_record.specs.declared.stop.Stop.{Stop}
 use Rattle.stop_board.specs.declared.roster.Row.{Row}
 use Rattle.stop_board.specs.declared.state.State.{State}

@@ -1,7 +1,7 @@
 -- What it means that words stand at a history: each row's word is the one that the history leaves.
 use Rattle.std.specs.Prelude.{◌≡◌, ℕ, Bool, true, false, List, length, Some, slice_get, EachIndex}
 use Rattle.stop_board.specs.declared.roster.Row.{Row}
-use Rattle.stop_board.specs.declared.word.Word.{Word}
+use Rattle.stop_board.specs.Word.{Word}
 use Rattle.stop_board.specs.declared.state.State.TheVariants as state
 use Rattle.stop_board.specs.Event.{History}
 use Rattle.stop_board.specs.Roster.{IsRoster}

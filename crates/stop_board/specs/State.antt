@@ -1,7 +1,6 @@
 -- The state of a row after a history, by the row's last event alone (ptrace(2), "Stopped states"; waitid(2)).
-use Rattle.std.specs.Prelude.{◌≡◌, ◌==◌, ◌&&◌, ◌∷◌, [], ℕ, Bool, true, false, nat_lt, List, length, Option, Some, None, if◌then◌else◌, ◌+◌}
+use Rattle.std.specs.Prelude.{◌==◌, ◌&&◌, ◌∷◌, [], ℕ, Bool, true, false, nat_lt, List, length, Option, Some, None, if◌then◌else◌}
 use Rattle.std.specs.List.{list_any}
-use Rattle.trace_record.specs.declared.stop.Stop.{Stop}
 use Rattle.trace_record.specs.Stop.{stop_status, child_of}
 use Rattle.trace_record.specs.Death.{death_status}
 use Rattle.stop_board.specs.declared.roster.Row.{Row}

@@ -1,14 +1,14 @@
 -- What the events of a row make of its word.
-use Rattle.std.specs.Prelude.{◌≡◌, ◌+◌, ℕ, List, Option, Some, None, Result, Ok, Err, is_some, if◌then◌else◌, slice_set}
+use Rattle.std.specs.Prelude.{◌+◌, ℕ, List, Result, Ok, Err, is_some, if◌then◌else◌, slice_set}
 use Rattle.trace_record.specs.declared.stop.Stop.{Stop}
 use Rattle.trace_record.specs.declared.resume.Resume.{Resume}
 use Rattle.trace_record.specs.declared.death.Death.{Death}
 use Rattle.trace_record.specs.Stop.{child_of, stop_status}
 use Rattle.trace_record.specs.Death.{death_status}
 use Rattle.stop_board.specs.declared.refused.Refused.{Refused}
-use Rattle.stop_board.specs.declared.word.Word.{Word}
-use Rattle.stop_board.specs.declared.word.Phase.{Phase}
-use Rattle.stop_board.specs.declared.word.Phase.TheVariants as phase
+use Rattle.stop_board.specs.Word.{Word}
+use Rattle.stop_board.specs.declared.phase.Phase.{Phase}
+use Rattle.stop_board.specs.declared.phase.Phase.TheVariants as phase
 
 -- the next stop, with a birth counted
 abbrev pub published : Word → Stop → Word

@@ -1,18 +1,69 @@
--- The word of a row: what is kept of it. Its meaning is a state, and a history leaves a word.
-use Rattle.std.specs.Prelude.{◌≡◌, ◌&&◌, ◌∷◌, [], ℕ, Bool, true, false, nat_lt, List, length, Option, Some, None, if◌then◌else◌, slice_index_or}
+-- The word of a row: what its stop cell keeps of it. Its meaning is a state, and a history leaves a word.
+use Rattle.std.specs.Prelude.{◌≡◌, ◌<◌, ◌≤◌, ◌∷◌, [], ℕ, Bool, true, false, nat_lt, List, length, Option, Some, None, if◌then◌else◌, slice_index_or}
+use Rattle.trace_status.specs.WaitStatus.{Encodes, pid_of}
+use Rattle.trace_status.specs.declared.wait_status.WaitStatus.{WaitStatus}
+use Rattle.trace_status.specs.declared.wait_status.WaitStatus.TheVariants as status
 use Rattle.trace_record.specs.Stop.{stop_status}
 use Rattle.trace_record.specs.Death.{death_status}
+use Rattle.trace_record.specs.Resume.{IsResume}
 use Rattle.stop_board.specs.declared.roster.Row.{Row}
 use Rattle.stop_board.specs.declared.state.State.{State}
 use Rattle.stop_board.specs.declared.state.State.TheVariants as state
-use Rattle.stop_board.specs.declared.word.Word.{Word}
-use Rattle.stop_board.specs.declared.word.Phase.{Phase}
-use Rattle.stop_board.specs.declared.word.Phase.TheVariants as phase
+use Rattle.stop_board.specs.declared.phase.Phase.{Phase}
+use Rattle.stop_board.specs.declared.phase.Phase.TheVariants as phase
 use Rattle.stop_board.specs.Event as event
 use Rattle.stop_board.specs.Event.{Event, History, events_of}
-use Rattle.stop_board.specs.Roster.{row_at, parent_of, rank_of}
+use Rattle.stop_board.specs.Roster.{most_rows, parent_of, rank_of}
 use Rattle.stop_board.specs.State.{number_in}
-use Rattle.stop_board.specs.History.{births_in}
+use Rattle.stop_board.specs.History.{births_in, most_stops}
+use Rattle.stop_board.specs.Sequential.{most_tracers}
+
+-- a row's phase, how many children it has borne, and the number of its last stop, 0 before any
+pub record Word : Type 0 where
+  pub phase : Phase
+  pub births : ℕ
+  pub number : ℕ
+
+-- ---- the ranges of a word
+
+-- whether a wait status tells a stop (wait(2), WIFSTOPPED), and whether it tells a death (WIFEXITED, WIFSIGNALED)
+abbrev pub tells_stop : WaitStatus → Bool
+tells_stop (status.Stopped pid signal) = true
+tells_stop (status.PtraceEvent pid signal event) = true
+tells_stop (status.PtraceSyscall pid) = true
+tells_stop (status.Exited pid code) = false
+tells_stop (status.Signaled pid signal core) = false
+tells_stop status.StillAlive = false
+
+abbrev pub tells_death : WaitStatus → Bool
+tells_death (status.Exited pid code) = true
+tells_death (status.Signaled pid signal core) = true
+tells_death (status.Stopped pid signal) = false
+tells_death (status.PtraceEvent pid signal event) = false
+tells_death (status.PtraceSyscall pid) = false
+tells_death status.StillAlive = false
+
+-- a raw value of such a status; it does not say whose, so the pid may as well be 0
+abbrev pub Tells : (WaitStatus → Bool) → ℕ → Type 0
+Tells test raw = (told : WaitStatus) × (pid_of told ≡ Some 0) × Encodes told raw × (test told ≡ true)
+
+abbrev pub IsPhase : Phase → Type 0
+IsPhase (phase.Resumed how) = IsResume how
+IsPhase (phase.Stopped status) = Tells tells_stop status
+IsPhase (phase.Claimed tracer) = tracer < most_tracers
+IsPhase (phase.Dead status) = Tells tells_death status
+IsPhase phase.Fresh = Unit {0}
+IsPhase phase.Active = Unit {0}
+IsPhase phase.Reaped = Unit {0}
+
+-- a word that a row can have; only the opening word is fresh
+pub record IsWord (word : Word) : Type 0 where
+  pub of_phase : IsPhase word.phase
+  pub few : word.births < most_rows
+  pub last : word.number ≤ most_stops
+  pub fresh : word.phase ≡ phase.Fresh → (word.births ≡ 0) × (word.number ≡ 0)
+
+-- ---- the meaning of a word
 
 -- the word of a row before any event
 abbrev pub opening : Word
@@ -42,6 +93,8 @@ state_by rows words row =
     if nat_lt row (length rows)
     then shown (is_borne_by rows words row (parent_of rows row)) (word_at words row).number (word_at words row).phase
     else state.Absent
+
+-- ---- the word that a history leaves
 
 -- of one row's events, newest first: the phase that they leave where the row is not taken up
 abbrev pub claimed_phase : ℕ → List Event → Phase

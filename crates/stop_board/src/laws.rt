@@ -6,6 +6,8 @@ ghost use Rattle.stop_board.specs.declared.roster.Row.{Row};
 ghost use Rattle.stop_board.specs.Event.{History, events_of};
 ghost use Rattle.stop_board.specs.Roster.{IsPlaced, IsRoster, parent_of, rank_of};
 ghost use Rattle.stop_board.specs.State.{is_born};
+ghost use Rattle.stop_board.specs.Layout.{raw_of};
+ghost use Rattle.stop_board.specs.Word.{IsWord, Word};
 ghost use Rattle.stop_board.specs.History.{IsLegal, IsSettled, IsSilent, births_after, is_born_child, stop_claims_in};
 
 /// A roster has at most 64 rows. Each of them is found by its tid and stands behind its parent, whose process
@@ -43,4 +45,9 @@ pub fn settled_rows_stay_settled()
 pub fn a_stop_is_claimed_once()
     ensures { (rows : List Row) (h : History) → IsLegal rows h →
         (row number : ℕ) → stop_claims_in number (events_of row h) ≤ 1 }
+{}
+
+/// Two words in range that have the same 64 bits are one.
+pub fn words_are_one_to_one()
+    ensures { (v w : Word) → IsWord v → IsWord w → raw_of v ≡ raw_of w → v ≡ w }
 {}

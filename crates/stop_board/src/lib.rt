@@ -3,7 +3,11 @@
 #![tactic(auto)]
 
 mod board;
+mod changes;
 mod laws;
+mod packing;
+mod parts;
+mod phase;
 mod refused;
 mod roster;
 mod state;
@@ -13,10 +17,11 @@ mod word;
 pub use board::{Board, Got};
 pub use laws::{
     a_stop_is_claimed_once, births_are_counted, children_are_born_in_order,
-    older_histories_are_legal, rows_are_placed, settled_rows_stay_settled,
+    older_histories_are_legal, rows_are_placed, settled_rows_stay_settled, words_are_one_to_one,
 };
+pub use phase::Phase;
 pub use refused::Refused;
 pub use roster::{Roster, RosterError, Row, fault_after, place_of};
 pub use state::State;
 pub use trace_pages::NoMemory;
-pub use word::{Phase, Word};
+pub use word::Word;

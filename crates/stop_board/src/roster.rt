@@ -8,7 +8,7 @@ use std::marker::Model;
 use trace_pages::NoMemory;
 
 /// How many rows a roster has at most.
-const MOST_ROWS: usize = 64;
+pub(crate) const MOST_ROWS: usize = 64;
 
 /// The greatest id of a thread, a thread group or a process group.
 const LAST_ID: u32 = 4_194_303;

@@ -1,30 +1,28 @@
 //! The events of a row, on the words of all rows. Board and model alike are made of these.
 
-ghost use Rattle.std.specs.Prelude.{◌≡◌, ◌<◌, ◌≤◌, ℕ, length, IsSome};
-ghost use Rattle.stop_board.specs.Roster.{parent_of, rank_of, row_at, row_of};
+ghost use Rattle.std.specs.Prelude.{◌≡◌, ◌+◌, ◌<◌, ◌≤◌, ℕ, true, length, IsSome};
+ghost use Rattle.stop_board.specs.Roster.{IsRoster, most_rows, parent_of, rank_of, row_at, row_of};
 ghost use Rattle.stop_board.specs.History.{bears_next, holding_back, holds_back, is_next_child};
 ghost use Rattle.stop_board.specs.State.{is_alive};
 ghost use Rattle.stop_board.specs.Sequential.{claim_by, claim_state, exit_by, publish_by, resume_by, resume_state, running_by};
 ghost use Rattle.stop_board.specs.Word.{is_borne_by, state_by, word_at};
 ghost use Rattle.stop_board.specs.Step.{claimed, died, published, restarted, with_word};
-ghost use Rattle.std.specs.Bool.{OnTrue};
 ghost use Rattle.std.specs.Option.{ForSome};
 ghost use Rattle.trace_record.specs.Stop.{IsStop, child_of};
 ghost use Rattle.trace_record.specs.Death.{IsDeath};
 ghost use Rattle.trace_record.specs.Resume.{IsResume};
 
 use crate::board::Got;
+use crate::changes::{claimed, died, published, restarted};
+use crate::phase::Phase;
 use crate::refused::Refused;
 use crate::roster::{Row, is_leader, is_root, place_of};
 use crate::state::State;
-use crate::word::{Phase, Word};
+use crate::word::{LAST_NUMBER, Word};
 use trace_record::{Death, Resume, Stop};
 
 /// How many tracers there are.
-const TRACERS: u32 = 16;
-
-/// The number of a row's last possible stop.
-const LAST_NUMBER: u32 = 16_777_215;
+pub(crate) const TRACERS: u32 = 16;
 
 /// The place of a row's parent.
 fn parent_place(rows: &[Row], at: usize) -> Option<usize>
@@ -42,8 +40,7 @@ fn parent_place(rows: &[Row], at: usize) -> Option<usize>
 /// A row's place among the rows of its parent.
 fn rank(rows: &[Row], at: usize) -> usize
     requires { at < length rows.now }
-    ensures rank { result ≡ rank_of rows.now at }
-    ensures few { result ≤ at }
+    ensures { result ≡ rank_of rows.now at }
 {
     let parent = rows[at].parent;
     rows[..at].iter().filter(|q| q.parent == parent).count()
@@ -57,7 +54,10 @@ fn is_borne(rows: &[Row], words: &[Word], at: usize) -> bool
 {
     match parent_place(rows, at) {
         None => true,
-        Some(parent) => rank(rows, at) < usize::from(words[parent].births),
+        Some(parent) => {
+            let parent = words[parent];
+            rank(rows, at) < usize::from(parent.births)
+        }
     }
 }
 
@@ -70,8 +70,9 @@ pub(crate) fn state_of(rows: &[Row], words: &[Word], row: u32) -> State
     if at >= rows.len() {
         return State::Absent;
     }
-    let Word { phase, number, .. } = words[at];
-    match phase {
+    let word = words[at];
+    let number = word.number;
+    match word.phase {
         Phase::Fresh if is_borne(rows, words, at) => State::Running,
         Phase::Fresh => State::Unborn,
         Phase::Resumed(_) | Phase::Active => State::Running,
@@ -84,9 +85,10 @@ pub(crate) fn state_of(rows: &[Row], words: &[Word], row: u32) -> State
 
 /// Whether a stop bears nobody, or the next child of a parent that has borne so many.
 fn bears_next(rows: &[Row], at: usize, births: u8, stop: Stop) -> bool
-    requires { at < length rows.now }
+    requires row { at < length rows.now }
+    requires roster { IsRoster rows.now }
     ensures next { result ≡ bears_next rows.now at births stop }
-    ensures few { OnTrue result (IsSome (child_of stop) → births < length rows.now) }
+    ensures few { result ≡ true → IsSome (child_of stop) → births + 1 < most_rows }
 {
     match stop.child() {
         None => true,
@@ -98,8 +100,7 @@ fn bears_next(rows: &[Row], at: usize, births: u8, stop: Stop) -> bool
 fn is_next_child(rows: &[Row], at: usize, births: u8, child: Option<usize>) -> bool
     requires row { at < length rows.now }
     requires child { ForSome child (λ i. i < length rows.now) }
-    ensures next { result ≡ is_next_child rows.now at births child }
-    ensures few { OnTrue result (births < length rows.now) }
+    ensures { result ≡ is_next_child rows.now at births child }
 {
     match child {
         None => false,
@@ -160,31 +161,21 @@ pub(crate) fn publish_at(
 ) -> Result<u32, Refused>
     requires words { length words.old ≡ length rows.now }
     requires stop { IsStop stop }
-    requires few { length rows.now ≤ 64 }
+    requires roster { IsRoster rows.now }
     ensures answer { result ≡ publish_by (state_by rows.now words.old row) (bears_next rows.now row (word_at words.old row).births stop) (word_at words.old row).number }
     ensures words { words.new ≡ with_word result words.old row (published (word_at words.old row) stop) }
 {
     running(state_of(rows, words, row))?;
     let at = row as usize;
-    let Word { births, number, .. } = words[at];
-    if !bears_next(rows, at, births, stop) {
+    let word = words[at];
+    if !bears_next(rows, at, word.births, stop) {
         return Err(Refused::NotNext);
     }
-    if number >= LAST_NUMBER {
+    if word.number >= LAST_NUMBER {
         return Err(Refused::Full);
     }
-    words[at] = Word {
-        phase: Phase::Stopped {
-            status: stop.status(),
-        },
-        births: if stop.child().is_some() {
-            births + 1
-        } else {
-            births
-        },
-        number: number + 1,
-    };
-    Ok(number + 1)
+    words[at] = published(word, stop);
+    Ok(word.number + 1)
 }
 
 /// Claims a row's stop or its death for a tracer: its number and status, or why not.
@@ -203,13 +194,7 @@ pub(crate) fn claim_at(
     }
     let got = waitable(state_of(rows, words, row))?;
     let at = row as usize;
-    let phase = match got {
-        Got::Stop(..) => Phase::Claimed {
-            tracer: tracer as u8,
-        },
-        Got::Ended(..) => Phase::Reaped,
-    };
-    words[at] = Word { phase, ..words[at] };
+    words[at] = claimed(words[at], tracer as u8);
     Ok(got)
 }
 
@@ -244,10 +229,7 @@ pub(crate) fn resume_at(
     }
     held_by(tracer, state_of(rows, words, row))?;
     let at = row as usize;
-    words[at] = Word {
-        phase: Phase::Resumed(how),
-        ..words[at]
-    };
+    words[at] = restarted(words[at], how);
     Ok(())
 }
 
@@ -284,12 +266,7 @@ pub(crate) fn exit_at(
     if let Some(other) = holding_back(rows, words, at) {
         return Err(Refused::GroupAlive(other));
     }
-    words[at] = Word {
-        phase: Phase::Dead {
-            status: death.status(),
-        },
-        ..words[at]
-    };
+    words[at] = died(words[at], death);
     Ok(())
 }
 

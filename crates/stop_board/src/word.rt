@@ -1,30 +1,28 @@
-//! The word of a row: what is kept of it.
+//! The word of a row: what its stop cell keeps of it.
 
-use trace_record::Resume;
+use crate::phase::Phase;
+use std::marker::Model;
 
-/// Where a row stands in its life. Statuses are raw wait statuses.
-#[derive(Clone, Copy, Debug, PartialEq, Eq, Hash)]
-pub enum Phase {
-    /// No event yet: unborn, or running towards its first stop.
-    Fresh,
-    /// A tracer resumed it so.
-    Resumed(Resume),
-    /// Its tracee has taken its record back and runs.
-    Active,
-    /// It stands at a stop of this status.
-    Stopped { status: u32 },
-    /// This tracer has claimed its stop.
-    Claimed { tracer: u8 },
-    /// It has ended with this status.
-    Dead { status: u32 },
-    /// A tracer has claimed its death.
-    Reaped,
-}
+/// The number of a row's last possible stop.
+pub(crate) const LAST_NUMBER: u32 = 16_777_215;
 
-/// A row's phase, the number of children that it has borne, and the number of its last stop, 0 before any.
+/// A row's phase, the number of children that it has borne, below 64, and the number of its last stop, 0 before any
+/// and at most 16,777,215. The opening word alone is fresh.
 #[derive(Clone, Copy, Debug, PartialEq, Eq, Hash)]
 pub struct Word {
     pub phase: Phase,
     pub births: u8,
     pub number: u32,
+}
+
+impl Model for Word {
+    ghost use Rattle.stop_board.specs.Word as word;
+
+    ghost Value = { word.Word };
+
+    ghost view = { λ w. record { phase = w.phase; births = w.births; number = w.number } };
+
+    ghost invariant = { λ w. word.IsWord (record { phase = w.phase; births = w.births; number = w.number }) };
+
+    ghost inverse = { λ w. record { phase = w.phase; births = w.births; number = w.number } };
 }

@@ -1,0 +1,86 @@
+//! What each event of a row makes of its word.
+
+ghost use Rattle.std.specs.Prelude.{◌≡◌, ◌+◌, ◌<◌, IsSome, is_some, if◌then◌else◌};
+ghost use Rattle.stop_board.specs.History.{most_stops};
+ghost use Rattle.stop_board.specs.Roster.{most_rows};
+ghost use Rattle.stop_board.specs.Sequential.{most_tracers};
+ghost use Rattle.stop_board.specs.Step.{claimed, died, published, restarted};
+ghost use Rattle.stop_board.specs.declared.phase.Phase.TheVariants as phase;
+ghost use Rattle.trace_record.specs.Death.{IsDeath};
+ghost use Rattle.trace_record.specs.Resume.{IsResume};
+ghost use Rattle.trace_record.specs.Stop.{IsStop, child_of};
+
+use crate::phase::Phase;
+use crate::word::Word;
+use trace_record::{Death, Resume, Stop};
+
+/// The word behind a row's next stop.
+pub(crate) fn published(word: Word, stop: Stop) -> Word
+    requires stop { IsStop stop }
+    requires next { word.number < most_stops }
+    requires birth { IsSome (child_of stop) → word.births + 1 < most_rows }
+    ensures { result ≡ published word stop }
+{
+    Word {
+        phase: Phase::Stopped {
+            status: stop.status(),
+        },
+        births: births_behind(word.births, stop),
+        number: word.number + 1,
+    }
+}
+
+/// How many children a row has borne behind a stop, from how many it had.
+fn births_behind(births: u8, stop: Stop) -> u8
+    requires few { births < most_rows }
+    requires birth { IsSome (child_of stop) → births + 1 < most_rows }
+    ensures births { result ≡ (if is_some (child_of stop) then births + 1 else births) }
+    ensures few { result < most_rows }
+{
+    match stop.child() {
+        Some(_) => births + 1,
+        None => births,
+    }
+}
+
+/// The word behind a claim: a stop is claimed, a death is reaped.
+pub(crate) fn claimed(word: Word, tracer: u8) -> Word
+    requires { tracer < most_tracers }
+    ensures { result ≡ claimed word tracer }
+{
+    let phase = match word.phase {
+        Phase::Dead { .. } => Phase::Reaped,
+        _ => Phase::Claimed { tracer },
+    };
+    Word {
+        phase,
+        births: word.births,
+        number: word.number,
+    }
+}
+
+/// The word behind a restart.
+pub(crate) fn restarted(word: Word, how: Resume) -> Word
+    requires { IsResume how }
+    ensures { result ≡ restarted word how }
+{
+    Word {
+        phase: Phase::Resumed(how),
+        births: word.births,
+        number: word.number,
+    }
+}
+
+/// The word behind an exit.
+pub(crate) fn died(word: Word, death: Death) -> Word
+    requires { IsDeath death }
+    ensures { result ≡ died word death }
+{
+    Word {
+        phase: Phase::Dead {
+            status: death.status(),
+        },
+        births: word.births,
+        number: word.number,
+    }
+}

@@ -1,9 +1,7 @@
--- How a history goes on by a call that is answered: the event fits, and the words stand at the longer history.
-use Rattle.std.proofs.Common.{refl, ◌≡◌, ◌≢◌, ◌+◌, ◌<◌, ◌∷◌, [], ℕ, Bool, true, false, ◌||◌, ◌⊎◌, Some, None, Option, Ok, Err, Result, List, length, set, slice_get, arith, ◌∙◌, sym, ap, inl, inr, cond, nat_lt, ltb-true, lt-ltb, le-ltb, not, if◌then◌else◌, slice_set, get_or-set_same, get_or-set_other, length-set}
-use Rattle.std.specs.List.{list_any}
-use Rattle.std.proofs.lemmas.Bool.{cases_eq, cases_lt}
+-- The calls of a board: what they answer, by the words and by the history, and how the history goes on by them.
+use Rattle.std.proofs.Common.{refl, ◌≡◌, subst, ◌+◌, ◌<◌, ◌∷◌, [], ℕ, Bool, true, false, Some, None, Option, Ok, Err, Result, List, length, arith, ◌∙◌, sym, ap, inl, inr, cond, nat_lt, ltb-true, lt-ltb, not, if◌then◌else◌, slice_set}
+use Rattle.std.proofs.Math.Bool.{and-false}
 use Rattle.std.proofs.lemmas.Bool.Decides.{eqb_tells}
-use Rattle.std.proofs.lemmas.Option.{slice_get-get_or}
 use Rattle.trace_record.specs.declared.stop.Stop.{Stop}
 use Rattle.trace_record.specs.declared.resume.Resume.{Resume as Restart}
 use Rattle.trace_record.specs.declared.death.Death.{Death}
@@ -14,91 +12,21 @@ use Rattle.stop_board.specs.declared.board.Got.{Got}
 use Rattle.stop_board.specs.declared.state.State.{State}
 use Rattle.stop_board.specs.declared.state.State.TheVariants as state
 use Rattle.stop_board.specs.Word.{Word}
-use Rattle.stop_board.specs.declared.phase.Phase.{Phase}
-use Rattle.stop_board.specs.declared.phase.Phase.TheVariants as phase
 use Rattle.stop_board.specs.Event as event
 use Rattle.stop_board.specs.Event.{Event, History, events_of, subject}
-use Rattle.stop_board.specs.Roster.{IsRoster, parent_of, row_at}
-use Rattle.stop_board.specs.State.{claimed_state, is_birth, is_borne, is_born, is_waitable, state_after, state_in, last_number, number_in}
+use Rattle.stop_board.specs.Roster.{IsRoster}
+use Rattle.stop_board.specs.State.{claimed_state, is_born, is_waitable, state_after, state_in, last_number, number_in}
 use Rattle.stop_board.specs.History.{Fits, births_after, bears_next, holding_back, most_stops}
 use Rattle.stop_board.specs.Sequential.{and_then, claim_answer, claim_by, claim_state, exit_answer, exit_by, goes_on, most_tracers, publish_answer, publish_by, resume_answer, resume_by, resume_state, running_by, unless_held}
-use Rattle.stop_board.specs.Step.{claimed, claimed_by, died, published, restarted, with_word}
-use Rattle.stop_board.specs.Word.{claimed_phase, phase_in, state_by, word_after, word_at, word_in}
+use Rattle.stop_board.specs.Step.{claimed, died, published, restarted, with_word}
+use Rattle.stop_board.specs.Word.{state_by, word_at}
 use Rattle.stop_board.specs.Standing.{AreAt, none_taken}
-use Rattle.stop_board.proofs.Events.{own_events, other_events}
+use Rattle.stop_board.specs.Change.{Happened, ends_run, taken_with, word_behind}
 use Rattle.stop_board.proofs.Standing.{held_state, held_word}
-
--- ---- a row that makes no event
-
-runs_if_born : (born more : Bool) (es : List Event) → state_in born es ≡ state.Running → state_in (more || born) es ≡ state.Running
-runs_if_born true true [] h = refl
-runs_if_born true false [] h = refl
-runs_if_born false more [] h = cc
-runs_if_born born more (event.Publish row number stop ∷ es) h = h
-runs_if_born born more (event.Claim row number tracer ∷ es) h = h
-runs_if_born born more (event.Resume row number how tracer ∷ es) h = h
-runs_if_born born more (event.Exit row death ∷ es) h = h
-
-still_runs : (parent : Option ℕ) (tid : ℕ) (e : Event) (h : History) (es : List Event) → state_in (is_borne parent tid h) es ≡ state.Running → state_in (is_borne parent tid (e ∷ h)) es ≡ state.Running
-still_runs None tid e h es runs = runs
-still_runs (Some parent) tid e h es runs = runs_if_born (list_any (is_birth parent tid) h) (is_birth parent tid e) es runs
-
--- a running row runs on while others act
-pub runs_on : (rows : List Row) (h : History) (e : Event) (row : ℕ) → row ≢ subject e → state_after rows h row ≡ state.Running → state_after rows (e ∷ h) row ≡ state.Running
-runs_on rows h e row other runs =
-    elim (cases_lt row (length rows)) [
-      | inl within ↦
-          let inside : nat_lt row (length rows) ≡ true = lt-ltb _ _ within in
-          let ran : state_in (is_born rows h row) (events_of row h) ≡ state.Running =
-          sym (ap (λ b. cond b (state_in (is_born rows h row) (events_of row h)) state.Absent) inside) ∙ runs in
-          rw inside (ap (state_in (is_born rows (e ∷ h) row)) (other_events row e h (λ same. other (sym same)))
-          ∙ still_runs (parent_of rows row) (row_at rows row).tid e h (events_of row h) ran)
-      | inr past ↦ let absent : state.Absent ≡ state.Running = sym (ap (λ b. cond b (state_in (is_born rows h row) (events_of row h)) state.Absent) (le-ltb _ _ past)) ∙ runs in cc
-    ]
-
--- ---- one event
-
-set_own : (words : List Word) (row : ℕ) (word : Word) → row < length words → slice_get (slice_set words row word) row ≡ Some word
-set_own words row word within =
-    slice_get-get_or (set words row word) row word (let long : length (set words row word) ≡ length words = length-set words row word in omega arith)
-    ∙ ap Some (get_or-set_same words row word word within)
-
-set_other : (words : List Word) (row other : ℕ) (word : Word) → other < length words → other ≢ row → slice_get (slice_set words row word) other ≡ slice_get words other
-set_other words row other word within apart =
-    slice_get-get_or (set words row word) other word (let long : length (set words row word) ≡ length words = length-set words row word in omega arith)
-    ∙ ap Some (get_or-set_other words row other word word apart)
-    ∙ sym (slice_get-get_or words other word within)
-
--- an event that fits, whose row's word is replaced by the one that the longer history leaves
-pub stands_on : (rows : List Row) (words : List Word) (taken next : ℕ → Bool) (h : History) → AreAt rows words taken h → length words ≡ length rows
-    → (e : Event) → Fits rows h e → subject e < length rows
-    → (word : Word) → word ≡ word_after next (e ∷ h) (subject e)
-    → next (subject e) ≡ false → ((row : ℕ) → row ≢ subject e → next row ≡ taken row)
-    → AreAt rows (slice_set words (subject e) word) next (e ∷ h)
-stands_on rows words taken next h at each e fits within word left lowered others = record {
-  legal = (fits, at.legal);
-  held = λ row here. elim (cases_eq row (subject e)) [
-    | inl same ↦ ap (slice_get (slice_set words (subject e) word)) same ∙ set_own words (subject e) word (omega arith)
-        ∙ ap Some (left ∙ ap (word_after next (e ∷ h)) (sym same))
-    | inr other ↦
-        set_other words (subject e) row word (omega arith) other ∙ at.held row here
-        ∙ ap Some (ap (λ b. word_in b (events_of row h)) (sym (others row other)) ∙ ap (word_in (next row)) (sym (other_events row e h (λ same. other (sym same)))))
-  ];
-  up = λ row is_up. elim (cases_eq row (subject e)) [
-    | inl same ↦ let low : true ≡ false = sym is_up ∙ ap next same ∙ lowered in cc
-    | inr other ↦ runs_on rows h e row other (at.up row (sym (others row other) ∙ is_up))
-  ];
-}
+use Rattle.stop_board.proofs.AtomicSteps.{change_stands}
+use Rattle.stop_board.proofs.States.{past_or_within, present}
 
 -- ---- the calls of a board: what they answer, by the words and by the history
-
-past_or_within : (rows : List Row) (h : History) (row : ℕ) → (row < length rows) ⊎ (state_after rows h row ≡ state.Absent)
-past_or_within rows h row =
-    elim (cases_lt row (length rows)) [ inl within ↦ inl within | inr past ↦ inr (rw (le-ltb _ _ past)) ]
-
--- a row that has a state is there
-pub present : (rows : List Row) (h : History) (row : ℕ) → state_after rows h row ≢ state.Absent → row < length rows
-present rows h row there = elim (past_or_within rows h row) [ inl within ↦ within | inr past ↦ absurd (there past) ]
 
 pub publish_held : (rows : List Row) (words : List Word) (taken : ℕ → Bool) (h : History) → AreAt rows words taken h → length words ≡ length rows → IsRoster rows
     → (row : ℕ) (stop : Stop)
@@ -210,77 +138,42 @@ exit_fits rows h row death answered =
     let ran = running_Ok (state_after rows h row) _ tt answered in
     (ran.0, unheld (holding_back rows (state_after rows h) row) ran.1)
 
--- ---- what the event leaves in the row's word, where the row is not taken up
-
-claim_again : (tracer other : ℕ) (es : List Event) → claimed_by tracer (claimed_phase other es) ≡ phase.Claimed tracer
-claim_again tracer other [] = refl
-claim_again tracer other (event.Publish row number stop ∷ es) = refl
-claim_again tracer other (event.Claim row number third ∷ es) = refl
-claim_again tracer other (event.Resume row number how third ∷ es) = refl
-claim_again tracer other (event.Exit row death ∷ es) = refl
-
-pub claimed_left : (tracer : ℕ) (es : List Event) → claimed_by tracer (phase_in es) ≡ claimed_phase tracer es
-claimed_left tracer [] = refl
-claimed_left tracer (event.Publish row number stop ∷ es) = refl
-claimed_left tracer (event.Claim row number other ∷ es) = claim_again tracer other es
-claimed_left tracer (event.Resume row number how other ∷ es) = refl
-claimed_left tracer (event.Exit row death ∷ es) = refl
-
 -- ---- a call of a board goes on by its event, or leaves everything as it was
 
--- what a call that is answered has to show of its event
-pub record MayGo (rows : List Row) (words : List Word) (h : History) (e : Event) (word : Word) : Type 0 where
-  pub fits : Fits rows h e
-  pub within : subject e < length rows
-  pub left : word ≡ word_in false (e ∷ events_of (subject e) h)
+-- nobody takes a row up on a board
+none_taken_still : (e : Event) → taken_with (Happened e) none_taken ≡ none_taken
+none_taken_still e = λ i row. and-false (not (ends_run e row)) i
 
-pub goes : {A : Type 0} (rows : List Row) (words new : List Word) (h : History) → AreAt rows words none_taken h → length words ≡ length rows
-    → (result : Result A Refused) (e : Event) (word : Word) → new ≡ with_word result words (subject e) word
-    → ((answer : A) → result ≡ Ok answer → MayGo rows words h e word)
+goes : {A : Type 0} (rows : List Row) (words new : List Word) (h : History) → AreAt rows words none_taken h → length words ≡ length rows
+    → (result : Result A Refused) (e : Event) → new ≡ with_word result words (subject e) (word_behind (word_at words (subject e)) e)
+    → ((answer : A) → result ≡ Ok answer → Fits rows h e)
     → AreAt rows new none_taken (goes_on result e h)
-goes rows words new h at each (Err refusal) e word is may = rw is at
-goes rows words new h at each (Ok answer) e word is may =
-    let may_go = may answer refl in
-    rw is (stands_on rows words none_taken none_taken h at each e may_go.fits may_go.within word
-    (may_go.left ∙ ap (word_in false) (sym (own_events (subject e) e h refl))) refl (λ row other. refl))
+goes rows words new h at each (Err refusal) e is fits = rw is at
+goes rows words new h at each (Ok answer) e is fits =
+    rw is (
+    subst (λ (taken : ℕ → Bool). AreAt rows (slice_set words (subject e) (word_behind (word_at words (subject e)) e)) taken (e ∷ h)) (none_taken_still e)
+    (change_stands rows words none_taken h at each (Happened e) (fits answer refl)))
 
 pub publish_goes : (rows : List Row) (words new : List Word) (h : History) → AreAt rows words none_taken h → length words ≡ length rows
     → (row : ℕ) (stop : Stop) (result : Result ℕ Refused) → result ≡ publish_answer rows h row stop → new ≡ with_word result words row (published (word_at words row) stop)
     → AreAt rows new none_taken (goes_on result (event.Publish row (last_number h row + 1) stop) h)
 publish_goes rows words new h at each row stop result answered is =
-    goes rows words new h at each result (event.Publish row (last_number h row + 1) stop) _ is (λ number done.
-    let fits = publish_fits rows h row stop number (sym answered ∙ done) in
-    let within = present rows h row (λ absent. let clash : state.Absent ≡ state.Running = sym absent ∙ fits.0.0 in cc) in
-    record { fits = fits.0; within = within; left = ap (λ (w : Word). published w stop) (held_word rows words none_taken h at each row within) })
+    goes rows words new h at each result (event.Publish row (last_number h row + 1) stop) is (λ number done. (publish_fits rows h row stop number (sym answered ∙ done)).0)
 
 pub claim_goes : (rows : List Row) (words new : List Word) (h : History) → AreAt rows words none_taken h → length words ≡ length rows
     → (row tracer : ℕ) (result : Result Got Refused) → result ≡ claim_answer rows h row tracer → new ≡ with_word result words row (claimed (word_at words row) tracer)
     → AreAt rows new none_taken (goes_on result (event.Claim row (last_number h row) tracer) h)
 claim_goes rows words new h at each row tracer result answered is =
-    goes rows words new h at each result (event.Claim row (last_number h row) tracer) _ is (λ got done.
-    let fits = claim_fits rows h row tracer got (sym answered ∙ done) in
-    let within = present rows h row (λ absent. let clash : is_waitable state.Absent ≡ true = ap is_waitable (sym absent) ∙ fits.0 in cc) in
-    record {
-      fits = fits;
-      within = within;
-      left = ap (λ (w : Word). claimed w tracer) (held_word rows words none_taken h at each row within)
-          ∙ ap (λ (p : Phase). record (word_in false (events_of row h)) { phase = p }) (claimed_left tracer (events_of row h));
-    })
+    goes rows words new h at each result (event.Claim row (last_number h row) tracer) is (λ got done. claim_fits rows h row tracer got (sym answered ∙ done))
 
 pub resume_goes : (rows : List Row) (words new : List Word) (h : History) → AreAt rows words none_taken h → length words ≡ length rows
     → (row tracer : ℕ) (how : Restart) (result : Result (Unit {0}) Refused) → result ≡ resume_answer rows h row tracer → new ≡ with_word result words row (restarted (word_at words row) how)
     → AreAt rows new none_taken (goes_on result (event.Resume row (last_number h row) how tracer) h)
 resume_goes rows words new h at each row tracer how result answered is =
-    goes rows words new h at each result (event.Resume row (last_number h row) how tracer) _ is (λ answer done.
-    let fits = resume_fits rows h row tracer how (sym answered ∙ done) in
-    let within = present rows h row (λ absent. let clash : state.Absent ≡ state.Claimed (last_number h row) tracer = sym absent ∙ fits in cc) in
-    record { fits = fits; within = within; left = ap (λ (w : Word). restarted w how) (held_word rows words none_taken h at each row within) })
+    goes rows words new h at each result (event.Resume row (last_number h row) how tracer) is (λ answer done. resume_fits rows h row tracer how (sym answered ∙ done))
 
 pub exit_goes : (rows : List Row) (words new : List Word) (h : History) → AreAt rows words none_taken h → length words ≡ length rows
     → (row : ℕ) (death : Death) (result : Result (Unit {0}) Refused) → result ≡ exit_answer rows h row → new ≡ with_word result words row (died (word_at words row) death)
     → AreAt rows new none_taken (goes_on result (event.Exit row death) h)
 exit_goes rows words new h at each row death result answered is =
-    goes rows words new h at each result (event.Exit row death) _ is (λ answer done.
-    let fits = exit_fits rows h row death (sym answered ∙ done) in
-    let within = present rows h row (λ absent. let clash : state.Absent ≡ state.Running = sym absent ∙ fits.0 in cc) in
-    record { fits = fits; within = within; left = ap (λ (w : Word). died w death) (held_word rows words none_taken h at each row within) })
+    goes rows words new h at each result (event.Exit row death) is (λ answer done. exit_fits rows h row death (sym answered ∙ done))

@@ -1,3 +1,4 @@
+pub mod AtomicSteps
 pub mod Births
 pub mod Children
 pub mod Claims
@@ -8,4 +9,6 @@ pub mod Rosters
 pub mod Search
 pub mod Settled
 pub mod Standing
+pub mod States
 pub mod Words
+pub mod Worlds

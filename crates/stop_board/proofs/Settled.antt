@@ -1,5 +1,5 @@
 -- A settled row stays settled as the history goes on without the row that it is settled beside.
-use Rattle.std.proofs.Common.{refl, ◌≡◌, ◌≢◌, ◌<◌, ◌∷◌, ◌++◌, [], ℕ, Bool, true, false, ◌||◌, ◌⊎◌, List, Option, Some, length, arith, ◌∙◌, sym, ap, inl, inr, ne_eqb, subst, lt-ltb}
+use Rattle.std.proofs.Common.{refl, ◌≡◌, ◌≢◌, ◌<◌, ◌∷◌, ◌++◌, [], ℕ, Bool, true, false, ◌||◌, ◌⊎◌, List, Option, Some, length, arith, ◌∙◌, sym, ap, inl, inr, ne_eqb, subst}
 use Rattle.std.specs.List.{list_any}
 use Rattle.std.proofs.lemmas.Bool.{cases_eq}
 use Rattle.stop_board.specs.declared.roster.Row.{Row}
@@ -10,12 +10,7 @@ use Rattle.stop_board.specs.Roster.{parent_of, row_at}
 use Rattle.stop_board.specs.State.{claimed_state, is_birth, is_borne, is_born, is_ended, is_waitable, number_in, state_after, state_in}
 use Rattle.stop_board.specs.History.{Fits, IsLegal, IsSettled, IsSilent, ended, unborn_below, unborn_beside}
 use Rattle.stop_board.proofs.Events.{own_events, other_events}
-use Rattle.stop_board.proofs.Going.{present}
-
--- ---- the state of a row that is there
-
-pub state_within : (rows : List Row) (h : History) (row : ℕ) → row < length rows → state_after rows h row ≡ state_in (is_born rows h row) (events_of row h)
-state_within rows h row within = rw (lt-ltb _ _ within)
+use Rattle.stop_board.proofs.States.{present, state_within}
 
 -- ---- who has ended
 

@@ -44,7 +44,7 @@ held_borne rows words taken h at each roster row within (Some parent) of_parent 
     let births : (word_at words parent).births ≡ births_after h parent = ap (λ (w : Word). w.births) (held_word rows words taken h at each parent (omega arith)) in
     ap (nat_lt (rank_of rows row)) births ∙ sym (born_by_rank rows roster h at.legal row parent within of_parent)
 
-shows_taken : (taken born : Bool) (es : List Event) → (taken ≡ true → state_in born es ≡ state.Running) → shown born (number_in es) (raised taken (phase_in es)) ≡ state_in born es
+pub shows_taken : (taken born : Bool) (es : List Event) → (taken ≡ true → state_in born es ≡ state.Running) → shown born (number_in es) (raised taken (phase_in es)) ≡ state_in born es
 shows_taken true born es up = sym (up refl)
 shows_taken false born es up = shows_state born es
 

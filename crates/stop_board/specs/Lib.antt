@@ -1,3 +1,6 @@
+pub mod Action
+pub mod Actor
+pub mod Change
 pub mod Event
 pub mod History
 pub mod Layout
@@ -7,6 +10,7 @@ pub mod Standing
 pub mod State
 pub mod Step
 pub mod Word
+pub mod World
 pub use Rattle.trace_record.specs.Death
 pub use Rattle.trace_record.specs.Resume
 pub use Rattle.trace_record.specs.Stop

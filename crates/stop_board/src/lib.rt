@@ -2,6 +2,8 @@
 //! definitions that every layer above speaks by (event, history, legal history, sequential answer).
 #![tactic(auto)]
 
+mod action;
+mod actor;
 mod board;
 mod changes;
 mod laws;
@@ -12,8 +14,13 @@ mod refused;
 mod roster;
 mod state;
 mod steps;
+mod tracee;
+mod tracer;
 mod word;
+mod world;
 
+pub use action::{Action, Reply};
+pub use actor::Actor;
 pub use board::{Board, Got};
 pub use laws::{
     a_stop_is_claimed_once, births_are_counted, children_are_born_in_order,
@@ -25,3 +32,4 @@ pub use roster::{Roster, RosterError, Row, fault_after, place_of};
 pub use state::State;
 pub use trace_pages::NoMemory;
 pub use word::Word;
+pub use world::World;

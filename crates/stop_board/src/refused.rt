@@ -1,6 +1,6 @@
-//! The refusals of a board.
+//! The refusals of a board and of a World.
 
-/// Why a board refused a call. A refused call changes nothing.
+/// Why a board or a World refused. What is refused changes nothing.
 #[derive(Clone, Copy, Debug, PartialEq, Eq, Hash)]
 pub enum Refused {
     /// The row, or the tracer, is out of range.
@@ -9,6 +9,8 @@ pub enum Refused {
     Unborn,
     /// The row does not run, so it can neither publish nor exit.
     NotRunning,
+    /// The row runs, but its tracee has not taken it up. A board has no such step, and never answers this.
+    NotTaken,
     /// The fork or clone does not name the row's next child.
     NotNext,
     /// The row has made its last possible stop, 16,777,215.

@@ -256,7 +256,7 @@ pub(crate) fn exit_at(
     death: Death,
 ) -> Result<(), Refused>
     requires words { length words.old ≡ length rows.now }
-    requires few { length rows.now ≤ 64 }
+    requires roster { IsRoster rows.now }
     requires death { IsDeath death }
     ensures answer { result ≡ exit_by (holding_back rows.now (state_by rows.now words.old) row) (state_by rows.now words.old row) }
     ensures words { words.new ≡ with_word result words.old row (died (word_at words.old row) death) }
@@ -271,7 +271,7 @@ pub(crate) fn exit_at(
 }
 
 /// Whether a row of this state runs, or why it can neither publish nor exit.
-fn running(state: State) -> Result<(), Refused>
+pub(crate) fn running(state: State) -> Result<(), Refused>
     ensures { result ≡ running_by state }
 {
     match state {

@@ -1,0 +1,241 @@
+-- The interleaving model: at the moment at which a World stands, its words show the states of the history, and each
+-- reply tells of a change that the history allows.
+use Rattle.std.proofs.Common.{refl, ◌≡◌, ◌≢◌, ◌+◌, ◌-◌, ◌*◌, ◌≤◌, ◌∷◌, [], ℕ, Bool, true, false, Some, None, Option, Ok, Err, Result, List, length, arith, ◌∙◌, sym, ap, subst, inl, inr, lt-ltb, le-ltb}
+use Rattle.std.proofs.lemmas.Bool.{cases_lt}
+use Rattle.std.proofs.lemmas.List.{get_or_past}
+use Rattle.std.proofs.lemmas.Nat.{row_fits}
+use Rattle.trace_record.specs.declared.stop.Stop.{Stop}
+use Rattle.trace_record.specs.declared.resume.Resume.{Resume as Restart}
+use Rattle.trace_record.specs.declared.death.Death.{Death}
+use Rattle.stop_board.specs.declared.action.Action.{Action}
+use Rattle.stop_board.specs.declared.action.Action.TheVariants as action
+use Rattle.stop_board.specs.declared.action.Reply.{Reply}
+use Rattle.stop_board.specs.declared.action.Reply.TheVariants as reply
+use Rattle.stop_board.specs.declared.actor.Actor.{Actor}
+use Rattle.stop_board.specs.declared.actor.Actor.TheVariants.{Tracee, Tracer}
+use Rattle.stop_board.specs.declared.phase.Phase.{Phase}
+use Rattle.stop_board.specs.declared.phase.Phase.TheVariants as phase
+use Rattle.stop_board.specs.declared.refused.Refused.{Refused}
+use Rattle.stop_board.specs.declared.roster.Row.{Row}
+use Rattle.stop_board.specs.declared.state.State.{State}
+use Rattle.stop_board.specs.declared.state.State.TheVariants as state
+use Rattle.stop_board.specs.Action.{ClaimReplies, Exchanges, TraceeReplies, TracerReplies, done, numbered, restart_in, taken_by, took, tracee_change, tracer_change, waits}
+use Rattle.stop_board.specs.Actor.{numbered_actor}
+use Rattle.stop_board.specs.Change.{Change, IsAllowed, history_with, taken_with, words_with}
+use Rattle.stop_board.specs.Event as event
+use Rattle.stop_board.specs.Event.{Event, History, events_of, subject}
+use Rattle.stop_board.specs.History.{Fits, IsLegal}
+use Rattle.stop_board.specs.Roster.{IsRoster}
+use Rattle.stop_board.specs.Sequential.{and_then, exit_answer, most_tracers, publish_answer, resume_answer, running_by}
+use Rattle.stop_board.specs.Standing.{AreAt}
+use Rattle.stop_board.specs.State.{is_born, is_waitable, number_in, state_after}
+use Rattle.stop_board.specs.Word.{Word, claimed_phase, opening, phase_in, raised, shown, state_by, word_after, word_at, word_in}
+use Rattle.stop_board.specs.World.{ActorReplies, IsActor, Moment, actor_change, is_active, last_seen, seen_by, sight_at, sight_by}
+use Rattle.stop_board.proofs.AtomicSteps.{change_stands, not_running}
+use Rattle.stop_board.proofs.Events.{other_events}
+use Rattle.stop_board.proofs.Going.{exit_fits, publish_fits, resume_fits}
+use Rattle.stop_board.proofs.Standing.{held_state, held_word, shows_taken}
+use Rattle.stop_board.proofs.States.{fits_within, present, state_within}
+
+-- ---- what the words show
+
+-- a row that is not there has no event
+no_events : (rows : List Row) (h : History) → IsLegal rows h → (row : ℕ) → length rows ≤ row → events_of row h ≡ []
+no_events rows [] legal row past = refl
+no_events rows (e ∷ h) legal row past =
+    let within = fits_within rows h e legal.0 in
+    other_events row e h (λ same. absurd (omega arith)) ∙ no_events rows h legal.1 row past
+
+absent : (rows : List Row) (h : History) (row : ℕ) → length rows ≤ row → state_after rows h row ≢ state.Running
+absent rows h row past runs =
+    let within = present rows h row (λ gone. let clash : state.Absent ≡ state.Running = sym gone ∙ runs in cc) in omega arith
+
+-- the word of each row, also of one that is not there
+each_word : (rows : List Row) (words : List Word) (taken : ℕ → Bool) (h : History) → AreAt rows words taken h → length words ≡ length rows
+    → (row : ℕ) → word_at words row ≡ word_after taken h row
+each_word rows words taken h at each row =
+    elim (cases_lt row (length rows)) [
+      | inl within ↦ held_word rows words taken h at each row within
+      | inr past ↦
+          let low : taken row ≡ false = not_running rows h taken at.up row (absent rows h row past) in
+          let none : events_of row h ≡ [] = no_events rows h at.legal row past in
+          let here : word_at words row ≡ opening = get_or_past words row opening (omega arith) in
+          here ∙ ap (word_in false) (sym none) ∙ ap (λ b. word_in b (events_of row h)) (sym low)
+    ]
+
+-- only a row that is taken up is active
+claim_is_not_active : (tracer : ℕ) (es : List Event) → is_active (claimed_phase tracer es) ≡ false
+claim_is_not_active tracer [] = refl
+claim_is_not_active tracer (event.Publish row number stop ∷ es) = refl
+claim_is_not_active tracer (event.Claim row number other ∷ es) = refl
+claim_is_not_active tracer (event.Resume row number how other ∷ es) = refl
+claim_is_not_active tracer (event.Exit row death ∷ es) = refl
+
+never_active : (es : List Event) → is_active (phase_in es) ≡ false
+never_active [] = refl
+never_active (event.Publish row number stop ∷ es) = refl
+never_active (event.Claim row number tracer ∷ es) = claim_is_not_active tracer es
+never_active (event.Resume row number how tracer ∷ es) = refl
+never_active (event.Exit row death ∷ es) = refl
+
+active_if_taken : (taken : Bool) (es : List Event) → is_active (raised taken (phase_in es)) ≡ taken
+active_if_taken true es = refl
+active_if_taken false es = never_active es
+
+-- the words show what the moment has
+pub same_sight : (rows : List Row) (words : List Word) (m : Moment) → AreAt rows words m.taken m.history → length words ≡ length rows → IsRoster rows
+    → sight_by rows words ≡ sight_at rows m
+same_sight rows words m at each roster =
+    let states : state_by rows words ≡ state_after rows m.history = λ i row. held_state rows words m.taken m.history at each roster row i in
+    let of_rows : word_at words ≡ word_after m.taken m.history = λ i row. each_word rows words m.taken m.history at each row i in
+    let ups : (λ row. is_active (word_at words row).phase) ≡ m.taken = λ i row. (ap (λ (w : Word). is_active w.phase) (each_word rows words m.taken m.history at each row) ∙ active_if_taken (m.taken row) (events_of row m.history)) i in
+    λ i. record { states = states i; words = of_rows i; taken = ups i }
+
+-- ---- each reply tells of a change that the history allows
+
+took_allowed : (rows : List Row) (h : History) (row : ℕ) (at : State) (next answer : Result Restart Refused) → state_after rows h row ≡ at
+    → and_then (running_by at) next ≡ answer → IsAllowed rows h (tracee_change row action.TakeUp (took answer))
+took_allowed rows h row at next (Err refusal) is answered = tt
+took_allowed rows h row state.Running next (Ok how) is answered = is
+took_allowed rows h row state.Absent next (Ok how) is answered = cc
+took_allowed rows h row state.Unborn next (Ok how) is answered = cc
+took_allowed rows h row (state.Stopped n status) next (Ok how) is answered = cc
+took_allowed rows h row (state.Claimed n tracer) next (Ok how) is answered = cc
+took_allowed rows h row (state.Dead n status) next (Ok how) is answered = cc
+took_allowed rows h row state.Reaped next (Ok how) is answered = cc
+
+-- an answer behind a test is the answer itself
+answered_behind : {A : Type 0} (test : Result (Unit {0}) Refused) (next : Result A Refused) (answer : A) → and_then test next ≡ Ok answer → next ≡ Ok answer
+answered_behind (Ok done) next answer is = is
+answered_behind (Err refusal) next answer is = cc
+
+number_allowed : (rows : List Row) (h : History) (row : ℕ) (stop : Stop) (answer : Result ℕ Refused) (test : Result (Unit {0}) Refused)
+    → and_then test (publish_answer rows h row stop) ≡ answer → IsAllowed rows h (tracee_change row (action.Publish stop) (numbered answer))
+number_allowed rows h row stop (Err refusal) test answered = tt
+number_allowed rows h row stop (Ok number) test answered =
+    let fits = publish_fits rows h row stop number (answered_behind test (publish_answer rows h row stop) number answered) in
+    subst (λ n. Fits rows h (event.Publish row n stop)) (sym fits.1) fits.0
+
+exit_allowed : (rows : List Row) (h : History) (row : ℕ) (death : Death) (answer : Result (Unit {0}) Refused) (test : Result (Unit {0}) Refused)
+    → and_then test (exit_answer rows h row) ≡ answer → IsAllowed rows h (tracee_change row (action.Exit death) (done answer))
+exit_allowed rows h row death (Err refusal) test answered = tt
+exit_allowed rows h row death (Ok tt) test answered = exit_fits rows h row death (answered_behind test (exit_answer rows h row) tt answered)
+
+tracee_allowed : (rows : List Row) (m : Moment) (row : ℕ) (a : Action) (r : Reply) → TraceeReplies rows (sight_at rows m) row a r → IsAllowed rows m.history (tracee_change row a r)
+tracee_allowed rows m row (action.Look other) r is = tt
+tracee_allowed rows m row action.TakeUp r is =
+    rw is (took_allowed rows m.history row (state_after rows m.history row) (restart_in (word_after m.taken m.history row).phase) _ refl refl)
+tracee_allowed rows m row (action.Publish stop) r is = rw is (number_allowed rows m.history row stop _ (taken_by (state_after rows m.history row) (m.taken row)) refl)
+tracee_allowed rows m row (action.Exit death) r is = rw is (exit_allowed rows m.history row death _ (taken_by (state_after rows m.history row) (m.taken row)) refl)
+tracee_allowed rows m row (action.Claim other) r is = tt
+tracee_allowed rows m row (action.Resume other how) r is = tt
+
+-- a word that waits shows a state that does
+waits_shown : (born : Bool) (number : ℕ) (at : Phase) → waits at ≡ true → is_waitable (shown born number at) ≡ true
+waits_shown born number (phase.Stopped status) waiting = refl
+waits_shown born number (phase.Dead status) waiting = refl
+waits_shown born number phase.Fresh waiting = cc
+waits_shown born number (phase.Resumed how) waiting = cc
+waits_shown born number phase.Active waiting = cc
+waits_shown born number (phase.Claimed tracer) waiting = cc
+waits_shown born number phase.Reaped waiting = cc
+
+-- a claim that got a word found the one last seen, which waits, in a row that is there
+record HasGot (at : State) (now word : Word) : Type 0 where
+  there : at ≢ state.Absent
+  waiting : waits now.phase ≡ true
+  same : word ≡ now
+
+exchanged : (at : State) (last now word : Word) → at ≢ state.Absent → Exchanges last now (reply.Got word) → HasGot at now word
+exchanged at last now word there is = record { there = there; waiting = ap (λ (w : Word). waits w.phase) (sym is.1) ∙ is.0; same = is.2 }
+
+has_got : (at : State) (last now word : Word) → ClaimReplies at last now (reply.Got word) → HasGot at now word
+has_got state.Absent last now word is = cc
+has_got state.Unborn last now word is = cc
+has_got state.Running last now word is = exchanged state.Running last now word (λ gone. cc) is
+has_got (state.Stopped n status) last now word is = exchanged (state.Stopped n status) last now word (λ gone. cc) is
+has_got (state.Claimed n tracer) last now word is = exchanged (state.Claimed n tracer) last now word (λ gone. cc) is
+has_got (state.Dead n status) last now word is = exchanged (state.Dead n status) last now word (λ gone. cc) is
+has_got state.Reaped last now word is = exchanged state.Reaped last now word (λ gone. cc) is
+
+claim_allowed : (rows : List Row) (taken : ℕ → Bool) (h : History) → ((row : ℕ) → taken row ≡ true → state_after rows h row ≡ state.Running)
+    → (row tracer : ℕ) (last word : Word) → ClaimReplies (state_after rows h row) last (word_after taken h row) (reply.Got word) → Fits rows h (event.Claim row word.number tracer)
+claim_allowed rows taken h up row tracer last word is =
+    let got = has_got (state_after rows h row) last (word_after taken h row) word is in
+    let within = present rows h row got.there in
+    let now = state_within rows h row within in
+    let shows = shows_taken (taken row) (is_born rows h row) (events_of row h) (λ is_up. sym now ∙ up row is_up) in (
+      ap is_waitable (now ∙ sym shows) ∙ waits_shown (is_born rows h row) (number_in (events_of row h)) (raised (taken row) (phase_in (events_of row h))) got.waiting,
+      ap (λ (w : Word). w.number) got.same,
+    )
+
+resume_allowed : (rows : List Row) (taken : ℕ → Bool) (h : History) (row tracer : ℕ) (how : Restart) (answer : Result (Unit {0}) Refused)
+    → resume_answer rows h row tracer ≡ answer → IsAllowed rows h (tracer_change (word_after taken h) tracer (action.Resume row how) (done answer))
+resume_allowed rows taken h row tracer how (Err refusal) answered = tt
+resume_allowed rows taken h row tracer how (Ok tt) answered = resume_fits rows h row tracer how answered
+
+-- of what a claim replies, only a word that it got tells of a change
+claimed_allowed : (rows : List Row) (m : Moment) → ((row : ℕ) → m.taken row ≡ true → state_after rows m.history row ≡ state.Running)
+    → (last : Word) (tracer row : ℕ) (r : Reply) → ClaimReplies (state_after rows m.history row) last (word_after m.taken m.history row) r
+    → IsAllowed rows m.history (tracer_change (word_after m.taken m.history) tracer (action.Claim row) r)
+claimed_allowed rows m up last tracer row (reply.Got word) is = claim_allowed rows m.taken m.history up row tracer last word is
+claimed_allowed rows m up last tracer row (reply.Missed word) is = tt
+claimed_allowed rows m up last tracer row (reply.Refused refusal) is = tt
+claimed_allowed rows m up last tracer row (reply.Word word) is = tt
+claimed_allowed rows m up last tracer row (reply.Took how) is = tt
+claimed_allowed rows m up last tracer row (reply.Number number) is = tt
+claimed_allowed rows m up last tracer row reply.Done is = tt
+
+tracer_allowed : (rows : List Row) (m : Moment) → ((row : ℕ) → m.taken row ≡ true → state_after rows m.history row ≡ state.Running)
+    → (last : ℕ → Word) (tracer : ℕ) (a : Action) (r : Reply) → TracerReplies rows (sight_at rows m) last tracer a r
+    → IsAllowed rows m.history (tracer_change (word_after m.taken m.history) tracer a r)
+tracer_allowed rows m up last tracer (action.Claim row) r is = claimed_allowed rows m up (last row) tracer row r is
+tracer_allowed rows m up last tracer (action.Resume row how) r is = rw is (resume_allowed rows m.taken m.history row tracer how _ refl)
+tracer_allowed rows m up last tracer (action.Look row) r is = tt
+tracer_allowed rows m up last tracer action.TakeUp r is = tt
+tracer_allowed rows m up last tracer (action.Publish stop) r is = tt
+tracer_allowed rows m up last tracer (action.Exit death) r is = tt
+
+actor_allowed : (rows : List Row) (m : Moment) → ((row : ℕ) → m.taken row ≡ true → state_after rows m.history row ≡ state.Running)
+    → (who : Option Actor) (a : Action) (r : Reply) → ActorReplies rows (sight_at rows m) m.seen who a r
+    → IsAllowed rows m.history (actor_change (word_after m.taken m.history) who a r)
+actor_allowed rows m up None a r is = tt
+actor_allowed rows m up (Some (Tracee row)) a r is = tracee_allowed rows m row a r is
+actor_allowed rows m up (Some (Tracer tracer)) a r is = tracer_allowed rows m up (last_seen rows m.seen tracer) tracer a r is
+
+-- ---- one step of a World that stands at a moment
+
+-- an actor of the World has a place for what it last saw
+pub has_place : (rows tracers number places : ℕ) → tracers ≤ most_tracers → places ≡ tracers * rows → IsActor rows places (numbered_actor rows tracers number)
+has_place rows tracers number places few each =
+    elim (cases_lt number rows) [
+      | inl within ↦ rw (lt-ltb _ _ within) within
+      | inr past ↦ rw (le-ltb _ _ past) (elim (cases_lt number (rows + tracers)) [
+        | inl tracer ↦ rw (lt-ltb _ _ tracer) (omega arith, (let room = row_fits (number - rows) rows tracers rows (omega arith) (omega arith) in omega arith))
+        | inr none ↦ rw (le-ltb _ _ none) tt
+      ])
+    ]
+
+pub replies_at : (rows : List Row) (words seen : List Word) (m : Moment) → AreAt rows words m.taken m.history → length words ≡ length rows → IsRoster rows → seen ≡ m.seen
+    → (who : Option Actor) (a : Action) (r : Reply) → ActorReplies rows (sight_by rows words) seen who a r → ActorReplies rows (sight_at rows m) m.seen who a r
+replies_at rows words seen m at each roster saw who a r is =
+    subst (λ s. ActorReplies rows (sight_at rows m) s who a r) saw
+    (subst (λ sight. ActorReplies rows sight seen who a r) (same_sight rows words m at each roster) is)
+
+pub stands_behind : (rows : List Row) (words new : List Word) (m : Moment) → AreAt rows words m.taken m.history → length words ≡ length rows
+    → (who : Option Actor) (a : Action) (r : Reply) → ActorReplies rows (sight_at rows m) m.seen who a r
+    → new ≡ words_with (actor_change (word_at words) who a r) words
+    → AreAt rows new (taken_with (actor_change (word_after m.taken m.history) who a r) m.taken) (history_with (actor_change (word_after m.taken m.history) who a r) m.history)
+stands_behind rows words new m at each who a r is changed =
+    let of_rows : word_at words ≡ word_after m.taken m.history = λ i row. each_word rows words m.taken m.history at each row i in
+    let change : Change = actor_change (word_after m.taken m.history) who a r in
+    let known : new ≡ words_with change words = changed ∙ ap (λ (ws : ℕ → Word). words_with (actor_change ws who a r) words) of_rows in
+    subst (λ ws. AreAt rows ws (taken_with change m.taken) (history_with change m.history)) (sym known)
+    (change_stands rows words m.taken m.history at each change (actor_allowed rows m at.up who a r is))
+
+pub seen_behind : (rows : List Row) (new seen left : List Word) (taken : ℕ → Bool) (h : History) → AreAt rows new taken h → length new ≡ length rows
+    → (who : Option Actor) (a : Action) (r : Reply) (before : List Word) → seen ≡ before → left ≡ seen_by rows (word_at new) who a r seen
+    → left ≡ seen_by rows (word_after taken h) who a r before
+seen_behind rows new seen left taken h at each who a r before saw is =
+    let of_rows : word_at new ≡ word_after taken h = λ i row. each_word rows new taken h at each row i in
+    is ∙ ap (λ (ws : ℕ → Word). seen_by rows ws who a r seen) of_rows ∙ ap (seen_by rows (word_after taken h) who a r) saw

@@ -1,0 +1,25 @@
+-- Who acts: a row's tracee publishes and exits, a tracer claims and resumes.
+use Rattle.std.specs.Prelude.{◌≡◌, ◌+◌, ◌-◌, ◌∷◌, [], ℕ, Bool, false, nat_lt, Option, Some, None, if◌then◌else◌}
+use Rattle.stop_board.specs.declared.actor.Actor.{Actor}
+use Rattle.stop_board.specs.declared.actor.Actor.TheVariants.{Tracee, Tracer}
+use Rattle.stop_board.specs.Event as event
+use Rattle.stop_board.specs.Event.{Event, History}
+
+-- whose event it is
+abbrev pub actor_of : Event → Actor
+actor_of (event.Publish row number stop) = Tracee row
+actor_of (event.Claim row number tracer) = Tracer tracer
+actor_of (event.Resume row number how tracer) = Tracer tracer
+actor_of (event.Exit row death) = Tracee row
+
+-- the actor of a number: so many tracees by their rows, then so many tracers
+abbrev pub numbered_actor : (rows tracers number : ℕ) → Option Actor
+numbered_actor rows tracers number =
+    if nat_lt number rows then Some (Tracee number)
+    else if nat_lt number (rows + tracers) then Some (Tracer (number - rows))
+    else None
+
+-- of an event history: no event is one of an actor of the set
+abbrev pub IsQuiet : (Actor → Bool) → History → Type 0
+IsQuiet actors [] = Unit {0}
+IsQuiet actors (e ∷ h) = (actors (actor_of e) ≡ false) × IsQuiet actors h

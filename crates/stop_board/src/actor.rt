@@ -1,0 +1,10 @@
+//! Who acts on the cells.
+
+/// A tracee, by its row, or a tracer, by its number from 0.
+#[derive(Clone, Copy, Debug, PartialEq, Eq, Hash)]
+pub enum Actor {
+    /// It takes its row up, publishes and exits.
+    Tracee(u32),
+    /// It claims and resumes.
+    Tracer(u32),
+}

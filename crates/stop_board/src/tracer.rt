@@ -1,0 +1,102 @@
+//! The atomic steps of a tracer on the words of all rows.
+
+ghost use Rattle.std.specs.Prelude.{◌≡◌, ◌+◌, ◌*◌, ◌<◌, ◌≤◌, ℕ, length};
+ghost use Rattle.stop_board.specs.Action.{ClaimReplies, Exchanges, IsAction, TracerReplies, done, row_seen, tracer_change, waits};
+ghost use Rattle.stop_board.specs.declared.action.Action.TheVariants as action;
+ghost use Rattle.stop_board.specs.Change.{words_with};
+ghost use Rattle.stop_board.specs.Sequential.{most_tracers};
+ghost use Rattle.stop_board.specs.Word.{state_by, word_at};
+ghost use Rattle.stop_board.specs.World.{last_seen, seen_place, seen_with, sight_by};
+
+use crate::action::{Action, Reply};
+use crate::changes::claimed;
+use crate::phase::Phase;
+use crate::refused::Refused;
+use crate::roster::Row;
+use crate::state::State;
+use crate::steps::{resume_at, state_of};
+use crate::tracee::look_at;
+use crate::word::Word;
+
+/// A step of a tracer, by the words that each tracer last saw in each row.
+pub(crate) fn tracer_step(
+    rows: &[Row],
+    words: &mut [Word],
+    seen: &[Word],
+    tracer: u32,
+    action: Action,
+) -> Reply
+    requires words { length words.old ≡ length rows.now }
+    requires few { length rows.now ≤ 64 }
+    requires tracer { tracer < most_tracers }
+    requires seen { tracer * length rows.now + length rows.now ≤ length seen.now }
+    requires action { IsAction action }
+    ensures reply { TracerReplies rows.now (sight_by rows.now words.old) (last_seen rows.now seen.now tracer) tracer action result }
+    ensures words { words.new ≡ words_with (tracer_change (word_at words.old) tracer action result) words.old }
+{
+    match action {
+        Action::Look(row) => look_at(rows, words, row),
+        Action::Claim(row) => claim_seen(rows, words, seen, row, tracer),
+        Action::Resume(row, how) => match resume_at(rows, words, row, tracer, how) {
+            Ok(()) => Reply::Done,
+            Err(refusal) => Reply::Refused(refusal),
+        },
+        Action::TakeUp | Action::Publish(_) | Action::Exit(_) => Reply::Refused(Refused::NoRow),
+    }
+}
+
+/// Claims a row for a tracer, if its word is still the one that the tracer last saw there.
+fn claim_seen(rows: &[Row], words: &mut [Word], seen: &[Word], row: u32, tracer: u32) -> Reply
+    requires words { length words.old ≡ length rows.now }
+    requires few { length rows.now ≤ 64 }
+    requires tracer { tracer < most_tracers }
+    requires seen { tracer * length rows.now + length rows.now ≤ length seen.now }
+    ensures reply { ClaimReplies (state_by rows.now words.old row) (last_seen rows.now seen.now tracer row) (word_at words.old row) result }
+    ensures words { words.new ≡ words_with (tracer_change (word_at words.old) tracer (action.Claim row) result) words.old }
+{
+    let at = row as usize;
+    if at >= rows.len() {
+        return Reply::Refused(Refused::NoRow);
+    }
+    if state_of(rows, words, row) == State::Unborn {
+        return Reply::Refused(Refused::Unborn);
+    }
+    let now = words[at];
+    let reply = exchange(seen[tracer as usize * rows.len() + at], now);
+    if let Reply::Got(_) = reply {
+        words[at] = claimed(now, tracer as u8);
+    }
+    reply
+}
+
+/// What a claim that expects the word last seen says where it finds another one, or the same.
+fn exchange(last: Word, now: Word) -> Reply
+    ensures { Exchanges last now result }
+{
+    if !waits(last.phase) {
+        Reply::Refused(Refused::NotWaitable)
+    } else if last == now {
+        Reply::Got(now)
+    } else {
+        Reply::Missed(now)
+    }
+}
+
+/// Whether a row of this phase has a stop or a death to report.
+fn waits(phase: Phase) -> bool
+    ensures { result ≡ waits phase }
+{
+    matches!(phase, Phase::Stopped { .. } | Phase::Dead { .. })
+}
+
+/// The row whose word a tracer has seen by its action and the reply: it looked at it, missed it, or put it there.
+pub(crate) fn row_seen(action: Action, reply: &Reply) -> Option<u32>
+    ensures { result ≡ row_seen action reply.now }
+{
+    match (action, reply) {
+        (Action::Look(row), Reply::Word(_)) => Some(row),
+        (Action::Claim(row), Reply::Got(_) | Reply::Missed(_)) => Some(row),
+        (Action::Resume(row, _), Reply::Done) => Some(row),
+        _ => None,
+    }
+}

@@ -1,0 +1,170 @@
+//! The interleaving model: the stop cells of all rows under any interleaving of atomic steps.
+
+ghost use Rattle.std.specs.Prelude.{◌≡◌, ◌+◌, ◌*◌, ◌<◌, ◌≤◌, ℕ, IfOk, OnErr, Option, length, replicate};
+ghost use Rattle.std.specs.Option.{ForSome};
+ghost use Rattle.stop_board.specs.Action.{IsAction};
+ghost use Rattle.stop_board.specs.Actor.{numbered_actor};
+ghost use Rattle.stop_board.specs.Change.{words_with};
+ghost use Rattle.stop_board.specs.Roster.{IsRoster};
+ghost use Rattle.stop_board.specs.Sequential.{most_tracers};
+ghost use Rattle.stop_board.specs.Word.{opening, word_at};
+ghost use Rattle.stop_board.specs.World.{ActorReplies, IsActor, actor_change, seen_by, seen_with, sight_by};
+
+use crate::action::{Action, Reply};
+use crate::actor::Actor;
+use crate::board::opening_words;
+use crate::refused::Refused;
+use crate::roster::{Roster, Row};
+use crate::state::State;
+use crate::steps::state_of;
+use crate::tracee::tracee_step;
+use crate::tracer::{row_seen, tracer_step};
+use crate::word::Word;
+use std::alloc::{Allocator, Global};
+use std::marker::Model;
+use trace_pages::NoMemory;
+
+/// The stop cells of all rows of a roster, changed by one atomic step of one actor at a time. It stands at a moment:
+/// a legal history, the rows that are taken up, and the word that each tracer last saw in each row. Each step that is
+/// not refused goes on to the next moment.
+///
+/// The actors are the tracees, by their rows, and then the tracers 0, 1, ..
+#[derive(Drop)]
+pub struct World<A: Allocator = Global> {
+    rows: Vec<Row, A>,
+    tracers: u32,
+    words: Vec<Word, A>,
+    seen: Vec<Word, A>,
+}
+
+impl<A: Allocator> Model for World<A> {
+    ghost use Rattle.stop_board.specs.World.{IsPlace, Place};
+
+    ghost Value = { Place };
+
+    ghost view = { λ w. record { rows = w.rows.items; tracers = w.tracers; words = w.words.items; seen = w.seen.items } };
+
+    ghost invariant = { λ w. IsPlace w.rows.items w.tracers w.words.items w.seen.items };
+}
+
+impl<A: Allocator + Copy> World<A> {
+    ghost use Rattle.std.specs.Prelude.{[]};
+    ghost use Rattle.stop_board.specs.Standing.{AreAt, none_taken};
+
+    /// A World of so many tracers, at most 16, before any event. Nobody has looked yet: what each tracer last saw in
+    /// each row is the opening word.
+    pub fn new<B: Allocator>(
+        alloc: A,
+        roster: &Roster<B>,
+        tracers: u32,
+    ) -> Result<World<A>, NoMemory>
+        requires { tracers ≤ most_tracers }
+        ensures rows { IfOk result (λ world. world.rows ≡ roster.now) }
+        ensures tracers { IfOk result (λ world. world.tracers ≡ tracers) }
+        ensures words { IfOk result (λ world. AreAt world.rows world.words none_taken []) }
+        ensures seen { IfOk result (λ world. world.seen ≡ replicate (tracers * length roster.now) opening) }
+    {
+        let rows = Vec::from_slice(alloc, roster.rows())?;
+        let words = opening_words(alloc, rows.len())?;
+        let seen = opening_words(alloc, tracers as usize * rows.len())?;
+        Ok(World {
+            rows,
+            tracers,
+            words,
+            seen,
+        })
+    }
+}
+
+impl<A: Allocator> World<A> {
+    ghost use Rattle.stop_board.specs.Standing.{AreAt};
+    ghost use Rattle.stop_board.specs.State.{state_after};
+    ghost use Rattle.stop_board.specs.World.{Moment, Replies, StandsAt, moment_after};
+
+    /// The state of a row, `Absent` out of range.
+    pub fn state(&self, row: u32) -> State
+        ensures { (m : Moment) → StandsAt self.now m → result ≡ state_after self.now.rows m.history row }
+    {
+        state_of(self.rows.as_slice(), self.words.as_slice(), row)
+    }
+
+    /// One atomic step of an actor.
+    pub fn step(&mut self, actor: u32, action: Action) -> Reply
+        requires { IsAction action }
+        ensures reply { (m : Moment) → StandsAt self.old m → Replies self.old.rows self.old.tracers m actor action result }
+        ensures stands { (m : Moment) → StandsAt self.old m →
+            AreAt self.new.rows self.new.words (moment_after self.old.rows self.old.tracers m actor action result).taken
+            (moment_after self.old.rows self.old.tracers m actor action result).history }
+        ensures seen { (m : Moment) → StandsAt self.old m →
+            self.new.seen ≡ (moment_after self.old.rows self.old.tracers m actor action result).seen }
+        ensures rows { self.new.rows ≡ self.old.rows }
+        ensures tracers { self.new.tracers ≡ self.old.tracers }
+    {
+        let rows = self.rows.as_slice();
+        let actor = actor_of(rows, self.tracers, actor);
+        step_of(
+            rows,
+            self.words.as_mut_slice(),
+            self.seen.as_mut_slice(),
+            actor,
+            action,
+        )
+    }
+}
+
+/// The actor of a number, if there is one.
+fn actor_of(rows: &[Row], tracers: u32, number: u32) -> Option<Actor>
+    requires few { length rows.now ≤ 64 }
+    requires tracers { tracers ≤ most_tracers }
+    ensures { result ≡ numbered_actor (length rows.now) tracers number }
+{
+    let rows = rows.len() as u32;
+    if number < rows {
+        Some(Actor::Tracee(number))
+    } else if number < rows + tracers {
+        Some(Actor::Tracer(number - rows))
+    } else {
+        None
+    }
+}
+
+/// A step of an actor, if there is one of its number.
+fn step_of(
+    rows: &[Row],
+    words: &mut [Word],
+    seen: &mut [Word],
+    actor: Option<Actor>,
+    action: Action,
+) -> Reply
+    requires words { length words.old ≡ length rows.now }
+    requires roster { IsRoster rows.now }
+    requires actor { IsActor (length rows.now) (length seen.old) actor }
+    requires action { IsAction action }
+    ensures reply { ActorReplies rows.now (sight_by rows.now words.old) seen.old actor action result }
+    ensures words { words.new ≡ words_with (actor_change (word_at words.old) actor action result) words.old }
+    ensures seen { seen.new ≡ seen_by rows.now (word_at words.new) actor action result seen.old }
+{
+    match actor {
+        None => Reply::Refused(Refused::NoRow),
+        Some(Actor::Tracee(row)) => tracee_step(rows, words, row, action),
+        Some(Actor::Tracer(tracer)) => {
+            let reply = tracer_step(rows, words, seen, tracer, action);
+            note(rows, words, seen, tracer, row_seen(action, &reply));
+            reply
+        }
+    }
+}
+
+/// Notes that a tracer has seen the word that a row has now.
+fn note(rows: &[Row], words: &[Word], seen: &mut [Word], tracer: u32, row: Option<u32>)
+    requires words { length words.now ≡ length rows.now }
+    requires few { length rows.now ≤ 64 }
+    requires tracer { tracer < most_tracers }
+    requires row { ForSome row (λ at. at < length rows.now) }
+    requires seen { tracer * length rows.now + length rows.now ≤ length seen.old }
+    ensures { seen.new ≡ seen_with rows.now (word_at words.now) tracer row seen.old }
+{
+    if let Some(row) = row {
+        seen[tracer as usize * rows.len() + row as usize] = words[row as usize];
+    }
+}

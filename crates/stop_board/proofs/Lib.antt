@@ -6,6 +6,7 @@ pub mod Events
 pub mod Going
 pub mod Places
 pub mod Rosters
+pub mod Runs
 pub mod Search
 pub mod Settled
 pub mod Standing

@@ -1,6 +1,6 @@
 //! The interleaving model: the stop cells of all rows under any interleaving of atomic steps.
 
-ghost use Rattle.std.specs.Prelude.{◌≡◌, ◌+◌, ◌*◌, ◌<◌, ◌≤◌, ℕ, IfOk, OnErr, Option, length, replicate};
+ghost use Rattle.std.specs.Prelude.{◌≡◌, All, ◌+◌, ◌*◌, ◌<◌, ◌≤◌, ℕ, IfOk, OnErr, Option, length, replicate};
 ghost use Rattle.std.specs.Option.{ForSome};
 ghost use Rattle.stop_board.specs.Action.{IsAction};
 ghost use Rattle.stop_board.specs.Actor.{numbered_actor};
@@ -109,6 +109,30 @@ impl<A: Allocator> World<A> {
             actor,
             action,
         )
+    }
+}
+
+impl<A: Allocator + Copy> World<A> {
+    ghost use Rattle.stop_board.specs.World.{AreReplies, Moment, StandsAt, moment_behind};
+
+    /// The replies to turns of actors, in order. A refused run has done nothing.
+    pub fn run(&mut self, turns: &[(u32, Action)]) -> Result<Vec<Reply, A>, NoMemory>
+        requires { All (λ turn. IsAction turn.1) turns.now }
+        ensures replies { (m : Moment) → StandsAt self.old m →
+            IfOk result (λ replies. AreReplies self.old.rows self.old.tracers m turns.now replies.items) }
+        ensures stands { (m : Moment) → StandsAt self.old m →
+            IfOk result (λ replies. StandsAt self.new (moment_behind self.old.rows self.old.tracers m turns.now replies.items)) }
+        ensures refused { OnErr result (self.new ≡ self.old) }
+        ensures rows { self.new.rows ≡ self.old.rows }
+        ensures tracers { self.new.tracers ≡ self.old.tracers }
+    {
+        let mut replies = Vec::with_capacity(*self.rows.allocator(), turns.len())?;
+        for turn in turns {
+            if replies.push(self.step(turn.0, turn.1)).is_err() {
+                unreachable!();
+            }
+        }
+        Ok(replies)
     }
 }
 

@@ -1,9 +1,10 @@
 -- The interleaving model: at the moment at which a World stands, its words show the states of the history, and each
 -- reply tells of a change that the history allows.
-use Rattle.std.proofs.Common.{refl, ◌≡◌, ◌≢◌, ◌+◌, ◌-◌, ◌*◌, ◌≤◌, ◌∷◌, [], ℕ, Bool, true, false, Some, None, Option, Ok, Err, Result, List, length, arith, ◌∙◌, sym, ap, subst, inl, inr, lt-ltb, le-ltb}
-use Rattle.std.proofs.lemmas.Bool.{cases_lt}
+use Rattle.std.proofs.Common.{cond, slice_set, refl, ◌≡◌, ◌≢◌, ◌+◌, ◌-◌, ◌*◌, ◌≤◌, ◌∷◌, [], ℕ, Bool, true, false, Some, None, Option, Ok, Err, Result, List, length, arith, ◌∙◌, sym, ap, subst, inl, inr, lt-ltb, le-ltb, eqb, eqb-true, eq-eqb, get_or-set_same, get_or-set_other, ◌&&◌, ◌<◌}
+use Rattle.std.specs.Option.{ForSome}
+use Rattle.std.proofs.lemmas.Bool.{cases_Bool, and_parts, cases_lt}
 use Rattle.std.proofs.lemmas.List.{get_or_past}
-use Rattle.std.proofs.lemmas.Nat.{row_fits}
+use Rattle.std.proofs.lemmas.Nat.{row_fits, same_from_place}
 use Rattle.trace_record.specs.declared.stop.Stop.{Stop}
 use Rattle.trace_record.specs.declared.resume.Resume.{Resume as Restart}
 use Rattle.trace_record.specs.declared.death.Death.{Death}
@@ -19,7 +20,7 @@ use Rattle.stop_board.specs.declared.refused.Refused.{Refused}
 use Rattle.stop_board.specs.declared.roster.Row.{Row}
 use Rattle.stop_board.specs.declared.state.State.{State}
 use Rattle.stop_board.specs.declared.state.State.TheVariants as state
-use Rattle.stop_board.specs.Action.{ClaimReplies, Exchanges, TraceeReplies, TracerReplies, done, numbered, restart_in, taken_by, took, tracee_change, tracer_change, waits}
+use Rattle.stop_board.specs.Action.{ClaimReplies, Exchanges, TraceeReplies, TracerReplies, done, numbered, restart_in, taken_by, took, tracee_change, tracer_change, waits, row_seen}
 use Rattle.stop_board.specs.Actor.{numbered_actor}
 use Rattle.stop_board.specs.Change.{Change, IsAllowed, history_with, taken_with, words_with}
 use Rattle.stop_board.specs.Event as event
@@ -30,12 +31,12 @@ use Rattle.stop_board.specs.Sequential.{and_then, exit_answer, most_tracers, pub
 use Rattle.stop_board.specs.Standing.{AreAt}
 use Rattle.stop_board.specs.State.{is_born, is_waitable, number_in, state_after}
 use Rattle.stop_board.specs.Word.{Word, claimed_phase, opening, phase_in, raised, shown, state_by, word_after, word_at, word_in}
-use Rattle.stop_board.specs.World.{ActorReplies, IsActor, Moment, actor_change, is_active, last_seen, seen_by, sight_at, sight_by}
+use Rattle.stop_board.specs.World.{ActorReplies, IsActor, Moment, actor_change, is_active, last_seen, seen_by, sight_at, sight_by, words_seen, words_seen_by, seen_with, seen_place}
 use Rattle.stop_board.proofs.AtomicSteps.{change_stands, not_running}
 use Rattle.stop_board.proofs.Events.{other_events}
 use Rattle.stop_board.proofs.Going.{exit_fits, publish_fits, resume_fits}
 use Rattle.stop_board.proofs.Standing.{held_state, held_word, shows_taken}
-use Rattle.stop_board.proofs.States.{fits_within, present, state_within}
+use Rattle.stop_board.proofs.States.{fits_within, past_or_within, present, state_within}
 
 -- ---- what the words show
 
@@ -201,7 +202,7 @@ actor_allowed : (rows : List Row) (m : Moment) → ((row : ℕ) → m.taken row 
     → IsAllowed rows m.history (actor_change (word_after m.taken m.history) who a r)
 actor_allowed rows m up None a r is = tt
 actor_allowed rows m up (Some (Tracee row)) a r is = tracee_allowed rows m row a r is
-actor_allowed rows m up (Some (Tracer tracer)) a r is = tracer_allowed rows m up (last_seen rows m.seen tracer) tracer a r is
+actor_allowed rows m up (Some (Tracer tracer)) a r is = tracer_allowed rows m up (m.seen tracer) tracer a r is
 
 -- ---- one step of a World that stands at a moment
 
@@ -216,11 +217,45 @@ has_place rows tracers number places few each =
       ])
     ]
 
-pub replies_at : (rows : List Row) (words seen : List Word) (m : Moment) → AreAt rows words m.taken m.history → length words ≡ length rows → IsRoster rows → seen ≡ m.seen
-    → (who : Option Actor) (a : Action) (r : Reply) → ActorReplies rows (sight_by rows words) seen who a r → ActorReplies rows (sight_at rows m) m.seen who a r
-replies_at rows words seen m at each roster saw who a r is =
-    subst (λ s. ActorReplies rows (sight_at rows m) s who a r) saw
-    (subst (λ sight. ActorReplies rows sight seen who a r) (same_sight rows words m at each roster) is)
+-- only the words last seen in rows that are there matter
+same_last : (rows : List Row) (m : Moment) (last before : ℕ → Word) → ((row : ℕ) → row < length rows → last row ≡ before row)
+    → (tracer : ℕ) (a : Action) (r : Reply) → TracerReplies rows (sight_at rows m) last tracer a r → TracerReplies rows (sight_at rows m) before tracer a r
+same_last rows m last before same tracer (action.Claim row) r is =
+    let now = word_after m.taken m.history row in
+    elim (past_or_within rows m.history row) [
+      | inl within ↦ subst (λ w. ClaimReplies (state_after rows m.history row) w now r) (same row within) is
+      | inr gone ↦ subst (λ at. ClaimReplies at (before row) now r) (sym gone) (subst (λ at. ClaimReplies at (last row) now r) gone is)
+    ]
+same_last rows m last before same tracer (action.Resume row how) r is = is
+same_last rows m last before same tracer (action.Look row) r is = is
+same_last rows m last before same tracer action.TakeUp r is = is
+same_last rows m last before same tracer (action.Publish stop) r is = is
+same_last rows m last before same tracer (action.Exit death) r is = is
+
+-- who is a tracer is one of the World's
+abbrev pub AmongTracers : ℕ → Option Actor → Type 0
+AmongTracers tracers who = (tracer : ℕ) → who ≡ Some (Tracer tracer) → tracer < tracers
+
+pub among_tracers : (rows tracers number : ℕ) → AmongTracers tracers (numbered_actor rows tracers number)
+among_tracers rows tracers number tracer =
+    elim (cases_lt number rows) [
+      | inl within ↦ rw (lt-ltb _ _ within) (λ is. cc)
+      | inr past ↦ rw (le-ltb _ _ past) (elim (cases_lt number (rows + tracers)) [
+        | inl there ↦ rw (lt-ltb _ _ there) (λ is. let same : number - rows ≡ tracer = cc in omega arith)
+        | inr none ↦ rw (le-ltb _ _ none) (λ is. cc)
+      ])
+    ]
+
+pub replies_at : (rows : List Row) (words seen : List Word) (tracers : ℕ) (m : Moment) → AreAt rows words m.taken m.history → length words ≡ length rows → IsRoster rows
+    → ((tracer row : ℕ) → tracer < tracers → row < length rows → last_seen rows seen tracer row ≡ m.seen tracer row)
+    → (who : Option Actor) → AmongTracers tracers who → (a : Action) (r : Reply)
+    → ActorReplies rows (sight_by rows words) (last_seen rows seen) who a r → ActorReplies rows (sight_at rows m) m.seen who a r
+replies_at rows words seen tracers m at each roster saw None among a r is = is
+replies_at rows words seen tracers m at each roster saw (Some (Tracee row)) among a r is =
+    subst (λ sight. TraceeReplies rows sight row a r) (same_sight rows words m at each roster) is
+replies_at rows words seen tracers m at each roster saw (Some (Tracer tracer)) among a r is =
+    same_last rows m (last_seen rows seen tracer) (m.seen tracer) (λ row. saw tracer row (among tracer refl)) tracer a r
+    (subst (λ sight. TracerReplies rows sight (last_seen rows seen tracer) tracer a r) (same_sight rows words m at each roster) is)
 
 pub stands_behind : (rows : List Row) (words new : List Word) (m : Moment) → AreAt rows words m.taken m.history → length words ≡ length rows
     → (who : Option Actor) (a : Action) (r : Reply) → ActorReplies rows (sight_at rows m) m.seen who a r
@@ -233,9 +268,47 @@ stands_behind rows words new m at each who a r is changed =
     subst (λ ws. AreAt rows ws (taken_with change m.taken) (history_with change m.history)) (sym known)
     (change_stands rows words m.taken m.history at each change (actor_allowed rows m at.up who a r is))
 
-pub seen_behind : (rows : List Row) (new seen left : List Word) (taken : ℕ → Bool) (h : History) → AreAt rows new taken h → length new ≡ length rows
-    → (who : Option Actor) (a : Action) (r : Reply) (before : List Word) → seen ≡ before → left ≡ seen_by rows (word_at new) who a r seen
-    → left ≡ seen_by rows (word_after taken h) who a r before
-seen_behind rows new seen left taken h at each who a r before saw is =
-    let of_rows : word_at new ≡ word_after taken h = λ i row. each_word rows new taken h at each row i in
-    is ∙ ap (λ (ws : ℕ → Word). seen_by rows ws who a r seen) of_rows ∙ ap (seen_by rows (word_after taken h) who a r) saw
+-- the words last seen behind a step, as they are kept and as the moment has them
+record IsNoted (rows : List Row) (tracers : ℕ) (seen : List Word) (before : ℕ → ℕ → Word) : Type 0 where
+  each : length seen ≡ tracers * length rows
+  saw : (tracer row : ℕ) → tracer < tracers → row < length rows → last_seen rows seen tracer row ≡ before tracer row
+
+place_within : (rows tracers tracer row : ℕ) → tracer < tracers → row < rows → tracer * rows + row < tracers * rows
+place_within rows tracers tracer row few within = let room = row_fits tracer rows tracers rows few (omega arith) in omega arith
+
+noted : (rows : List Row) (tracers : ℕ) (seen left : List Word) (before : ℕ → ℕ → Word) → IsNoted rows tracers seen before → (words : ℕ → Word)
+    → (tracer : ℕ) → tracer < tracers → (o : Option ℕ) → ForSome o (λ at. at < length rows) → left ≡ words_seen rows words tracer o seen
+    → (t row : ℕ) → t < tracers → row < length rows → last_seen rows left t row ≡ seen_with words tracer o before t row
+noted rows tracers seen left before is words tracer few None there set t row t_few within = ap (λ ws. last_seen rows ws t row) set ∙ is.saw t row t_few within
+noted rows tracers seen left before is words tracer few (Some at) there set t row t_few within =
+    let place : ℕ = seen_place rows tracer at in
+    let inside : place < length seen = (let room = place_within (length rows) tracers tracer at few (there at refl) in omega (arith, is.each)) in
+    ap (λ ws. last_seen rows ws t row) set
+    ∙ elim (cases_Bool (eqb t tracer && eqb row at)) [
+      | inl here ↦
+          let both = and_parts (eqb t tracer) (eqb row at) here in
+          let same_t : t ≡ tracer = eqb-true t tracer both.0 in
+          let same_row : row ≡ at = eqb-true row at both.1 in
+          let same : seen_place rows t row ≡ place = ap (λ k. seen_place rows k row) same_t ∙ ap (seen_place rows tracer) same_row in
+          ap (word_at (slice_set seen place (words at))) same ∙ get_or-set_same seen place (words at) opening inside
+          ∙ sym (ap (λ b. cond b (words at) (before t row)) here)
+      | inr other ↦
+          let apart : seen_place rows t row ≢ place = λ same.
+          (let one = same_from_place t row tracer at (length rows) within (there at refl) same in
+          let clash : (eqb t tracer && eqb row at) ≡ true = rw (eq-eqb t tracer one.0, eq-eqb row at one.1) in cc) in
+          get_or-set_other seen place (seen_place rows t row) (words at) opening apart ∙ is.saw t row t_few within
+          ∙ sym (ap (λ b. cond b (words at) (before t row)) other)
+    ]
+
+pub seen_behind : (rows : List Row) (tracers : ℕ) (new seen left : List Word) (taken : ℕ → Bool) (h : History) → AreAt rows new taken h → length new ≡ length rows
+    → (before : ℕ → ℕ → Word) → length seen ≡ tracers * length rows
+    → ((tracer row : ℕ) → tracer < tracers → row < length rows → last_seen rows seen tracer row ≡ before tracer row)
+    → (who : Option Actor) → AmongTracers tracers who → (a : Action) (r : Reply) → ForSome (row_seen a r) (λ at. at < length rows)
+    → left ≡ words_seen_by rows (word_at new) who a r seen
+    → (t row : ℕ) → t < tracers → row < length rows → last_seen rows left t row ≡ seen_by (word_after taken h) who a r before t row
+seen_behind rows tracers new seen left taken h at each before long saw None among a r there is t row few within = ap (λ ws. last_seen rows ws t row) is ∙ saw t row few within
+seen_behind rows tracers new seen left taken h at each before long saw (Some (Tracee own)) among a r there is t row few within = ap (λ ws. last_seen rows ws t row) is ∙ saw t row few within
+seen_behind rows tracers new seen left taken h at each before long saw (Some (Tracer tracer)) among a r there is t row few within =
+    let of_rows : word_at new ≡ word_after taken h = λ i at_row. each_word rows new taken h at each at_row i in
+    noted rows tracers seen left before (record { each = long; saw = saw }) (word_after taken h) tracer (among tracer refl) (row_seen a r) there
+    (is ∙ ap (λ (ws : ℕ → Word). words_seen rows ws tracer (row_seen a r) seen) of_rows) t row few within

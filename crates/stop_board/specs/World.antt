@@ -1,5 +1,5 @@
 -- The interleaving model: the cells of all rows, and what each tracer last saw in each of them.
-use Rattle.std.specs.Prelude.{◌≡◌, ◌+◌, ◌*◌, ◌<◌, ◌≤◌, ◌∷◌, [], ℕ, Bool, true, false, List, length, Option, Some, None, slice_set}
+use Rattle.std.specs.Prelude.{◌≡◌, ◌+◌, ◌*◌, ◌<◌, ◌≤◌, ◌∷◌, [], ℕ, Bool, true, false, List, length, Option, Some, None, slice_set, if◌then◌else◌, ◌==◌, ◌&&◌}
 use Rattle.stop_board.specs.declared.action.Action.{Action}
 use Rattle.stop_board.specs.declared.action.Reply.{Reply}
 use Rattle.stop_board.specs.declared.action.Reply.TheVariants as reply
@@ -14,9 +14,9 @@ use Rattle.stop_board.specs.Actor.{numbered_actor}
 use Rattle.stop_board.specs.Change.{Change, Nothing, history_with, taken_with}
 use Rattle.stop_board.specs.Event.{History}
 use Rattle.stop_board.specs.Sequential.{most_tracers}
-use Rattle.stop_board.specs.Standing.{AreAt, IsHeld}
+use Rattle.stop_board.specs.Standing.{AreAt, IsHeld, none_taken}
 use Rattle.stop_board.specs.State.{state_after}
-use Rattle.stop_board.specs.Word.{Word, state_by, word_after, word_at}
+use Rattle.stop_board.specs.Word.{Word, opening, state_by, word_after, word_at}
 
 -- what a World holds: its rows and tracers, the word of each row, and the word that each tracer last saw in each row
 pub record Place : Type 0 where
@@ -31,31 +31,38 @@ pub record IsPlace (rows : List Row) (tracers : ℕ) (words seen : List Word) : 
   pub few : tracers ≤ most_tracers
   pub each : length seen ≡ tracers * length rows
 
--- where a run has come to: its history, the rows that are taken up, and the words last seen
+-- where a run has come to: its history, the rows that are taken up, and by tracer and row the word last seen
 pub record Moment : Type 0 where
   pub history : History
   pub taken : ℕ → Bool
-  pub seen : List Word
+  pub seen : (tracer row : ℕ) → Word
+
+-- the words last seen are kept tracer by tracer, and row by row
+abbrev pub seen_place : List Row → (tracer row : ℕ) → ℕ
+seen_place rows tracer row = tracer * length rows + row
+
+abbrev pub last_seen : List Row → List Word → (tracer row : ℕ) → Word
+last_seen rows words tracer row = word_at words (seen_place rows tracer row)
+
+abbrev pub HasSeen : Place → ((tracer row : ℕ) → Word) → Type 0
+HasSeen world seen = (tracer row : ℕ) → tracer < world.tracers → row < length world.rows → last_seen world.rows world.seen tracer row ≡ seen tracer row
 
 abbrev pub StandsAt : Place → Moment → Type 0
-StandsAt world m = AreAt world.rows world.words m.taken m.history × (world.seen ≡ m.seen)
+StandsAt world m = AreAt world.rows world.words m.taken m.history × HasSeen world m.seen
+
+-- before any event: no row is taken up, and nobody has looked
+abbrev pub first_moment : Moment
+first_moment = record { history = []; taken = none_taken; seen = λ tracer row. opening }
 
 -- of each row its state, its word and whether it is taken up
 abbrev pub sight_at : List Row → Moment → Sight
 sight_at rows m = record { states = state_after rows m.history; words = word_after m.taken m.history; taken = m.taken }
 
--- the words last seen stand tracer by tracer, and row by row
-abbrev pub seen_place : List Row → (tracer row : ℕ) → ℕ
-seen_place rows tracer row = tracer * length rows + row
-
-abbrev pub last_seen : List Row → List Word → (tracer row : ℕ) → Word
-last_seen rows seen tracer row = word_at seen (seen_place rows tracer row)
-
 -- the reply to an actor's action
-abbrev pub ActorReplies : List Row → Sight → List Word → Option Actor → Action → Reply → Type 0
+abbrev pub ActorReplies : List Row → Sight → (seen : ℕ → ℕ → Word) → Option Actor → Action → Reply → Type 0
 ActorReplies rows sight seen None action r = r ≡ reply.Refused refused.NoRow
 ActorReplies rows sight seen (Some (Tracee row)) action r = TraceeReplies rows sight row action r
-ActorReplies rows sight seen (Some (Tracer tracer)) action r = TracerReplies rows sight (last_seen rows seen tracer) tracer action r
+ActorReplies rows sight seen (Some (Tracer tracer)) action r = TracerReplies rows sight (seen tracer) tracer action r
 
 abbrev pub Replies : List Row → (tracers : ℕ) → Moment → (actor : ℕ) → Action → Reply → Type 0
 Replies rows tracers m actor action r = ActorReplies rows (sight_at rows m) m.seen (numbered_actor (length rows) tracers actor) action r
@@ -70,26 +77,26 @@ abbrev pub change_of : List Row → (tracers : ℕ) → Moment → (actor : ℕ)
 change_of rows tracers m actor action r = actor_change (word_after m.taken m.history) (numbered_actor (length rows) tracers actor) action r
 
 -- a tracer has seen the word that the row has right behind the step
-abbrev pub seen_with : List Row → (ℕ → Word) → (tracer : ℕ) → Option ℕ → List Word → List Word
-seen_with rows words tracer None seen = seen
-seen_with rows words tracer (Some row) seen = slice_set seen (seen_place rows tracer row) (words row)
+abbrev pub seen_with : (ℕ → Word) → (tracer : ℕ) → Option ℕ → (ℕ → ℕ → Word) → ℕ → ℕ → Word
+seen_with words tracer None seen t r = seen t r
+seen_with words tracer (Some row) seen t r = if t == tracer && r == row then words row else seen t r
 
-abbrev pub seen_by : List Row → (ℕ → Word) → Option Actor → Action → Reply → List Word → List Word
-seen_by rows words None action r seen = seen
-seen_by rows words (Some (Tracee row)) action r seen = seen
-seen_by rows words (Some (Tracer tracer)) action r seen = seen_with rows words tracer (row_seen action r) seen
+abbrev pub seen_by : (ℕ → Word) → Option Actor → Action → Reply → (ℕ → ℕ → Word) → ℕ → ℕ → Word
+seen_by words None action r seen = seen
+seen_by words (Some (Tracee row)) action r seen = seen
+seen_by words (Some (Tracer tracer)) action r seen = seen_with words tracer (row_seen action r) seen
 
 -- the moment behind a change, of which an actor has seen its part
-abbrev pub moment_with : List Row → Option Actor → Action → Reply → Change → Moment → Moment
-moment_with rows who action r change m = record {
+abbrev pub moment_with : Option Actor → Action → Reply → Change → Moment → Moment
+moment_with who action r change m = record {
   history = history_with change m.history;
   taken = taken_with change m.taken;
-  seen = seen_by rows (word_after (taken_with change m.taken) (history_with change m.history)) who action r m.seen;
+  seen = seen_by (word_after (taken_with change m.taken) (history_with change m.history)) who action r m.seen;
 }
 
 abbrev pub moment_after : List Row → (tracers : ℕ) → Moment → (actor : ℕ) → Action → Reply → Moment
 moment_after rows tracers m actor action r =
-    moment_with rows (numbered_actor (length rows) tracers actor) action r (change_of rows tracers m actor action r) m
+    moment_with (numbered_actor (length rows) tracers actor) action r (change_of rows tracers m actor action r) m
 
 -- ---- the same, of words that stand at no moment yet
 
@@ -111,6 +118,16 @@ IsActor rows places (Some (Tracer tracer)) = (tracer < most_tracers) × (tracer 
 
 abbrev pub sight_by : List Row → List Word → Sight
 sight_by rows words = record { states = state_by rows words; words = word_at words; taken = λ row. is_active (word_at words row).phase }
+
+-- the words last seen, with that of a row
+abbrev pub words_seen : List Row → (ℕ → Word) → (tracer : ℕ) → Option ℕ → List Word → List Word
+words_seen rows words tracer None seen = seen
+words_seen rows words tracer (Some row) seen = slice_set seen (seen_place rows tracer row) (words row)
+
+abbrev pub words_seen_by : List Row → (ℕ → Word) → Option Actor → Action → Reply → List Word → List Word
+words_seen_by rows words None action r seen = seen
+words_seen_by rows words (Some (Tracee row)) action r seen = seen
+words_seen_by rows words (Some (Tracer tracer)) action r seen = words_seen rows words tracer (row_seen action r) seen
 
 -- ---- runs
 

@@ -1,6 +1,7 @@
 //! The atomic steps of a tracer on the words of all rows.
 
 ghost use Rattle.std.specs.Prelude.{◌≡◌, ◌+◌, ◌*◌, ◌<◌, ◌≤◌, ℕ, length};
+ghost use Rattle.std.specs.Option.{ForSome};
 ghost use Rattle.stop_board.specs.Action.{ClaimReplies, Exchanges, IsAction, TracerReplies, done, row_seen, tracer_change, waits};
 ghost use Rattle.stop_board.specs.declared.action.Action.TheVariants as action;
 ghost use Rattle.stop_board.specs.Change.{words_with};
@@ -33,6 +34,7 @@ pub(crate) fn tracer_step(
     requires action { IsAction action }
     ensures reply { TracerReplies rows.now (sight_by rows.now words.old) (last_seen rows.now seen.now tracer) tracer action result }
     ensures words { words.new ≡ words_with (tracer_change (word_at words.old) tracer action result) words.old }
+    ensures row { ForSome (row_seen action result) (λ row. row < length rows.now) }
 {
     match action {
         Action::Look(row) => look_at(rows, words, row),

@@ -2,13 +2,13 @@
 
 ghost use Rattle.std.specs.Prelude.{◌≡◌, All, ◌+◌, ◌*◌, ◌<◌, ◌≤◌, ℕ, IfOk, OnErr, Option, length, replicate};
 ghost use Rattle.std.specs.Option.{ForSome};
-ghost use Rattle.stop_board.specs.Action.{IsAction};
+ghost use Rattle.stop_board.specs.Action.{IsAction, row_seen};
 ghost use Rattle.stop_board.specs.Actor.{numbered_actor};
 ghost use Rattle.stop_board.specs.Change.{words_with};
 ghost use Rattle.stop_board.specs.Roster.{IsRoster};
 ghost use Rattle.stop_board.specs.Sequential.{most_tracers};
 ghost use Rattle.stop_board.specs.Word.{opening, word_at};
-ghost use Rattle.stop_board.specs.World.{ActorReplies, IsActor, actor_change, seen_by, seen_with, sight_by};
+ghost use Rattle.stop_board.specs.World.{ActorReplies, IsActor, actor_change, last_seen, sight_by, words_seen, words_seen_by};
 
 use crate::action::{Action, Reply};
 use crate::actor::Actor;
@@ -48,8 +48,7 @@ impl<A: Allocator> Model for World<A> {
 }
 
 impl<A: Allocator + Copy> World<A> {
-    ghost use Rattle.std.specs.Prelude.{[]};
-    ghost use Rattle.stop_board.specs.Standing.{AreAt, none_taken};
+    ghost use Rattle.stop_board.specs.World.{StandsAt, first_moment};
 
     /// A World of so many tracers, at most 16, before any event. Nobody has looked yet: what each tracer last saw in
     /// each row is the opening word.
@@ -61,8 +60,7 @@ impl<A: Allocator + Copy> World<A> {
         requires { tracers ≤ most_tracers }
         ensures rows { IfOk result (λ world. world.rows ≡ roster.now) }
         ensures tracers { IfOk result (λ world. world.tracers ≡ tracers) }
-        ensures words { IfOk result (λ world. AreAt world.rows world.words none_taken []) }
-        ensures seen { IfOk result (λ world. world.seen ≡ replicate (tracers * length roster.now) opening) }
+        ensures stands { IfOk result (λ world. StandsAt world first_moment) }
     {
         let rows = Vec::from_slice(alloc, roster.rows())?;
         let words = opening_words(alloc, rows.len())?;
@@ -79,7 +77,7 @@ impl<A: Allocator + Copy> World<A> {
 impl<A: Allocator> World<A> {
     ghost use Rattle.stop_board.specs.Standing.{AreAt};
     ghost use Rattle.stop_board.specs.State.{state_after};
-    ghost use Rattle.stop_board.specs.World.{Moment, Replies, StandsAt, moment_after};
+    ghost use Rattle.stop_board.specs.World.{HasSeen, Moment, Replies, StandsAt, moment_after};
 
     /// The state of a row, `Absent` out of range.
     pub fn state(&self, row: u32) -> State
@@ -96,7 +94,7 @@ impl<A: Allocator> World<A> {
             AreAt self.new.rows self.new.words (moment_after self.old.rows self.old.tracers m actor action result).taken
             (moment_after self.old.rows self.old.tracers m actor action result).history }
         ensures seen { (m : Moment) → StandsAt self.old m →
-            self.new.seen ≡ (moment_after self.old.rows self.old.tracers m actor action result).seen }
+            HasSeen self.new (moment_after self.old.rows self.old.tracers m actor action result).seen }
         ensures rows { self.new.rows ≡ self.old.rows }
         ensures tracers { self.new.tracers ≡ self.old.tracers }
     {
@@ -164,9 +162,10 @@ fn step_of(
     requires roster { IsRoster rows.now }
     requires actor { IsActor (length rows.now) (length seen.old) actor }
     requires action { IsAction action }
-    ensures reply { ActorReplies rows.now (sight_by rows.now words.old) seen.old actor action result }
+    ensures reply { ActorReplies rows.now (sight_by rows.now words.old) (last_seen rows.now seen.old) actor action result }
+    ensures row { ForSome (row_seen action result) (λ row. row < length rows.now) }
     ensures words { words.new ≡ words_with (actor_change (word_at words.old) actor action result) words.old }
-    ensures seen { seen.new ≡ seen_by rows.now (word_at words.new) actor action result seen.old }
+    ensures seen { seen.new ≡ words_seen_by rows.now (word_at words.new) actor action result seen.old }
 {
     match actor {
         None => Reply::Refused(Refused::NoRow),
@@ -186,7 +185,7 @@ fn note(rows: &[Row], words: &[Word], seen: &mut [Word], tracer: u32, row: Optio
     requires tracer { tracer < most_tracers }
     requires row { ForSome row (λ at. at < length rows.now) }
     requires seen { tracer * length rows.now + length rows.now ≤ length seen.old }
-    ensures { seen.new ≡ seen_with rows.now (word_at words.now) tracer row seen.old }
+    ensures { seen.new ≡ words_seen rows.now (word_at words.now) tracer row seen.old }
 {
     if let Some(row) = row {
         seen[tracer as usize * rows.len() + row as usize] = words[row as usize];

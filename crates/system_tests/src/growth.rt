@@ -4,3 +4,4 @@
 mod board;
 mod memory;
 mod replay;
+mod world;

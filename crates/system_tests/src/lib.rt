@@ -14,3 +14,7 @@ mod readme;
 mod replay;
 #[cfg(test)]
 mod roster;
+#[cfg(test)]
+mod word;
+#[cfg(test)]
+mod world;

@@ -1,7 +1,7 @@
 use Rattle.std.proofs.Common.{◌≡◌, ◌∙◌, arith, length}
 use Rattle.std.proofs.lemmas.List.{with_items_is}
 use Rattle.stop_board.specs.Actor.{numbered_actor}
-use Rattle.stop_board.proofs.Worlds.{has_place, replies_at, seen_behind, stands_behind}
+use Rattle.stop_board.proofs.Worlds.{among_tracers, has_place, replies_at, seen_behind, stands_behind}
 use Rattle.stop_board.proofs.world.World.step.Goals as goal
 
 pub step_of-requires-clause-actor : goal.step_of-requires-clause-actor
@@ -13,8 +13,9 @@ pub returns-clause-reply : goal.returns-clause-reply
 returns-clause-reply g c = λ m s.
     let at = rw (← c.self.view_is) at s in
     rw (← c.self.view_is) (
-    replies_at c.self.inside.rows.items c.self.inside.words.items c.self.inside.seen.items m at.0 c.self.invariant.held.each c.self.invariant.held.roster at.1
-    (numbered_actor (length c.self.inside.rows.items) c.self.inside.tracers c.args.actor) c.args.action c.step_of.result
+    replies_at c.self.inside.rows.items c.self.inside.words.items c.self.inside.seen.items c.self.inside.tracers m at.0 c.self.invariant.held.each c.self.invariant.held.roster at.1
+    (numbered_actor (length c.self.inside.rows.items) c.self.inside.tracers c.args.actor)
+    (among_tracers (length c.self.inside.rows.items) c.self.inside.tracers c.args.actor) c.args.action c.step_of.result
     (rw (c.actor_of-actor.ensures, c.as_slice-rows.ensures.value, c.as_mut_slice.ensures.value, c.as_mut_slice-2.ensures.value) at c.step_of.ensures.reply))
 
 pub returns-clause-stands : goal.returns-clause-stands
@@ -38,7 +39,8 @@ returns-clause-seen g c = λ m s.
     let new = stands_behind c.self.inside.rows.items c.self.inside.words.items c.step_of.new.words m at.0 c.self.invariant.held.each who c.args.action c.step_of.result
     (rw (← c.self.view_is) at (returns-clause-reply g c m s))
     (rw (c.actor_of-actor.ensures, c.as_slice-rows.ensures.value, c.as_mut_slice.ensures.value) at c.step_of.ensures.words) in
-    rw (← c.self.view_is) (
-    with_items_is c.self.inside.seen c.step_of.new.seen long
-    ∙ seen_behind c.self.inside.rows.items c.step_of.new.words c.self.inside.seen.items c.step_of.new.seen _ _ new each who c.args.action c.step_of.result m.seen at.1
+    rw (← c.self.view_is, with_items_is c.self.inside.seen c.step_of.new.seen long) (
+    seen_behind c.self.inside.rows.items c.self.inside.tracers c.step_of.new.words c.self.inside.seen.items c.step_of.new.seen _ _ new each m.seen c.self.invariant.each at.1 who
+    (among_tracers (length c.self.inside.rows.items) c.self.inside.tracers c.args.actor) c.args.action c.step_of.result
+    (rw c.as_slice-rows.ensures.value at c.step_of.ensures.row)
     (rw (c.actor_of-actor.ensures, c.as_slice-rows.ensures.value, c.as_mut_slice-2.ensures.value) at c.step_of.ensures.seen))

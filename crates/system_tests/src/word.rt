@@ -1,0 +1,103 @@
+//! The packed word, by values worked out by hand from its table of bits.
+
+use std::test::Fail;
+use stop_board::{Phase, Word};
+use trace_record::{Kind, Resume};
+
+/// Stopped at number 1, by the first stop of a tracee.
+const STOPPED: Word = Word {
+    phase: Phase::Stopped { status: 0x80057f },
+    births: 0,
+    number: 1,
+};
+
+/// That stop, claimed by tracer 2.
+const CLAIMED: Word = Word {
+    phase: Phase::Claimed { tracer: 2 },
+    births: 0,
+    number: 1,
+};
+
+/// Resumed by `PTRACE_CONT` with signal 15 from stop 4.
+const RESUMED: Word = Word {
+    phase: Phase::Resumed(Resume {
+        kind: Kind::Cont,
+        signal: 15,
+    }),
+    births: 0,
+    number: 4,
+};
+
+/// Dead by exit code 3 behind stop 2, having borne one child.
+const DEAD: Word = Word {
+    phase: Phase::Dead { status: 0x300 },
+    births: 1,
+    number: 2,
+};
+
+/// The word with every field of its state at the greatest value.
+const GREATEST: Word = Word {
+    phase: Phase::Claimed { tracer: 15 },
+    births: 63,
+    number: 16_777_215,
+};
+
+#[test]
+fn a_word_has_the_bits_of_its_table(rt: HostRuntime) -> Result<(), Fail> {
+    let table = [
+        (STOPPED, 0x0001000a00000203u64),
+        (CLAIMED, 0x0400000000000204),
+        (RESUMED, 0x003e000000000801),
+        (DEAD, 0x000006000000040d),
+        (GREATEST, 0x1e000001fffffffc),
+    ];
+    for (word, raw) in table {
+        assert_eq!(rt; word.pack(), raw);
+        assert_eq!(rt; Word::unpack(raw), Some(word));
+    }
+    Ok(())
+}
+
+#[test]
+fn the_opening_word_is_zero(rt: HostRuntime) -> Result<(), Fail> {
+    let opening = Word {
+        phase: Phase::Fresh,
+        births: 0,
+        number: 0,
+    };
+    assert_eq!(rt; opening.pack(), 0);
+    assert_eq!(rt; Word::unpack(0), Some(opening));
+    Ok(())
+}
+
+#[test]
+fn bits_of_no_word_are_refused(rt: HostRuntime) -> Result<(), Fail> {
+    let table = [
+        // State 7.
+        7u64,
+        // Fresh with a birth, and with a number.
+        0x8,
+        0x200,
+        // Claimed with a status.
+        0x0001000a00000204,
+        // Active with bit 61 set, and Reaped with bit 63.
+        0x2000000000000002,
+        0x8000000000000006,
+        // Resumed with signal 65.
+        0x0104000000000001,
+        // Active with a tracer, and Stopped by SIGTRAP (5) with the kind that is Resumed's.
+        0x0200000000000002,
+        0x0002000a00000203,
+        // Stopped by signal 0, by signal 65, and by event 8.
+        0x0000000000000003,
+        0x0000008200000003,
+        0x0000100a00000003,
+        // Dead by a raw value of a stop (0x057f), and by signal 65.
+        0x00000afe00000005,
+        0x0000008200000005,
+    ];
+    for raw in table {
+        assert_eq!(rt; Word::unpack(raw), None);
+    }
+    Ok(())
+}

@@ -1,12 +1,12 @@
 -- The first line of a text, and the first word of a line, cut off.
-use Rattle.std.proofs.Common.{refl, ◌≡◌, ◌≢◌, ◌+◌, ◌-◌, ◌<◌, ◌≤◌, ◌∷◌, [], ℕ, Bool, true, false, List, Option, Some, None, length, get_or, take, drop, filter, position, cond, arith, eqb, ltb, lt-ltb, le-ltb, ltb-true, ne_eqb, eqb-true, ap, sym, ◌∙◌, inl, inr, take_all, length-take, length-drop, min, All, append-nil, ◌++◌, ◌⊎◌}
+use Rattle.std.proofs.Common.{refl, ◌≡◌, ◌≢◌, ◌+◌, ◌-◌, ◌<◌, ◌≤◌, ◌∷◌, [], ℕ, Bool, List, Some, None, length, get_or, take, drop, filter, position, arith, eqb, lt-ltb, le-ltb, eqb-true, ap, sym, ◌∙◌, inl, inr, take_all, length-take, length-drop, min, append-nil, ◌++◌, ◌⊎◌}
 use Rattle.std.proofs.lemmas.List.{take-append-le}
-use Rattle.std.specs.List.{slice_split, position_or_len, before_first, after_first}
+use Rattle.std.specs.List.{slice_split, position_or_len}
 use Rattle.std.proofs.lemmas.Bool.{cases_lt, cases_order}
 use Rattle.std.proofs.lemmas.List.Splits.{slice_split_first, slice_split_none, length-slice_split}
 use Rattle.std.proofs.lemmas.List.Sums.{fails_before_first}
 use Rattle.std.proofs.lemmas.List.Quantifiers.{position-Some}
-use Rattle.tracer_cli.specs.Lines.{filled, has_letters, lines_of, without_empty_end, words_of}
+use Rattle.tracer_cli.specs.Lines.{has_letters, lines_of, without_empty_end, words_of}
 
 -- the first place, where there is one
 place : (p : ℕ → Bool) (xs : List ℕ) (i : ℕ) → position p xs ≡ Some i → (position_or_len p xs ≡ i) × (position_or_len p xs < length xs)

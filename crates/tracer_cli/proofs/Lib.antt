@@ -3,6 +3,7 @@ pub mod Decimals
 pub mod Digits
 pub mod LinesBack
 pub mod LinesRead
+pub mod OneThread
 pub mod ReadBack
 pub mod RosterGrows
 pub mod SixWords

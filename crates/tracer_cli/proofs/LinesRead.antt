@@ -1,9 +1,9 @@
 -- A file is read line by line.
-use Rattle.std.proofs.Common.{refl, false, true, ◌≡◌, ◌+◌, ◌≤◌, ◌<◌, ◌∷◌, [], ℕ, List, Result, Ok, Err, IfErr, IsOk, length, max, arith, ap, sym, ◌∙◌, ◌==◌, eqb-true}
+use Rattle.std.proofs.Common.{refl, false, true, ◌≡◌, ◌+◌, ◌≤◌, ◌<◌, ◌∷◌, [], ℕ, List, Result, Ok, Err, IfErr, IsOk, length, arith, ap, sym, ◌∙◌, ◌==◌, eqb-true}
 use Rattle.tracer_cli.specs.declared.cause.Cause.{Cause}
 use Rattle.tracer_cli.specs.declared.cause.Cause.TheVariants.{NoMemory}
 use Rattle.tracer_cli.specs.declared.cause.CaseError.{CaseError}
-use Rattle.tracer_cli.specs.File.{Content, IsWant, Refuses, TakesLine, and_lines, at_line, content_after, line_read}
+use Rattle.tracer_cli.specs.File.{Content, Refuses, TakesLine, and_lines, at_line, content_after, line_read}
 use Rattle.tracer_cli.specs.Lines.{lines_of}
 
 -- a line without a fault is followed by the lines behind it

@@ -1,5 +1,5 @@
 -- What was written, said in other words.
-use Rattle.std.proofs.Common.{refl, ◌≡◌, ◌++◌, ◌∷◌, [], ℕ, List, OnOk, Result, Ok, Err, subst, append_assoc, drop, drop-cons, drop_of_length-le, get_or, length, add-one, append-nil, ◌+◌, ◌<◌, ◌≤◌, ap, sym, ◌∙◌}
+use Rattle.std.proofs.Common.{◌≡◌, ◌++◌, ◌∷◌, [], ℕ, List, OnOk, Result, subst, append_assoc, drop, drop-cons, drop_of_length-le, get_or, length, add-one, append-nil, ◌+◌, ◌<◌, ◌≤◌, ap, sym, ◌∙◌}
 use Rattle.stop_board.specs.Event.{History}
 use Rattle.stop_board.specs.Standing.{Held, StandsAt}
 use Rattle.stop_board.specs.declared.roster.Row.{Row}

@@ -9,7 +9,6 @@ use Rattle.trace_record.specs.declared.death.Death.{Death}
 use Rattle.trace_record.specs.declared.death.Death.TheVariants as death
 use Rattle.tracer_cli.specs.declared.cause.Cause.{Cause}
 use Rattle.tracer_cli.specs.declared.cause.Cause.TheVariants.{BadNumber, UnknownWord}
-use Rattle.tracer_cli.specs.declared.command.Command.{Command}
 use Rattle.tracer_cli.specs.declared.command.Command.TheVariants as command
 use Rattle.tracer_cli.specs.declared.grammar.Line.{Line}
 use Rattle.tracer_cli.specs.declared.grammar.Line.TheVariants as line

@@ -6,6 +6,7 @@ pub mod File
 pub mod Grammar
 pub mod Lines
 pub mod Numbers
+pub mod OneThread
 pub mod Replay
 pub mod Replies
 pub mod Spelling

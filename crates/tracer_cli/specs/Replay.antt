@@ -1,5 +1,5 @@
 -- The text of a replay file: the replies to its commands from the empty history on, or the file's first fault.
-use Rattle.std.specs.Prelude.{◌≡◌, [], ℕ, List, Result, Ok, Err}
+use Rattle.std.specs.Prelude.{[], ℕ, List, Result, Ok, Err}
 use Rattle.tracer_cli.specs.declared.cause.CaseError.{CaseError}
 use Rattle.tracer_cli.specs.File.{Content, content_of}
 use Rattle.tracer_cli.specs.Replies.{replies}

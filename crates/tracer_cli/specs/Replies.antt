@@ -1,7 +1,6 @@
 -- The text of a replay: one line for each command, the board's sequential answer.
-use Rattle.std.specs.Prelude.{◌≡◌, ◌+◌, ◌++◌, ◌^◌, ◌-◌, ◌∷◌, [], ℕ, Bool, true, false, List, Result, Ok, Err, codes, decimal}
+use Rattle.std.specs.Prelude.{◌+◌, ◌++◌, ◌^◌, ◌-◌, ◌∷◌, [], ℕ, false, List, Result, Ok, Err, codes, decimal}
 use Rattle.std.specs.Fmt.{digits, format_spec, padded_integral}
-use Rattle.trace_record.specs.declared.stop.Stop.{Stop}
 use Rattle.stop_board.specs.declared.board.Got.{Got}
 use Rattle.stop_board.specs.declared.board.Got.TheVariants as got
 use Rattle.stop_board.specs.declared.refused.Refused.{Refused}
@@ -30,6 +29,7 @@ abbrev pub refusal_text : List Row → Refused → List ℕ
 refusal_text rows refused.NoRow = codes "refused NoRow"
 refusal_text rows refused.Unborn = codes "refused Unborn"
 refusal_text rows refused.NotRunning = codes "refused NotRunning"
+refusal_text rows refused.NotTaken = codes "refused NotTaken"
 refusal_text rows refused.NotNext = codes "refused NotNext"
 refusal_text rows refused.Full = codes "refused Full"
 refusal_text rows refused.NotWaitable = codes "refused NotWaitable"

@@ -10,6 +10,7 @@ mod grammar;
 mod laws;
 mod lines;
 mod numbers;
+mod one_thread;
 mod order;
 mod reading;
 mod replay;

@@ -59,6 +59,7 @@ fn write_refusal<A: Allocator>(
         Refused::NoRow => write!(out, "refused NoRow\n")?,
         Refused::Unborn => write!(out, "refused Unborn\n")?,
         Refused::NotRunning => write!(out, "refused NotRunning\n")?,
+        Refused::NotTaken => write!(out, "refused NotTaken\n")?,
         Refused::NotNext => write!(out, "refused NotNext\n")?,
         Refused::Full => write!(out, "refused Full\n")?,
         Refused::NotWaitable => write!(out, "refused NotWaitable\n")?,

@@ -1,4 +1,4 @@
-use Rattle.std.proofs.Common.{◌≡◌, List, ℕ, length, map, take, arith, length-take, inl, inr, min}
+use Rattle.std.proofs.Common.{◌≡◌, List, ℕ, length, map, take, arith, length-take, inl, inr}
 use Rattle.std.proofs.lemmas.List.{length-map}
 use Rattle.tracer_cli.specs.Lines.{words_of}
 use Rattle.tracer_cli.proofs.Cuts.{six_or_all}

@@ -1,5 +1,5 @@
-use Rattle.std.proofs.Common.{◌≡◌, ◌∙◌, ◌+◌, ◌∷◌, List, ℕ, ap, arith, length, sym}
-use Rattle.tracer_cli.specs.File.{Content, Refuses, content_after, nothing}
+use Rattle.std.proofs.Common.{◌∙◌, List, ℕ, ap, arith, length, sym}
+use Rattle.tracer_cli.specs.File.{Content, content_after}
 use Rattle.tracer_cli.specs.Lines.{lines_of}
 use Rattle.tracer_cli.proofs.LinesRead.{ends, ends_here, goes_on}
 use Rattle.tracer_cli.proofs.reading.read_lines.Goals as goal

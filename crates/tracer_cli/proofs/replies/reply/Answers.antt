@@ -1,4 +1,4 @@
-use Rattle.std.proofs.Common.{◌≡◌, ◌∙◌, ◌+◌, ap, codes, sym}
+use Rattle.std.proofs.Common.{◌∙◌, ◌+◌, ap, codes, sym}
 use Rattle.stop_board.specs.Event as event
 use Rattle.stop_board.specs.Sequential.{claim_answer, exit_answer, goes_on, publish_answer, resume_answer}
 use Rattle.stop_board.specs.State.{last_number, state_after}

@@ -1,5 +1,4 @@
-use Rattle.std.proofs.Common.{◌≡◌, ◌∙◌, ◌+◌, ap, string_bytes, sym}
-use Rattle.tracer_cli.specs.Replies.{replies}
+use Rattle.std.proofs.Common.{◌∙◌, string_bytes, sym}
 use Rattle.tracer_cli.proofs.Written.{none_left, one_more}
 use Rattle.tracer_cli.proofs.replies.write_replies.Goals as goal
 

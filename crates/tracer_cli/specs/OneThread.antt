@@ -1,0 +1,55 @@
+-- One thread that plays every actor of a World, one call after the other: what it is answered, and where it comes to.
+use Rattle.std.specs.Prelude.{◌≡◌, ℕ, Result, Ok, Err}
+use Rattle.stop_board.specs.declared.action.Reply.{Reply}
+use Rattle.stop_board.specs.declared.action.Reply.TheVariants as reply
+use Rattle.stop_board.specs.declared.board.Got.{Got}
+use Rattle.stop_board.specs.declared.board.Got.TheVariants as got
+use Rattle.stop_board.specs.declared.phase.Phase.{Phase}
+use Rattle.stop_board.specs.declared.phase.Phase.TheVariants as phase
+use Rattle.stop_board.specs.declared.refused.Refused.{Refused}
+use Rattle.stop_board.specs.declared.refused.Refused.TheVariants as refused
+use Rattle.stop_board.specs.Event.{History}
+use Rattle.stop_board.specs.World.{Moment, Place, StandsAt}
+
+-- a World stands at a moment with this history
+abbrev pub HasHistory : Place → History → Type 0
+HasHistory world h = (m : Moment) × StandsAt world m × (m.history ≡ h)
+
+-- the number of a stop that was published, or the refusal; other replies are to other actions
+abbrev pub number_in : Reply → Result ℕ Refused
+number_in (reply.Number number) = Ok number
+number_in (reply.Refused refusal) = Err refusal
+number_in (reply.Word word) = Err refused.NotRunning
+number_in (reply.Took how) = Err refused.NotRunning
+number_in (reply.Got word) = Err refused.NotRunning
+number_in (reply.Missed word) = Err refused.NotRunning
+number_in reply.Done = Err refused.NotRunning
+
+-- what is done, or the refusal
+abbrev pub done_in : Reply → Result (Unit {0}) Refused
+done_in reply.Done = Ok tt
+done_in (reply.Refused refusal) = Err refusal
+done_in (reply.Word word) = Err refused.NotRunning
+done_in (reply.Took how) = Err refused.NotRunning
+done_in (reply.Number number) = Err refused.NotRunning
+done_in (reply.Got word) = Err refused.NotRunning
+done_in (reply.Missed word) = Err refused.NotRunning
+
+-- the stop or the death that a claimed word showed
+abbrev pub got_of : ℕ → Phase → Result Got Refused
+got_of number (phase.Stopped status) = Ok (got.Stop number status)
+got_of number (phase.Dead status) = Ok (got.Ended number status)
+got_of number phase.Fresh = Err refused.NotWaitable
+got_of number (phase.Resumed how) = Err refused.NotWaitable
+got_of number phase.Active = Err refused.NotWaitable
+got_of number (phase.Claimed tracer) = Err refused.NotWaitable
+got_of number phase.Reaped = Err refused.NotWaitable
+
+abbrev pub got_in : Reply → Result Got Refused
+got_in (reply.Got word) = got_of word.number word.phase
+got_in (reply.Refused refusal) = Err refusal
+got_in (reply.Word word) = Err refused.NotWaitable
+got_in (reply.Took how) = Err refused.NotWaitable
+got_in (reply.Number number) = Err refused.NotWaitable
+got_in (reply.Missed word) = Err refused.NotWaitable
+got_in reply.Done = Err refused.NotWaitable

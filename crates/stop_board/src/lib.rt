@@ -30,6 +30,7 @@ pub use phase::Phase;
 pub use refused::Refused;
 pub use roster::{Roster, RosterError, Row, fault_after, place_of};
 pub use state::State;
+pub use steps::TRACERS;
 pub use trace_pages::NoMemory;
 pub use word::Word;
 pub use world::World;

@@ -21,8 +21,8 @@ use crate::state::State;
 use crate::word::{LAST_NUMBER, Word};
 use trace_record::{Death, Resume, Stop};
 
-/// How many tracers there are.
-pub(crate) const TRACERS: u32 = 16;
+/// How many tracers there are at most.
+pub const TRACERS: u32 = 16;
 
 /// The place of a row's parent.
 fn parent_place(rows: &[Row], at: usize) -> Option<usize>

@@ -1,7 +1,8 @@
 -- What was written, said in other words.
 use Rattle.std.proofs.Common.{◌≡◌, ◌++◌, ◌∷◌, [], ℕ, List, OnOk, Result, subst, append_assoc, drop, drop-cons, drop_of_length-le, get_or, length, add-one, append-nil, ◌+◌, ◌<◌, ◌≤◌, ap, sym, ◌∙◌}
 use Rattle.stop_board.specs.Event.{History}
-use Rattle.stop_board.specs.Standing.{Held, StandsAt}
+use Rattle.stop_board.specs.World.{Place}
+use Rattle.tracer_cli.specs.OneThread.{HasHistory}
 use Rattle.stop_board.specs.declared.roster.Row.{Row}
 use Rattle.tracer_cli.specs.declared.order.Order.{Order}
 use Rattle.tracer_cli.specs.Replies.{history_with, replies, reply_text}
@@ -10,8 +11,8 @@ pub told : {T E : Type 0} (result : Result T E) (out old said text : List ℕ) �
     → OnOk result (out ≡ old ++ (said ++ 10 ∷ [])) → OnOk result (out ≡ old ++ (text ++ 10 ∷ []))
 told {T} {E} result out old said text same wrote = let P : List ℕ → Type 0 = λ t. OnOk result (out ≡ old ++ (t ++ 10 ∷ [])) in subst P same wrote
 
-pub stands_at : (board : Held) (h k : History) → h ≡ k → StandsAt board h → StandsAt board k
-stands_at board h k same stands = let P : History → Type 0 = StandsAt board in subst P same stands
+pub has_history : (world : Place) (h k : History) → h ≡ k → HasHistory world h → HasHistory world k
+has_history world h k same at = (at.0, at.1, at.2 ∙ same)
 
 -- one more reply
 pub one_more : (rows : List Row) (h : History) (orders : List Order) (i : ℕ) (d : Order) (out new : List ℕ) → i < length orders

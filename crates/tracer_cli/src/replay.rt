@@ -14,7 +14,7 @@ use crate::order::Order;
 use crate::reading::read;
 use crate::replies::write_replies;
 use std::alloc::Allocator;
-use stop_board::{Board, NoMemory, Roster, Row};
+use stop_board::{NoMemory, Roster, Row, TRACERS, World};
 
 /// The longest reply is that of a leader's exit which a row of seven digits holds back.
 const LONGEST: usize = b"refused GroupAlive 4194303\n".len();
@@ -36,7 +36,7 @@ pub fn replay_text<A: Allocator + Copy>(alloc: A, text: &[u8]) -> Result<Vec<u8,
     }
 }
 
-/// The replies to orders on a new board.
+/// The replies to orders on a new World.
 fn run<A: Allocator + Copy>(
     alloc: A,
     rows: &[Row],
@@ -49,9 +49,9 @@ fn run<A: Allocator + Copy>(
     let Ok(roster) = Roster::new(alloc, rows) else {
         return Err(NoMemory);
     };
-    let mut board = Board::new(alloc, &roster)?;
+    let mut world = World::new(alloc, &roster, TRACERS)?;
     let mut out = String::with_capacity(alloc, orders.len().saturating_mul(LONGEST))?;
-    write_replies(&mut out, rows, &mut board, orders)?;
+    write_replies(&mut out, rows, &mut world, orders)?;
     Ok(out.into_bytes())
 }
 

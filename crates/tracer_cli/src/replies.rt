@@ -1,16 +1,18 @@
 //! The replies to the commands of a file, each on a line.
 
-ghost use Rattle.std.specs.Prelude.{◌≡◌, ◌++◌, ◌∷◌, [], All, IfOk, OnOk, codes, decimal, string_bytes};
+ghost use Rattle.std.specs.Prelude.{◌≡◌, ◌++◌, ◌≤◌, ◌∷◌, [], length, All, IfOk, OnOk, codes, decimal, string_bytes};
 ghost use Rattle.tracer_cli.specs.Command.{IsOrder};
 ghost use Rattle.tracer_cli.specs.Replies.{done_text, got_text, history_with, published_text, refusal_text, replies, reply_text, state_text};
-ghost use Rattle.stop_board.specs.Roster.{row_at};
-ghost use Rattle.stop_board.specs.Event.{History};
-ghost use Rattle.stop_board.specs.Standing.{StandsAt};
+ghost use Rattle.stop_board.specs.Roster.{most_rows, row_at};
+ghost use Rattle.stop_board.specs.Sequential.{most_tracers};
+ghost use Rattle.stop_board.specs.World.{Moment, StandsAt};
+ghost use Rattle.tracer_cli.specs.OneThread.{HasHistory};
 
 use crate::command::Command;
+use crate::one_thread::{claim, exit, publish, resume};
 use crate::order::Order;
 use std::alloc::Allocator;
-use stop_board::{Board, Got, NoMemory, Refused, Row, State};
+use stop_board::{Got, NoMemory, Refused, Row, State, World};
 
 fn write_published<A: Allocator>(
     out: &mut String<A>,
@@ -120,34 +122,33 @@ fn write_state<A: Allocator>(out: &mut String<A>, state: State) -> Result<(), No
     Ok(())
 }
 
-/// Does what a command asks of the board, and writes the answer as a line.
+/// Does what a command asks of the World, and writes the answer as a line.
 fn reply<A: Allocator, B: Allocator>(
     out: &mut String<B>,
     rows: &[Row],
-    board: &mut Board<A>,
+    world: &mut World<A>,
     order: Order,
 ) -> Result<(), NoMemory>
     requires range { IsOrder order }
-    requires rows { rows.now ≡ board.old.rows }
-    ensures text { (h : History) → StandsAt board.old h →
-        OnOk result (string_bytes out.new ≡ string_bytes out.old ++ (reply_text rows.now h order.row order.command ++ 10 ∷ [])) }
-    ensures stands { (h : History) → StandsAt board.old h → StandsAt board.new (history_with rows.now h order.row order.command) }
-    ensures rows { board.new.rows ≡ board.old.rows }
+    requires rows { rows.now ≡ world.old.rows }
+    requires few { length rows.now ≤ most_rows }
+    requires tracers { world.old.tracers ≡ most_tracers }
+    ensures text { (m : Moment) → StandsAt world.old m →
+        OnOk result (string_bytes out.new ≡ string_bytes out.old ++ (reply_text rows.now m.history order.row order.command ++ 10 ∷ [])) }
+    ensures stands { (m : Moment) → StandsAt world.old m → HasHistory world.new (history_with rows.now m.history order.row order.command) }
+    ensures rows { world.new.rows ≡ world.old.rows }
+    ensures tracers { world.new.tracers ≡ world.old.tracers }
 {
     let row = order.row;
     match order.command {
-        Command::Publish(stop) => write_published(out, rows, board.publish(row, stop)),
-        Command::Claim(tracer) => write_got(out, rows, board.claim(row, u32::from(tracer))),
+        Command::Publish(stop) => write_published(out, rows, publish(world, row, stop)),
+        Command::Claim(tracer) => write_got(out, rows, claim(world, rows.len(), row, tracer)),
         Command::Resume(tracer, how) => {
-            write_done(
-                out,
-                rows,
-                "resumed",
-                board.resume(row, u32::from(tracer), how),
-            )
+            let answer = resume(world, rows.len(), row, tracer, how);
+            write_done(out, rows, "resumed", answer)
         }
-        Command::Exit(death) => write_done(out, rows, "exited", board.exit(row, death)),
-        Command::State => write_state(out, board.state(row)),
+        Command::Exit(death) => write_done(out, rows, "exited", exit(world, row, death)),
+        Command::State => write_state(out, world.state(row)),
     }
 }
 
@@ -155,16 +156,18 @@ fn reply<A: Allocator, B: Allocator>(
 pub fn write_replies<A: Allocator, B: Allocator>(
     out: &mut String<B>,
     rows: &[Row],
-    board: &mut Board<A>,
+    world: &mut World<A>,
     orders: &[Order],
 ) -> Result<(), NoMemory>
     requires range { All IsOrder orders.now }
-    requires rows { rows.now ≡ board.old.rows }
-    ensures { (h : History) → StandsAt board.old h →
-        OnOk result (string_bytes out.new ≡ string_bytes out.old ++ replies rows.now h orders.now) }
+    requires rows { rows.now ≡ world.old.rows }
+    requires few { length rows.now ≤ most_rows }
+    requires tracers { world.old.tracers ≡ most_tracers }
+    ensures { (m : Moment) → StandsAt world.old m →
+        OnOk result (string_bytes out.new ≡ string_bytes out.old ++ replies rows.now m.history orders.now) }
 {
     for order in orders {
-        reply(out, rows, board, *order)?;
+        reply(out, rows, world, *order)?;
     }
     Ok(())
 }

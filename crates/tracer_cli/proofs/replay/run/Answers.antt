@@ -1,0 +1,10 @@
+use Rattle.std.proofs.Common.{◌∙◌, ◌++◌, [], ap}
+use Rattle.stop_board.specs.World.{first_moment}
+use Rattle.tracer_cli.specs.Replies.{replies}
+use Rattle.tracer_cli.proofs.replay.run.Goals as goal
+
+pub returns : goal.returns
+returns g c =
+    rw c.into_bytes.ensures.value (
+    c.in_ok-write_replies.ensures first_moment c.in_ok-world.ensures.stands
+    ∙ ap (λ text. text ++ replies c.args.rows.now [] c.args.orders.now) c.in_ok-out.ensures.bytes)

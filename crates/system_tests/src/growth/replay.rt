@@ -28,8 +28,8 @@ fn a_replay_that_wants_memory_answers_that_with_a_line(rt: HostRuntime) {
             }
         }
     }
-    // The rows, the orders, the roster, the board's rows and words, the text.
-    assert_eq!(rt; refusals, 6);
+    // The rows, the orders, the roster, the World's rows, words and words last seen, the text.
+    assert_eq!(rt; refusals, 7);
 }
 
 #[test]

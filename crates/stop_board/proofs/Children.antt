@@ -60,7 +60,7 @@ room_for_stop rows parent births None next so_far = so_far
 room_for_stop rows parent births (Some tid) next so_far = room_for_next rows parent births (row_of rows tid) tid refl next
 
 -- the births are no more than the children
-births_are_few : (rows : List Row) (h : History) → IsLegal rows h → (parent : ℕ) → births_after h parent ≤ children (row_at rows parent).tid rows
+pub births_are_few : (rows : List Row) (h : History) → IsLegal rows h → (parent : ℕ) → births_after h parent ≤ children (row_at rows parent).tid rows
 births_are_few rows [] legal parent = omega arith
 births_are_few rows (event.Publish at number stop ∷ h) legal parent =
     elim (eqb_tells at parent) [

@@ -4,6 +4,8 @@ pub mod Children
 pub mod Claims
 pub mod Events
 pub mod Going
+pub mod LegalWords
+pub mod Longer
 pub mod Places
 pub mod Rosters
 pub mod Runs

@@ -82,7 +82,7 @@ unborn_is born (event.Resume row number how tracer ∷ es) h = cc
 unborn_is born (event.Exit row death ∷ es) h = cc
 
 -- no event of an unborn row fits
-no_event : (rows : List Row) (h : History) (e : Event) → Fits rows h e → state_after rows h (subject e) ≢ state.Unborn
+pub no_event : (rows : List Row) (h : History) (e : Event) → Fits rows h e → state_after rows h (subject e) ≢ state.Unborn
 no_event rows h (event.Publish at number stop) fits unborn = let clash : state.Unborn ≡ state.Running = sym unborn ∙ fits.0 in cc
 no_event rows h (event.Claim at number tracer) fits unborn = let clash : false ≡ true = ap is_waitable (sym unborn) ∙ fits.0 in cc
 no_event rows h (event.Resume at number how tracer) fits unborn = let clash : state.Unborn ≡ state.Claimed number tracer = sym unborn ∙ fits in cc

@@ -1,6 +1,6 @@
 -- Legal histories: each event fits the state after those before it (ptrace(2), "Attaching and detaching",
 -- "Restarting"; waitid(2)). And what a history says of births and of rows that have come to rest.
-use Rattle.std.specs.Prelude.{◌≡◌, ◌≢◌, ◌==◌, ◌&&◌, ◌+◌, ◌≤◌, ◌∷◌, [], ℕ, Bool, true, false, not, List, length, Option, Some, None, is_some, if◌then◌else◌, find}
+use Rattle.std.specs.Prelude.{◌≡◌, ◌≢◌, ◌==◌, ◌&&◌, ◌+◌, ◌≤◌, ◌∷◌, ◌++◌, [], ℕ, Bool, true, false, not, List, length, Option, Some, None, is_some, if◌then◌else◌, find}
 use Rattle.std.specs.List.{range_with_len}
 use Rattle.trace_record.specs.declared.stop.Stop.{Stop}
 use Rattle.trace_record.specs.Stop.{child_of}
@@ -98,3 +98,12 @@ stop_claims_in number (event.Publish row n stop ∷ es) = stop_claims_in number 
 stop_claims_in number (event.Claim row n tracer ∷ es) = (if is_just_published number es then 1 else 0) + stop_claims_in number es
 stop_claims_in number (event.Resume row n how tracer ∷ es) = stop_claims_in number es
 stop_claims_in number (event.Exit row death ∷ es) = stop_claims_in number es
+
+-- of a history that has gone on: the row was claimed, and nothing had happened to it before that
+pub record WasClaimed (row : ℕ) (more front : History) : Type 0 where
+  pub later : History
+  pub sooner : History
+  pub number : ℕ
+  pub tracer : ℕ
+  pub is : more ≡ later ++ (event.Claim row number tracer ∷ sooner)
+  pub unchanged : events_of row (sooner ++ front) ≡ events_of row front

@@ -1,14 +1,21 @@
 //! Laws of the definitions: each function is its contract alone.
 
-ghost use Rattle.std.specs.Prelude.{◌≡◌, ◌<◌, ◌≤◌, ◌++◌, ℕ, List, Option, Some, length, count_by, nat_lt};
+ghost use Rattle.std.specs.Prelude.{◌≡◌, ◌⊎◌, ◌<◌, ◌≤◌, ◌++◌, [], ℕ, Bool, true, false, List, Option, Some, length, count_by, nat_lt};
 ghost use Rattle.std.specs.List.{range_with_len};
 ghost use Rattle.stop_board.specs.declared.roster.Row.{Row};
-ghost use Rattle.stop_board.specs.Event.{History, events_of};
+ghost use Rattle.stop_board.specs.declared.actor.Actor.{Actor};
+ghost use Rattle.stop_board.specs.declared.actor.Actor.TheVariants as actor;
+ghost use Rattle.stop_board.specs.declared.phase.Phase.TheVariants as phase;
+ghost use Rattle.stop_board.specs.Actor.{IsQuiet, actor_of, is_moved_by, mover_of};
+ghost use Rattle.stop_board.specs.Change.{Change, IsAllowed, history_with, taken_with, words_with};
+ghost use Rattle.stop_board.specs.Event.{Event, History, events_of, subject};
 ghost use Rattle.stop_board.specs.Roster.{IsPlaced, IsRoster, parent_of, rank_of};
-ghost use Rattle.stop_board.specs.State.{is_born};
+ghost use Rattle.stop_board.specs.State.{is_born, is_waitable, state_after};
 ghost use Rattle.stop_board.specs.Layout.{raw_of};
-ghost use Rattle.stop_board.specs.Word.{IsWord, Word};
-ghost use Rattle.stop_board.specs.History.{IsLegal, IsSettled, IsSilent, births_after, is_born_child, stop_claims_in};
+ghost use Rattle.stop_board.specs.Ranges.{AreEvents};
+ghost use Rattle.stop_board.specs.Standing.{AreAt};
+ghost use Rattle.stop_board.specs.Word.{IsWord, Word, phase_in, word_after};
+ghost use Rattle.stop_board.specs.History.{Fits, IsLegal, IsSettled, IsSilent, WasClaimed, births_after, is_born_child, stop_claims_in};
 
 /// A roster has at most 64 rows. Each of them is found by its tid and stands behind its parent, whose process
 /// group it is in; it leads a thread group or is in its parent's; a root leads one.
@@ -39,6 +46,47 @@ pub fn older_histories_are_legal()
 pub fn settled_rows_stay_settled()
     ensures { (rows : List Row) (beside : Option ℕ) (more h : History) → IsLegal rows (more ++ h) → IsSilent beside more →
         (row : ℕ) → IsSettled rows beside h row → IsSettled rows beside (more ++ h) row }
+{}
+
+/// A row that only actors of a set can move has no event of the others, so that its word is as it was. Its tracee
+/// moves it where it is fresh or runs, the tracer that has claimed it where it is claimed.
+pub fn only_its_mover_moves_a_row()
+    ensures moved { (rows : List Row) (h : History) (e : Event) → Fits rows h e → (actor : Actor) →
+        mover_of (subject e) (phase_in (events_of (subject e) h)) ≡ Some actor → actor_of e ≡ actor }
+    ensures untouched { (rows : List Row) (actors : Actor → Bool) (more h : History) → IsLegal rows (more ++ h) → IsQuiet actors more →
+        (row : ℕ) → is_moved_by actors (mover_of row (phase_in (events_of row h))) ≡ true → events_of row (more ++ h) ≡ events_of row h }
+{}
+
+/// A claim that a tracer holds is as old as the tracer's silence.
+pub fn a_claim_is_its_tracers()
+    ensures { (actors : Actor → Bool) (more h : History) → IsQuiet actors more → (tracer : ℕ) → actors (actor.Tracer tracer) ≡ true →
+        (row : ℕ) → phase_in (events_of row (more ++ h)) ≡ phase.Claimed tracer → events_of row (more ++ h) ≡ events_of row h }
+{}
+
+/// Births only grow, who is born stays so, and a row that is not born has no event.
+pub fn births_only_grow()
+    ensures births { (more h : History) (row : ℕ) → births_after h row ≤ births_after (more ++ h) row }
+    ensures born { (rows : List Row) (more h : History) (row : ℕ) → is_born rows h row ≡ true → is_born rows (more ++ h) row ≡ true }
+    ensures silent { (rows : List Row) (h : History) → IsLegal rows h → (row : ℕ) → is_born rows h row ≡ false → events_of row h ≡ [] }
+{}
+
+/// A row that waits is as it was as the history goes on, or was claimed as it was.
+pub fn a_waiting_row_is_as_it_was_or_was_claimed()
+    ensures { (rows : List Row) (more h : History) → IsLegal rows (more ++ h) → (row : ℕ) → is_waitable (state_after rows h row) ≡ true →
+        (events_of row (more ++ h) ≡ events_of row h) ⊎ WasClaimed row more h }
+{}
+
+/// Each word that a legal history leaves is in range, where its stops, deaths, restarts and tracers are.
+pub fn words_are_in_range()
+    ensures { (rows : List Row) (h : History) → IsRoster rows → IsLegal rows h → AreEvents h →
+        (taken : ℕ → Bool) (row : ℕ) → row < length rows → IsWord (word_after taken h row) }
+{}
+
+/// One atomic step on words that stand at a history: where the history allows the change, each row's word is the one
+/// that the longer history leaves.
+pub fn atomic_steps_keep_words()
+    ensures { (rows : List Row) (words : List Word) (taken : ℕ → Bool) (h : History) → AreAt rows words taken h → length words ≡ length rows →
+        (change : Change) → IsAllowed rows h change → AreAt rows (words_with change words) (taken_with change taken) (history_with change h) }
 {}
 
 /// A legal history has at most one claim for each publish: the stop of a number of a row is claimed once.

@@ -23,8 +23,10 @@ pub use action::{Action, Reply};
 pub use actor::Actor;
 pub use board::{Board, Got};
 pub use laws::{
-    a_stop_is_claimed_once, births_are_counted, children_are_born_in_order,
-    older_histories_are_legal, rows_are_placed, settled_rows_stay_settled, words_are_one_to_one,
+    a_claim_is_its_tracers, a_stop_is_claimed_once, a_waiting_row_is_as_it_was_or_was_claimed,
+    atomic_steps_keep_words, births_are_counted, births_only_grow, children_are_born_in_order,
+    older_histories_are_legal, only_its_mover_moves_a_row, rows_are_placed,
+    settled_rows_stay_settled, words_are_in_range, words_are_one_to_one,
 };
 pub use phase::Phase;
 pub use refused::Refused;

@@ -1,0 +1,8 @@
+use Rattle.stop_board.proofs.Longer.{mover, untouched}
+use Rattle.stop_board.proofs.laws.only_its_mover_moves_a_row.Goals as goal
+
+pub returns-clause-moved : goal.returns-clause-moved
+returns-clause-moved c = mover
+
+pub returns-clause-untouched : goal.returns-clause-untouched
+returns-clause-untouched c = untouched

@@ -1,6 +1,7 @@
-//! What each event of a row makes of its word.
+//! What each step on a row makes of its word.
 
 ghost use Rattle.std.specs.Prelude.{◌≡◌, ◌+◌, ◌<◌, IsSome, is_some, if◌then◌else◌};
+ghost use Rattle.stop_board.specs.Change.{taken_up};
 ghost use Rattle.stop_board.specs.History.{most_stops};
 ghost use Rattle.stop_board.specs.Roster.{most_rows};
 ghost use Rattle.stop_board.specs.Sequential.{most_tracers};
@@ -40,6 +41,17 @@ fn births_behind(births: u8, stop: Stop) -> u8
     match stop.child() {
         Some(_) => births + 1,
         None => births,
+    }
+}
+
+/// The word behind a take-up.
+pub(crate) fn taken_up(word: Word) -> Word
+    ensures { result ≡ taken_up word }
+{
+    Word {
+        phase: Phase::Active,
+        births: word.births,
+        number: word.number,
     }
 }
 

@@ -13,6 +13,7 @@ ghost use Rattle.trace_record.specs.Death.{IsDeath};
 ghost use Rattle.trace_record.specs.Stop.{IsStop};
 
 use crate::action::{Action, Reply};
+use crate::changes::taken_up;
 use crate::phase::Phase;
 use crate::refused::Refused;
 use crate::roster::Row;
@@ -67,11 +68,7 @@ fn take_up_at(rows: &[Row], words: &mut [Word], row: u32) -> Result<Resume, Refu
     let at = row as usize;
     let word = words[at];
     let how = restart_in(word.phase)?;
-    words[at] = Word {
-        phase: Phase::Active,
-        births: word.births,
-        number: word.number,
-    };
+    words[at] = taken_up(word);
     Ok(how)
 }
 

@@ -2,7 +2,7 @@
 use Rattle.std.specs.Prelude.{◌≡◌, ◌+◌, ◌<◌, ◌≤◌, ◌++◌, ◌∷◌, [], ℕ, Bool, true, false, max, nat_le, nat_lt, List, length, Option, Some, None, Result, Ok, Err, IfErr, IsOk, if◌then◌else◌}
 use Rattle.stop_board.specs.declared.roster.Row.{Row}
 use Rattle.stop_board.specs.declared.roster.RosterError.{RosterError}
-use Rattle.stop_board.specs.Roster.{fault_after, row_of}
+use Rattle.stop_board.specs.Roster.{fault_after, most_rows, row_of}
 use Rattle.tracer_cli.specs.declared.cause.Cause.{Cause}
 use Rattle.tracer_cli.specs.declared.cause.Cause.TheVariants.{NoMemory, NoSuchTracee, TooMany}
 use Rattle.tracer_cli.specs.declared.cause.CaseError.{CaseError}
@@ -26,7 +26,7 @@ nothing = record { rows = []; orders = [] }
 abbrev pub has_begun : Content → Bool
 has_begun so_far = nat_lt 0 (length so_far.orders)
 
--- the most rows, and the most bytes
+-- the most bytes
 abbrev pub most_bytes : ℕ
 most_bytes = 16777216
 
@@ -39,7 +39,7 @@ with_order so_far row command = record { rows = so_far.rows; orders = so_far.ord
 -- a row that has no fault behind those before it, where there is room
 abbrev pub row_added : Content → Row → Option RosterError → Result Content Cause
 row_added so_far row (Some fault) = Err (cause_of fault)
-row_added so_far row None = if nat_lt (length so_far.rows) 64 then Ok (with_row so_far row) else Err TooMany
+row_added so_far row None = if nat_lt (length so_far.rows) most_rows then Ok (with_row so_far row) else Err TooMany
 
 -- a command to a row that is there
 abbrev pub order_added : Content → Command → Option ℕ → Result Content Cause

@@ -7,6 +7,7 @@ use Rattle.trace_record.specs.declared.resume.Kind.{Kind}
 use Rattle.trace_record.specs.declared.resume.Kind.TheVariants as kind
 use Rattle.trace_record.specs.declared.death.Death.{Death}
 use Rattle.trace_record.specs.declared.death.Death.TheVariants as death
+use Rattle.stop_board.specs.Roster.{last_id}
 use Rattle.tracer_cli.specs.declared.cause.Cause.{Cause}
 use Rattle.tracer_cli.specs.declared.cause.Cause.TheVariants.{BadNumber, UnknownWord}
 use Rattle.tracer_cli.specs.declared.command.Command.{Command}
@@ -38,7 +39,7 @@ number_between low high word = ranged low high (number_of word)
 
 -- an id of a thread, a thread group or a process group
 abbrev pub id_of : List ℕ → Result ℕ Cause
-id_of word = number_between 1 4194303 word
+id_of word = number_between 1 last_id word
 
 -- ---- words
 
@@ -103,7 +104,7 @@ row_line tid tgid pgid parent = do
   t ← id_of tid
   g ← id_of tgid
   p ← id_of pgid
-  q ← number_between 0 4194303 parent
+  q ← number_between 0 last_id parent
   Ok (line.Row (record { tid = t; tgid = g; pgid = p; parent = q }))
 
 -- publish TID STOP, where STOP is one word

@@ -13,9 +13,6 @@ use crate::numbers::number;
 use stop_board::Row;
 use trace_record::{Death, Kind, Resume, Stop};
 
-/// The greatest id.
-const LAST_ID: u64 = 4_194_303;
-
 /// What a line says.
 #[derive(Clone, Copy, Debug, PartialEq, Eq)]
 pub enum Line {
@@ -142,7 +139,7 @@ fn row_line(tid: &[u8], tgid: &[u8], pgid: &[u8], parent: &[u8]) -> Result<Line,
     let tid = id(tid)?;
     let tgid = id(tgid)?;
     let pgid = id(pgid)?;
-    let parent = number_between(0, LAST_ID, parent)? as u32;
+    let parent = number_between(0, u64::from(Row::LAST_ID), parent)? as u32;
     Ok(Line::Row(Row {
         tid,
         tgid,
@@ -245,12 +242,12 @@ fn death_of(how: Ending, number: &[u8]) -> Result<Death, Cause>
     }
 }
 
-/// An id, 1 to 4,194,303.
+/// An id.
 fn id(word: &[u8]) -> Result<u32, Cause>
     ensures value { result ≡ id_of word.now }
     ensures told { IfErr result (λ cause. cause ≢ Cause.NoMemory) }
 {
-    Ok(number_between(1, LAST_ID, word)? as u32)
+    Ok(number_between(1, u64::from(Row::LAST_ID), word)? as u32)
 }
 
 /// A number from `low` to `high`.

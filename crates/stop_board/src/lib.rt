@@ -18,5 +18,6 @@ pub use laws::{
 pub use refused::Refused;
 pub use roster::{Roster, RosterError, Row, fault_after, place_of};
 pub use state::State;
+pub use steps::TRACERS;
 pub use trace_pages::NoMemory;
 pub use word::{Phase, Word};

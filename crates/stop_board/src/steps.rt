@@ -21,7 +21,7 @@ use crate::word::{Phase, Word};
 use trace_record::{Death, Resume, Stop};
 
 /// How many tracers there are.
-const TRACERS: u32 = 16;
+pub const TRACERS: u32 = 16;
 
 /// The number of a row's last possible stop.
 const LAST_NUMBER: u32 = 16_777_215;

@@ -1,5 +1,5 @@
 -- The words of each row and each command say that row and that command.
-use Rattle.std.proofs.Common.{refl, ◌≡◌, ◌^◌, ◌<◌, ◌≤◌, ◌&&◌, ◌||◌, ℕ, Bool, true, false, not, Option, Some, None, List, Ok, length, arith, cond, eqb, eqb-true, le-leb, leb-true, nat_le, codes, decimal, is_some, ap, sym, ◌∙◌, inl, inr, ◌⊎◌, lit<}
+use Rattle.std.proofs.Common.{refl, ◌≡◌, ◌^◌, ◌<◌, ◌≤◌, ◌&&◌, ◌||◌, ℕ, Bool, true, false, not, Option, Some, None, List, Ok, length, arith, cond, eqb, eqb-true, le-leb, leb-true, nat_le, codes, decimal, is_some, ap, sym, ◌∙◌, inl, inr, ◌⊎◌, ◌-◌, lit<}
 use Rattle.std.proofs.lemmas.Bool.{and_from, and_parts, not-false, or_cases}
 use Rattle.trace_record.specs.declared.stop.Stop.{Stop}
 use Rattle.trace_record.specs.declared.stop.Stop.TheVariants as stop
@@ -11,13 +11,14 @@ use Rattle.stop_board.specs.declared.roster.Row.{Row}
 use Rattle.stop_board.specs.declared.roster.RosterError.{RosterError}
 use Rattle.stop_board.specs.declared.roster.RosterError.TheVariants as fault
 use Rattle.stop_board.specs.Roster.{family_fault, fault_after, has_ids, is_id, is_root, last_id, parent_in, with_tid}
+use Rattle.stop_board.specs.Sequential.{most_tracers}
 use Rattle.tracer_cli.specs.declared.command.Command.{Command}
 use Rattle.tracer_cli.specs.declared.command.Command.TheVariants as command
 use Rattle.tracer_cli.specs.declared.grammar.Line.TheVariants as line
 use Rattle.tracer_cli.specs.declared.grammar.Numbered.{Numbered}
 use Rattle.tracer_cli.specs.declared.grammar.Numbered.TheVariants as numbered
 use Rattle.tracer_cli.specs.Command.{IsCommand}
-use Rattle.tracer_cli.specs.Grammar.{◌>>=◌, claim_line, exit_line, id_of, line_of, number_between, publish_numbered, publish_plain, resume_line, row_line, state_line, stop_of, plain_stop, numbered_stop, kind_of}
+use Rattle.tracer_cli.specs.Grammar.{◌>>=◌, claim_line, exit_line, id_of, line_of, number_between, publish_numbered, publish_plain, resume_line, row_line, state_line, stop_of, plain_stop, numbered_stop, kind_of, tracer_of}
 use Rattle.tracer_cli.specs.Spelling.{IsSpelled, command_words, kind_word, row_words}
 use Rattle.tracer_cli.proofs.Decimals.{decimal_between, decimal_is_word}
 use Rattle.tracer_cli.proofs.Spelled.{AreWords, is_word}
@@ -38,6 +39,9 @@ up_to_last n most = decimal_is_word n (omega arith)
 
 id_word : (n : ℕ) → is_id n ≡ true → is_word (decimal n) ≡ true
 id_word n id = up_to_last n (id_ends n id).1
+
+tracer_read : (c : ℕ) → c < most_tracers → tracer_of (decimal c) ≡ Ok c
+tracer_read c some = decimal_between 0 (most_tracers - 1) c (omega arith) (omega arith) (lit< tt)
 
 -- ---- rows
 
@@ -101,15 +105,15 @@ numbered_said tid name number w t s id is says =
     ∙ ap (λ r. r >>= λ t. stop_of w number >>= λ s. Ok (line.Command t (command.Publish s))) id
     ∙ ap (λ r. r >>= λ s. Ok (line.Command t (command.Publish s))) says
 
-claim_said : (tid tracer : List ℕ) (t c : ℕ) → id_of tid ≡ Ok t → number_between 0 15 tracer ≡ Ok c → claim_line tid tracer ≡ Ok (line.Command t (command.Claim c))
+claim_said : (tid tracer : List ℕ) (t c : ℕ) → id_of tid ≡ Ok t → tracer_of tracer ≡ Ok c → claim_line tid tracer ≡ Ok (line.Command t (command.Claim c))
 claim_said tid tracer t c id is =
-    ap (λ r. r >>= λ t. number_between 0 15 tracer >>= λ c. Ok (line.Command t (command.Claim c))) id
+    ap (λ r. r >>= λ t. tracer_of tracer >>= λ c. Ok (line.Command t (command.Claim c))) id
     ∙ ap (λ r. r >>= λ c. Ok (line.Command t (command.Claim c))) is
 
-resume_said : (tid tracer name signal : List ℕ) (t c : ℕ) (how : Resume) → id_of tid ≡ Ok t → number_between 0 15 tracer ≡ Ok c → kind_of name ≡ Ok how.kind → number_between 0 64 signal ≡ Ok how.signal → resume_line tid tracer name signal ≡ Ok (line.Command t (command.Resume c how))
+resume_said : (tid tracer name signal : List ℕ) (t c : ℕ) (how : Resume) → id_of tid ≡ Ok t → tracer_of tracer ≡ Ok c → kind_of name ≡ Ok how.kind → number_between 0 64 signal ≡ Ok how.signal → resume_line tid tracer name signal ≡ Ok (line.Command t (command.Resume c how))
 resume_said tid tracer name signal t c how id is kind handed =
-    ap (λ r. r >>= λ k. id_of tid >>= λ t. number_between 0 15 tracer >>= λ c. number_between 0 64 signal >>= λ s. Ok (line.Command t (command.Resume c (record { kind = k; signal = s })))) kind
-    ∙ ap (λ r. r >>= λ t. number_between 0 15 tracer >>= λ c. number_between 0 64 signal >>= λ s. Ok (line.Command t (command.Resume c (record { kind = how.kind; signal = s })))) id
+    ap (λ r. r >>= λ k. id_of tid >>= λ t. tracer_of tracer >>= λ c. number_between 0 64 signal >>= λ s. Ok (line.Command t (command.Resume c (record { kind = k; signal = s })))) kind
+    ∙ ap (λ r. r >>= λ t. tracer_of tracer >>= λ c. number_between 0 64 signal >>= λ s. Ok (line.Command t (command.Resume c (record { kind = how.kind; signal = s })))) id
     ∙ ap (λ r. r >>= λ c. number_between 0 64 signal >>= λ s. Ok (line.Command t (command.Resume c (record { kind = how.kind; signal = s })))) is
     ∙ ap (λ r. r >>= λ s. Ok (line.Command t (command.Resume c (record { kind = how.kind; signal = s })))) handed
 
@@ -156,9 +160,9 @@ command_read tid (command.Publish (stop.Exec n)) id range spelled =
 command_read tid (command.Publish (stop.Signal n)) id range spelled =
     numbered_said (decimal tid) (codes "signal") (decimal n) numbered.Signal tid (stop.Signal n) (id_read tid id) refl (range_stop (λ n. stop.Signal n) 1 64 n range.0 range.1 (lit< tt))
 command_read tid (command.Claim c) id range spelled =
-    claim_said (decimal tid) (decimal c) tid c (id_read tid id) (decimal_between 0 15 c (omega arith) spelled (lit< tt))
+    claim_said (decimal tid) (decimal c) tid c (id_read tid id) (tracer_read c spelled)
 command_read tid (command.Resume c how) id range spelled =
-    resume_said (decimal tid) (decimal c) (kind_word how.kind) (decimal how.signal) tid c how (id_read tid id) (decimal_between 0 15 c (omega arith) spelled (lit< tt)) (kind_read how.kind)
+    resume_said (decimal tid) (decimal c) (kind_word how.kind) (decimal how.signal) tid c how (id_read tid id) (tracer_read c spelled) (kind_read how.kind)
     (decimal_between 0 64 how.signal (omega arith) range (lit< tt))
 command_read tid (command.Exit (death.Exited n)) id range spelled =
     exited_said (decimal tid) (decimal n) tid n (id_read tid id) (decimal_between 0 255 n (omega arith) (omega arith) (lit< tt))

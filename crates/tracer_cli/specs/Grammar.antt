@@ -1,6 +1,6 @@
 -- What a line of a replay file says, by its words: the first fault of the line in the order of causes, or what it
 -- says. All words are tested (UnknownWord) before any number (BadNumber).
-use Rattle.std.specs.Prelude.{◌==◌, ◌&&◌, ◌∷◌, [], ℕ, Bool, true, false, nat_le, List, length, Option, Some, None, Result, Ok, Err, if◌then◌else◌, slice_index, slice_index_or, bytes_eq, codes}
+use Rattle.std.specs.Prelude.{◌==◌, ◌&&◌, ◌-◌, ◌∷◌, [], ℕ, Bool, true, false, nat_le, List, length, Option, Some, None, Result, Ok, Err, if◌then◌else◌, slice_index, slice_index_or, bytes_eq, codes}
 use Rattle.trace_record.specs.declared.stop.Stop.{Stop}
 use Rattle.trace_record.specs.declared.stop.Stop.TheVariants as stop
 use Rattle.trace_record.specs.declared.resume.Kind.{Kind}
@@ -8,6 +8,7 @@ use Rattle.trace_record.specs.declared.resume.Kind.TheVariants as kind
 use Rattle.trace_record.specs.declared.death.Death.{Death}
 use Rattle.trace_record.specs.declared.death.Death.TheVariants as death
 use Rattle.stop_board.specs.Roster.{last_id}
+use Rattle.stop_board.specs.Sequential.{most_tracers}
 use Rattle.tracer_cli.specs.declared.cause.Cause.{Cause}
 use Rattle.tracer_cli.specs.declared.cause.Cause.TheVariants.{BadNumber, UnknownWord}
 use Rattle.tracer_cli.specs.declared.command.Command.{Command}
@@ -40,6 +41,10 @@ number_between low high word = ranged low high (number_of word)
 -- an id of a thread, a thread group or a process group
 abbrev pub id_of : List ℕ → Result ℕ Cause
 id_of word = number_between 1 last_id word
+
+-- one of the board's tracers
+abbrev pub tracer_of : List ℕ → Result ℕ Cause
+tracer_of word = number_between 0 (most_tracers - 1) word
 
 -- ---- words
 
@@ -126,7 +131,7 @@ publish_numbered tid name number = do
 abbrev pub claim_line : (tid tracer : List ℕ) → Result Line Cause
 claim_line tid tracer = do
   t ← id_of tid
-  c ← number_between 0 15 tracer
+  c ← tracer_of tracer
   Ok (line.Command t (command.Claim c))
 
 -- resume TID C KIND SIGNAL
@@ -134,7 +139,7 @@ abbrev pub resume_line : (tid tracer kind signal : List ℕ) → Result Line Cau
 resume_line tid tracer kind signal = do
   k ← kind_of kind
   t ← id_of tid
-  c ← number_between 0 15 tracer
+  c ← tracer_of tracer
   s ← number_between 0 64 signal
   Ok (line.Command t (command.Resume c (record { kind = k; signal = s })))
 

@@ -10,6 +10,7 @@ use Rattle.trace_record.specs.declared.death.Death.{Death}
 use Rattle.trace_record.specs.declared.death.Death.TheVariants as death
 use Rattle.stop_board.specs.declared.roster.Row.{Row}
 use Rattle.stop_board.specs.Roster.{IsRoster, is_id, row_at}
+use Rattle.stop_board.specs.Sequential.{most_tracers}
 use Rattle.tracer_cli.specs.declared.command.Command.{Command}
 use Rattle.tracer_cli.specs.declared.command.Command.TheVariants as command
 use Rattle.tracer_cli.specs.declared.order.Order.{Order}
@@ -88,8 +89,8 @@ IsSpelledDeath (death.Signaled signal core) = core ≡ false
 -- the ranges of a command that a file can write, beside those of IsCommand
 abbrev pub IsSpelled : Command → Type 0
 IsSpelled (command.Publish stop) = IsSpelledStop stop
-IsSpelled (command.Claim tracer) = tracer ≤ 15
-IsSpelled (command.Resume tracer how) = tracer ≤ 15
+IsSpelled (command.Claim tracer) = tracer < most_tracers
+IsSpelled (command.Resume tracer how) = tracer < most_tracers
 IsSpelled (command.Exit death) = IsSpelledDeath death
 IsSpelled command.State = Unit {0}
 

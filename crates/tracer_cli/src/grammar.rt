@@ -4,13 +4,13 @@ ghost use Rattle.std.specs.Prelude.{◌≡◌, ◌≢◌, ◌≤◌, map, IfErr,
 ghost use Rattle.trace_record.specs.Death.{IsDeath};
 ghost use Rattle.trace_record.specs.Stop.{IsStop};
 ghost use Rattle.tracer_cli.specs.Lines.{words_of};
-ghost use Rattle.tracer_cli.specs.Grammar.{IsLine, behind, claim_line, death_of, ending_of, exit_line, id_of, in_place, keyword_of, kind_of, line_of, number_between, numbered_stop, plain_stop, publish_line, publish_numbered, publish_plain, resume_line, row_line, state_line, stop_of};
+ghost use Rattle.tracer_cli.specs.Grammar.{IsLine, behind, claim_line, death_of, ending_of, exit_line, id_of, in_place, keyword_of, kind_of, line_of, number_between, numbered_stop, plain_stop, publish_line, publish_numbered, publish_plain, resume_line, row_line, state_line, stop_of, tracer_of};
 
 use crate::cause::Cause;
 use crate::command::Command;
 use crate::lines::first_words;
 use crate::numbers::number;
-use stop_board::Row;
+use stop_board::{Row, TRACERS};
 use trace_record::{Death, Kind, Resume, Stop};
 
 /// What a line says.
@@ -175,7 +175,7 @@ fn claim_line(tid: &[u8], tracer: &[u8]) -> Result<Line, Cause>
     ensures told { IfErr result (λ cause. cause ≢ Cause.NoMemory) }
 {
     let tid = id(tid)?;
-    let tracer = number_between(0, 15, tracer)? as u8;
+    let tracer = tracer_of(tracer)?;
     Ok(Line::Command(tid, Command::Claim(tracer)))
 }
 
@@ -186,7 +186,7 @@ fn resume_line(tid: &[u8], tracer: &[u8], kind: &[u8], signal: &[u8]) -> Result<
 {
     let kind = kind_of(kind)?;
     let tid = id(tid)?;
-    let tracer = number_between(0, 15, tracer)? as u8;
+    let tracer = tracer_of(tracer)?;
     let signal = number_between(0, 64, signal)? as u8;
     Ok(Line::Command(tid, Command::Resume(tracer, Resume { kind, signal })))
 }
@@ -248,6 +248,14 @@ fn id(word: &[u8]) -> Result<u32, Cause>
     ensures told { IfErr result (λ cause. cause ≢ Cause.NoMemory) }
 {
     Ok(number_between(1, u64::from(Row::LAST_ID), word)? as u32)
+}
+
+/// The number of one of the board's tracers.
+fn tracer_of(word: &[u8]) -> Result<u8, Cause>
+    ensures value { result ≡ tracer_of word.now }
+    ensures told { IfErr result (λ cause. cause ≢ Cause.NoMemory) }
+{
+    Ok(number_between(0, u64::from(TRACERS) - 1, word)? as u8)
 }
 
 /// A number from `low` to `high`.

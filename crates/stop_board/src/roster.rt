@@ -5,7 +5,6 @@ ghost use Rattle.stop_board.specs.Roster.{family_fault, fault_after, has_ids, is
 
 use std::alloc::{AllocError, Allocator, Global};
 use std::marker::Model;
-use trace_pages::NoMemory;
 
 /// A tracee: its thread id, thread-group id and process-group id, each 1 to 4,194,303, and its parent's thread
 /// id, or 0 for a root.
@@ -46,16 +45,6 @@ impl From<AllocError> for RosterError {
     ghost from_gives = { λ _ e. e ≡ fault.NoMemory };
 
     fn from(_error: AllocError) -> RosterError {
-        RosterError::NoMemory
-    }
-}
-
-impl From<NoMemory> for RosterError {
-    ghost use Rattle.stop_board.specs.declared.roster.RosterError.TheVariants as fault;
-
-    ghost from_gives = { λ _ e. e ≡ fault.NoMemory };
-
-    fn from(_error: NoMemory) -> RosterError {
         RosterError::NoMemory
     }
 }

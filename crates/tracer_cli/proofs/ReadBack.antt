@@ -12,7 +12,7 @@ use Rattle.tracer_cli.specs.declared.grammar.Line.{Line}
 use Rattle.tracer_cli.specs.declared.grammar.Line.TheVariants as line
 use Rattle.tracer_cli.specs.Grammar.{◌>>=◌, line_of}
 use Rattle.tracer_cli.specs.Lines.{lines_of}
-use Rattle.tracer_cli.specs.File.{Content, content_after, content_of, has_begun, line_added, line_read, most_bytes, order_added, row_added}
+use Rattle.tracer_cli.specs.File.{Content, content_after, content_of, has_begun, line_added, line_read, most_bytes, order_added, row_added, with_cause}
 use Rattle.tracer_cli.specs.Spelling.{IsContent, IsOrderOf, line_text, order_words, orders_text, row_words, rows_text, spelling}
 use Rattle.tracer_cli.proofs.LinesBack.{command_are_words, command_line_read, ends_id, row_are_words, row_line_read, row_ranges}
 use Rattle.tracer_cli.proofs.LinesRead.{all_read, goes_on}
@@ -26,7 +26,7 @@ first_line n so_far new words said rest are says added =
     let cut : lines_of (line_text words ++ rest) ≡ join_with_byte 32 words ∷ lines_of rest =
     ap lines_of (append_assoc (join_with_byte 32 words) (10 ∷ []) rest) ∙ line_ended (join_with_byte 32 words) rest (words_in_line words are) in
     let read : line_read so_far (join_with_byte 32 words) ≡ Ok new =
-    ap (λ ws. line_of (has_begun so_far) ws >>= line_added so_far) (words_joined words are) ∙ ap (λ r. r >>= line_added so_far) says ∙ added in
+    ap (λ ws. with_cause (line_of (has_begun so_far) ws) >>= line_added so_far) (words_joined words are) ∙ ap (λ r. with_cause r >>= line_added so_far) says ∙ added in
     ap (content_after n so_far) cut ∙ goes_on n so_far new (join_with_byte 32 words) (lines_of rest) read
 
 abbrev only_rows : List Row → Content

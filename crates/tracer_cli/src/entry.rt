@@ -20,10 +20,7 @@ pub fn program<H: Files + AllocGlobal, R: Read, W: Write, E: Write>(
 ) -> u8 {
     match run(rt, words, input, output) {
         Ok(()) => 0,
-        Err(failure) => {
-            let _ = write!(errors, "{failure}");
-            failure.status()
-        }
+        Err(failure) => failure.tell(errors),
     }
 }
 

@@ -5,6 +5,7 @@ pub mod LinesBack
 pub mod LinesRead
 pub mod ReadBack
 pub mod RosterGrows
+pub mod Runs
 pub mod SixWords
 pub mod Spelled
 pub mod Written

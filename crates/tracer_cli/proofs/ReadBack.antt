@@ -6,7 +6,6 @@ use Rattle.stop_board.specs.declared.roster.Row.{Row}
 use Rattle.stop_board.specs.declared.roster.RosterError.{RosterError}
 use Rattle.stop_board.specs.Roster.{IsRoster, fault_after, first_fault, most_rows, row_at}
 use Rattle.stop_board.proofs.Rosters.{both_none, few_rows, row_of-tid, tid_in_range}
-use Rattle.tracer_cli.specs.declared.command.Command.{Command}
 use Rattle.tracer_cli.specs.declared.order.Order.{Order}
 use Rattle.tracer_cli.specs.declared.grammar.Line.{Line}
 use Rattle.tracer_cli.specs.declared.grammar.Line.TheVariants as line

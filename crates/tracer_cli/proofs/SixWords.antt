@@ -1,8 +1,7 @@
 -- No line has more than five words, so the first six of them say all.
-use Rattle.std.proofs.Common.{refl, ◌≡◌, ◌≢◌, ◌<◌, ◌≤◌, ◌∷◌, [], ℕ, Bool, true, false, List, Result, Ok, Err, length, get_or, take, cond, arith, eqb, ap, sym, ◌∙◌, get_or-take, length-take, lit<, lit≤, min, if◌then◌else◌, slice_index}
+use Rattle.std.proofs.Common.{refl, ◌≡◌, ◌<◌, ◌≤◌, ◌∷◌, [], ℕ, Bool, List, Result, Ok, length, take, cond, arith, eqb, ap, ◌∙◌, get_or-take, length-take, lit<, lit≤, min, if◌then◌else◌, slice_index}
 use Rattle.std.proofs.lemmas.Bool.Decides.{nat_tests}
 use Rattle.tracer_cli.specs.declared.cause.LineFault.{LineFault}
-use Rattle.tracer_cli.specs.declared.cause.LineFault.TheVariants.{UnknownWord}
 use Rattle.tracer_cli.specs.declared.grammar.Line.{Line}
 use Rattle.tracer_cli.specs.declared.grammar.Line.TheVariants as line
 use Rattle.tracer_cli.specs.declared.grammar.Keyword.{Keyword}

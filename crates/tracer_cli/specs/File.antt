@@ -1,5 +1,5 @@
 -- What a replay file says: its rows and its orders, or its first fault, with the line.
-use Rattle.std.specs.Prelude.{◌≡◌, ◌+◌, ◌<◌, ◌≤◌, ◌++◌, ◌∷◌, [], ℕ, Bool, true, false, max, nat_le, nat_lt, List, length, Option, Some, None, Result, Ok, Err, IfErr, IsOk, if◌then◌else◌}
+use Rattle.std.specs.Prelude.{◌≡◌, ◌+◌, ◌<◌, ◌≤◌, ◌++◌, ◌∷◌, [], ℕ, Bool, max, nat_le, nat_lt, List, length, Option, Some, None, Result, Ok, Err, IfErr, IsOk, if◌then◌else◌}
 use Rattle.stop_board.specs.declared.roster.Row.{Row}
 use Rattle.stop_board.specs.declared.roster.RosterError.{RosterError}
 use Rattle.stop_board.specs.Roster.{fault_after, most_rows, row_of}

@@ -11,7 +11,6 @@ use Rattle.stop_board.specs.Roster.{last_id}
 use Rattle.stop_board.specs.Sequential.{most_tracers}
 use Rattle.tracer_cli.specs.declared.cause.LineFault.{LineFault}
 use Rattle.tracer_cli.specs.declared.cause.LineFault.TheVariants.{BadNumber, UnknownWord}
-use Rattle.tracer_cli.specs.declared.command.Command.{Command}
 use Rattle.tracer_cli.specs.declared.command.Command.TheVariants as command
 use Rattle.tracer_cli.specs.declared.grammar.Line.{Line}
 use Rattle.tracer_cli.specs.declared.grammar.Line.TheVariants as line

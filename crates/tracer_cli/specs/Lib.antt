@@ -8,4 +8,5 @@ pub mod Lines
 pub mod Numbers
 pub mod Replay
 pub mod Replies
+pub mod Run
 pub mod Spelling

@@ -1,5 +1,8 @@
 //! The command line.
 
+ghost use Rattle.std.specs.Prelude.{IfErr};
+ghost use Rattle.tracer_cli.specs.Run.{IsWordsFailure};
+
 use crate::failure::Failure;
 use clap::error::ErrorKind;
 use clap::{Arg, ArgAction, Command, Error};
@@ -15,7 +18,9 @@ pub enum Request<'a> {
 }
 
 /// What the words ask for, the program's name first.
-pub fn read_arguments<'a>(alloc: Global, words: &'a [&'a str]) -> Result<Request<'a>, Failure> {
+pub fn read_arguments<'a>(alloc: Global, words: &'a [&'a str]) -> Result<Request<'a>, Failure>
+    ensures { IfErr result IsWordsFailure }
+{
     let command = tracer(alloc)?;
     let matches = match command.try_get_matches_from(words) {
         Ok(matches) => matches,
@@ -29,7 +34,9 @@ pub fn read_arguments<'a>(alloc: Global, words: &'a [&'a str]) -> Result<Request
 }
 
 /// Help was asked for, or the words are wrong.
-fn without_matches<'a>(alloc: Global, error: &Error) -> Result<Request<'a>, Failure> {
+fn without_matches<'a>(alloc: Global, error: &Error) -> Result<Request<'a>, Failure>
+    ensures { IfErr result IsWordsFailure }
+{
     if error.kind() == ErrorKind::OutOfMemory {
         return Err(Failure::NoMemory);
     }

@@ -111,7 +111,9 @@ pub fn arguments_failure(error: &io::Error) -> Failure
 }
 
 /// Why reading failed.
-pub fn read_failure(error: &io::Error) -> Failure {
+pub fn read_failure(error: &io::Error) -> Failure
+    ensures { result ≡ failure_at (error_kind error.now) Failure.CannotRead }
+{
     match error.kind() {
         ErrorKind::OutOfMemory => Failure::NoMemory,
         _ => Failure::CannotRead,

@@ -1,3 +1,4 @@
+pub mod Arguments
 pub mod CaseError
 pub mod Cause
 pub mod Command

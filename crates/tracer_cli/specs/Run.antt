@@ -1,5 +1,5 @@
 -- A run of the program: what it reads, what it prints, and how it fails.
-use Rattle.std.specs.Prelude.{◌≡◌, ◌+◌, ℕ, List, Option, Some, None, Result, Ok, Err, IfSome, IsOkAnd, MatchResult, string_bytes, take}
+use Rattle.std.specs.Prelude.{◌≡◌, ◌≢◌, ◌+◌, ℕ, List, Option, Some, None, Result, Ok, Err, IfSome, IsErr, IsOkAnd, MatchResult, string_bytes, take}
 use Rattle.std.specs.Io.KnownBytes.{Appends}
 use Rattle.tracer_cli.specs.declared.arguments.Request.{Request}
 use Rattle.tracer_cli.specs.declared.arguments.Request.TheVariants.{Replay, Help}
@@ -33,6 +33,12 @@ abbrev pub IsUnwritten : {A : Type 0} → (before after : A) → Result (Unit {0
 IsUnwritten before after (Ok done) = Unit {0}
 IsUnwritten before after (Err CannotWrite) = Unit {0}
 IsUnwritten before after (Err failure) = after ≡ before
+
+-- how a replay ends by its status: the replies are printed, or the file is refused; the words were right
+pub record Ends (text : List ℕ) (before after : Option (List ℕ)) (status : ℕ) : Type 0 where
+  pub done : status ≡ 0 → IsOkAnd (replay_of text) (Appends before after)
+  pub refused : status ≡ 1 → IsErr (replay_of text)
+  pub right : status ≢ 2
 
 -- a failure to read
 abbrev pub IsReadFailure : Failure → Type 0

@@ -1,14 +1,15 @@
 //! The program: from words and streams to an exit status.
 
-ghost use Rattle.std.specs.Prelude.{◌≡◌, ◌≤◌, ◌⊎◌, IfErr, IfOk, OnOk};
+ghost use Rattle.std.specs.Prelude.{◌≡◌, ◌≤◌, ◌⊎◌, ℕ, List, IfErr, IfOk, IfSome, OnOk, map, string_bytes};
 ghost use Rattle.std.specs.Io.KnownBytes.{Appends};
-ghost use Rattle.tracer_cli.specs.Run.{Answers, IsReadFailure, IsReadOf, IsUnwritten, Replays};
+ghost use Rattle.tracer_cli.specs.Arguments.{replay_words};
+ghost use Rattle.tracer_cli.specs.Run.{Answers, Ends, IsReadFailure, IsReadOf, IsUnwritten, Replays};
 
 use crate::arguments::{Request, read_arguments};
 use crate::failure::{Failure, read_failure};
 use crate::reading::MOST_BYTES;
 use crate::replay::replay_text;
-use std::alloc::Global;
+use std::alloc::{AllocError, Global};
 use std::fs;
 use std::io::{Read, Write};
 use std::rt::Files;
@@ -25,6 +26,10 @@ pub fn program<H: Files + AllocGlobal, R: Read, W: Write, E: Write>(
 ) -> u8
     ensures status { result ≤ 3 }
     ensures unwritten { (result ≡ 1) ⊎ (result ≡ 2) → output.new ≡ output.old }
+
+    // The words of a replay of standard input, where what it has is known.
+    ensures replay { (name : List ℕ) → map string_bytes words.now ≡ replay_words name →
+        IfSome (R.remaining input.old) (λ text. Ends text (W.contents output.old) (W.contents output.new) result) }
 {
     match run(rt, words, input, output) {
         Ok(()) => 0,
@@ -39,12 +44,21 @@ fn run<H: Files + AllocGlobal, R: Read, W: Write>(
     input: &mut R,
     output: &mut W,
 ) -> Result<(), Failure>
-    ensures { IsUnwritten output.old output.new result }
+    ensures unwritten { IsUnwritten output.old output.new result }
+    ensures replay { (name : List ℕ) → map string_bytes words.now ≡ replay_words name →
+        IfSome (R.remaining input.old) (λ text. Replays text (W.contents output.old) (W.contents output.new) result) }
 {
     let alloc = rt.alloc();
-    let words: Vec<&str> = words.iter().map(|word| word.as_str()).collect(alloc)?;
+    let words = texts_of(alloc, words)?;
     let request = read_arguments(alloc, words.as_slice())?;
     answer(rt, &request, input, output)
+}
+
+/// The words as slices.
+fn texts_of<'a>(alloc: Global, words: &'a [String]) -> Result<Vec<&'a str>, AllocError>
+    ensures { IfOk result (λ texts. map (λ text. text.now) texts.items ≡ map string_bytes words.now) }
+{
+    words.iter().map(|word| word.as_str()).collect(alloc)
 }
 
 /// Does what the command line asks for.

@@ -1,6 +1,9 @@
 -- The words that events leave are in range, and words are one to one with their bits.
-use Rattle.std.proofs.Common.{refl, ◌≡◌, ◌+◌, ◌*◌, ◌/◌, ◌^◌, ◌<◌, ◌≤◌, ◌==◌, ℕ, true, false, Option, Some, arith, inl, inr, if◌then◌else◌, ◌∙◌, sym, ap}
+use Rattle.std.proofs.Common.{refl, ◌≡◌, ◌+◌, ◌*◌, ◌/◌, ◌^◌, ◌<◌, ◌≤◌, ◌==◌, ℕ, true, false, Option, Some, arith, if◌then◌else◌, ◌∙◌, sym, ap}
 use Rattle.std.proofs.lemmas.Nat.{same_from_place}
+use Rattle.trace_options.specs.Event.{code_of}
+use Rattle.trace_options.specs.declared.event.Event.{Event as PtraceEvent}
+use Rattle.trace_options.specs.declared.event.Event.TheVariants as ptrace_event
 use Rattle.trace_status.specs.declared.wait_status.WaitStatus.TheVariants as status
 use Rattle.trace_record.specs.declared.stop.Stop.{Stop}
 use Rattle.trace_record.specs.declared.stop.Stop.TheVariants as stop
@@ -18,13 +21,13 @@ use Rattle.stop_board.specs.Word.{IsPhase, IsWord, Tells, Word, tells_death, tel
 
 -- each stop's status tells a stop
 pub stop_told : (stop : Stop) → IsStop stop → Tells tells_stop (stop_status stop)
-stop_told stop.Start is = (stop_wait_status 0 stop.Start, refl, (refl, inr refl, refl), refl)
+stop_told stop.Start is = (stop_wait_status 0 stop.Start, refl, (refl, (ptrace_event.Stop, refl), refl), refl)
 stop_told stop.Enter is = (stop_wait_status 0 stop.Enter, refl, refl, refl)
 stop_told stop.Exit is = (stop_wait_status 0 stop.Exit, refl, refl, refl)
-stop_told (stop.Seccomp ret_data) is = (stop_wait_status 0 (stop.Seccomp ret_data), refl, (refl, inl (omega arith, omega arith), refl), refl)
-stop_told (stop.Fork child) is = (stop_wait_status 0 (stop.Fork child), refl, (refl, inl (omega arith, omega arith), refl), refl)
-stop_told (stop.Clone child) is = (stop_wait_status 0 (stop.Clone child), refl, (refl, inl (omega arith, omega arith), refl), refl)
-stop_told (stop.Exec former) is = (stop_wait_status 0 (stop.Exec former), refl, (refl, inl (omega arith, omega arith), refl), refl)
+stop_told (stop.Seccomp ret_data) is = (stop_wait_status 0 (stop.Seccomp ret_data), refl, (refl, (ptrace_event.Seccomp, refl), refl), refl)
+stop_told (stop.Fork child) is = (stop_wait_status 0 (stop.Fork child), refl, (refl, (ptrace_event.Fork, refl), refl), refl)
+stop_told (stop.Clone child) is = (stop_wait_status 0 (stop.Clone child), refl, (refl, (ptrace_event.Clone, refl), refl), refl)
+stop_told (stop.Exec former) is = (stop_wait_status 0 (stop.Exec former), refl, (refl, (ptrace_event.Exec, refl), refl), refl)
 stop_told (stop.Signal signal) is = (stop_wait_status 0 (stop.Signal signal), refl, (is, refl), refl)
 
 -- each death's status tells a death
@@ -34,12 +37,22 @@ death_told (death.Signaled signal core) is = (death_wait_status 0 (death.Signale
 
 -- ---- words are one to one
 
+few_codes : (e : PtraceEvent) → code_of e ≤ 128
+few_codes ptrace_event.Fork = omega arith
+few_codes ptrace_event.Vfork = omega arith
+few_codes ptrace_event.Clone = omega arith
+few_codes ptrace_event.Exec = omega arith
+few_codes ptrace_event.VforkDone = omega arith
+few_codes ptrace_event.Exit = omega arith
+few_codes ptrace_event.Seccomp = omega arith
+few_codes ptrace_event.Stop = omega arith
+
 -- a stop's status is kept without its low byte
 stop_kept : (raw : ℕ) → Tells tells_stop raw → (raw / 0x100 * 0x100 + 0x7f ≡ raw) × (raw / 0x100 < 2 ^ 16)
 stop_kept raw (status.Stopped pid signal, of, is, tells) = let value = is.1 in let range = is.0 in (omega arith, omega arith)
 stop_kept raw (status.PtraceEvent pid signal number, of, is, tells) =
     let value = is.2 in
-    let small : number ≤ 128 = elim is.1 [ inl few ↦ (let most = few.1 in omega arith) | inr last ↦ omega arith ] in
+    let small : number ≤ 128 = (let most = few_codes is.1.0 in let same = is.1.1 in omega arith) in
     (omega arith, omega arith)
 stop_kept raw (status.PtraceSyscall pid, of, is, tells) = let value : raw ≡ 0x857f = is in (omega arith, omega arith)
 stop_kept raw (status.Exited pid code, of, is, tells) = cc

@@ -9,9 +9,13 @@ use Rattle.stop_board.specs.declared.roster.RosterError.TheVariants as fault
 abbrev pub most_rows : ℕ
 most_rows = 64
 
--- an id of a thread, a thread group or a process group
+-- the greatest id of a thread, a thread group or a process group
+abbrev pub last_id : ℕ
+last_id = 4194303
+
+-- an id: 1 to the greatest
 abbrev pub is_id : ℕ → Bool
-is_id number = nat_le 1 number && nat_le number 4194303
+is_id number = nat_le 1 number && nat_le number last_id
 
 abbrev pub is_root : Row → Bool
 is_root row = row.parent == 0
@@ -89,7 +93,7 @@ pub record IsChild (parent row : Row) : Type 0 where
 
 -- what holds of a row of a roster: each parent stands before its children, a root leads a thread group of its own
 pub record IsPlaced (rows : List Row) (row : ℕ) : Type 0 where
-  pub tid : (1 ≤ (row_at rows row).tid) × ((row_at rows row).tid ≤ 4194303)
+  pub tid : (1 ≤ (row_at rows row).tid) × ((row_at rows row).tid ≤ last_id)
   pub found : row_of rows (row_at rows row).tid ≡ Some row
   pub root : parent_of rows row ≡ None → ((row_at rows row).parent ≡ 0) × ((row_at rows row).tgid ≡ (row_at rows row).tid)
   pub child : (parent : ℕ) → parent_of rows row ≡ Some parent → (parent < row) × IsChild (row_at rows parent) (row_at rows row)

@@ -7,7 +7,7 @@ ghost use Rattle.stop_board.specs.Layout.{raw_of};
 
 use crate::parts::Parts;
 use crate::phase::Phase;
-use crate::roster::MOST_ROWS;
+use crate::roster::Roster;
 use crate::steps::TRACERS;
 use crate::word::{LAST_NUMBER, Word};
 use trace_status::{WaitStatus, decode};
@@ -80,7 +80,9 @@ fn word_of(phase: Phase, births: u8, number: u32) -> Option<Word>
     ensures each { IsWord (record { phase = phase; births = births; number = number }) → result ≡ Some (record { phase = phase; births = births; number = number }) }
 {
     let opening = births == 0 && number == 0;
-    let in_range = usize::from(births) < MOST_ROWS && number <= LAST_NUMBER && is_phase(phase);
+    let in_range = usize::from(births) < Roster::MOST_ROWS
+        && number <= LAST_NUMBER
+        && is_phase(phase);
     if in_range && (opening || phase != Phase::Fresh) {
         Some(Word {
             phase,

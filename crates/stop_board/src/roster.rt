@@ -7,12 +7,6 @@ use std::alloc::{AllocError, Allocator, Global};
 use std::marker::Model;
 use trace_pages::NoMemory;
 
-/// How many rows a roster has at most.
-pub(crate) const MOST_ROWS: usize = 64;
-
-/// The greatest id of a thread, a thread group or a process group.
-const LAST_ID: u32 = 4_194_303;
-
 /// A tracee: its thread id, thread-group id and process-group id, each 1 to 4,194,303, and its parent's thread
 /// id, or 0 for a root.
 #[derive(Clone, Copy, Debug, PartialEq, Eq, Hash)]
@@ -21,6 +15,11 @@ pub struct Row {
     pub tgid: u32,
     pub pgid: u32,
     pub parent: u32,
+}
+
+impl Row {
+    /// The greatest id of a thread, a thread group or a process group.
+    pub const LAST_ID: u32 = 4_194_303;
 }
 
 /// Why rows are no roster. A number is the place of the first row that has a fault.
@@ -51,6 +50,7 @@ impl From<AllocError> for RosterError {
     }
 }
 
+/// So that one call may make a roster and what stands on it, as a board, by `?`.
 impl From<NoMemory> for RosterError {
     ghost use Rattle.stop_board.specs.declared.roster.RosterError.TheVariants as fault;
 
@@ -65,6 +65,11 @@ impl From<NoMemory> for RosterError {
 #[derive(Drop)]
 pub struct Roster<A: Allocator = Global> {
     rows: Vec<Row, A>,
+}
+
+impl Roster {
+    /// How many rows a roster has at most.
+    pub const MOST_ROWS: usize = 64;
 }
 
 impl<A: Allocator> Model for Roster<A> {
@@ -136,7 +141,7 @@ impl<A: Allocator> Roster<A> {
 fn fault_of(rows: &[Row]) -> Option<RosterError>
     ensures { result ≡ roster_fault rows.now }
 {
-    if rows.len() > MOST_ROWS {
+    if rows.len() > Roster::MOST_ROWS {
         return Some(RosterError::TooMany);
     }
     for (i, row) in rows.iter().enumerate() {
@@ -204,7 +209,7 @@ fn has_ids(row: Row) -> bool
 fn is_id(number: u32) -> bool
     ensures { result ≡ is_id number }
 {
-    1 <= number && number <= LAST_ID
+    1 <= number && number <= Row::LAST_ID
 }
 
 /// Whether a row has no parent.

@@ -1,9 +1,10 @@
 -- The content of a stop's record, and what its tracer is shown of it (ptrace(2), PTRACE_GET_SYSCALL_INFO,
 -- PTRACE_GETEVENTMSG).
-use Rattle.std.specs.Prelude.{ℕ, ℤ, pos, negsuc, Bool, ◌&&◌, int_le, int_lt}
+use Rattle.std.specs.Prelude.{ℕ}
 use Rattle.std.specs.FinMap as finite
 use Rattle.std.specs.Int.{w64, cast_signed}
 use Rattle.trace_pages.specs.FlatMemory.{FlatMemory}
+use Rattle.trace_regs.specs.Outcome.{is_error_answer}
 use Rattle.trace_regs.specs.Regs.{arguments_of}
 use Rattle.trace_regs.specs.declared.regs.Regs.{Regs}
 use Rattle.trace_status.specs.declared.syscall_info.SyscallInfo.{SyscallInfo}
@@ -58,10 +59,6 @@ zero_regs = record {
 -- the empty record of a tracee
 abbrev pub empty_content : ℕ → Content
 empty_content tid = content_by tid 0 Start zero_regs finite.empty
-
--- an answer that is an error's negated number: -4095 to -1 (errno(3), the kernel's MAX_ERRNO)
-abbrev pub is_error_answer : ℤ → Bool
-is_error_answer answer = int_le (negsuc 4094) answer && int_lt answer (pos 0)
 
 -- what the kind of a stop adds to its information
 abbrev pub part_of : Stop → Regs → Part

@@ -1,6 +1,8 @@
 -- The stops of a tracee, and the wait status that tells each (ptrace(2), "Syscall-stops", "PTRACE_EVENT stops",
 -- "Signal-delivery-stop").
 use Rattle.std.specs.Prelude.{◌+◌, ◌*◌, ℕ, Option, Some, None}
+use Rattle.trace_options.specs.Event.{code_of}
+use Rattle.trace_options.specs.declared.event.Event.TheVariants as event
 use Rattle.trace_status.specs.WaitStatus.{IsSignal}
 use Rattle.trace_status.specs.declared.wait_status.WaitStatus.{WaitStatus}
 use Rattle.trace_status.specs.declared.wait_status.WaitStatus.TheVariants.{Stopped, PtraceEvent, PtraceSyscall}
@@ -9,13 +11,13 @@ use Rattle.trace_record.specs.declared.stop.Stop.TheVariants.{Start, Enter, Exit
 
 -- the wait status that a wait for the tracee pid answers at a stop
 abbrev pub stop_wait_status : ℕ → Stop → WaitStatus
-stop_wait_status pid Start = PtraceEvent pid 5 128
+stop_wait_status pid Start = PtraceEvent pid 5 (code_of event.Stop)
 stop_wait_status pid Enter = PtraceSyscall pid
 stop_wait_status pid Exit = PtraceSyscall pid
-stop_wait_status pid (Seccomp ret_data) = PtraceEvent pid 5 7
-stop_wait_status pid (Fork child) = PtraceEvent pid 5 1
-stop_wait_status pid (Clone child) = PtraceEvent pid 5 3
-stop_wait_status pid (Exec former) = PtraceEvent pid 5 4
+stop_wait_status pid (Seccomp ret_data) = PtraceEvent pid 5 (code_of event.Seccomp)
+stop_wait_status pid (Fork child) = PtraceEvent pid 5 (code_of event.Fork)
+stop_wait_status pid (Clone child) = PtraceEvent pid 5 (code_of event.Clone)
+stop_wait_status pid (Exec former) = PtraceEvent pid 5 (code_of event.Exec)
 stop_wait_status pid (Signal signal) = Stopped pid signal
 
 -- its raw value

@@ -1,6 +1,9 @@
 //! The stops of a tracee.
 
 ghost use Rattle.std.specs.Prelude.{◌≡◌, ◌+◌, ◌*◌};
+ghost use Rattle.trace_options.specs.Event.{code_of};
+
+use trace_options::Event;
 
 /// The bits of a raw wait status that tell a stop by SIGTRAP, without the event in the third byte.
 const EVENT_STOP: u32 = 0x057f;
@@ -37,12 +40,12 @@ impl Stop {
         ensures { result ≡ stop_status self.now }
     {
         match *self {
-            Stop::Start => event_stop(128),
+            Stop::Start => event_stop(Event::Stop),
             Stop::Enter | Stop::Exit => SYSCALL_STOP,
-            Stop::Seccomp(_) => event_stop(7),
-            Stop::Fork(_) => event_stop(1),
-            Stop::Clone(_) => event_stop(3),
-            Stop::Exec(_) => event_stop(4),
+            Stop::Seccomp(_) => event_stop(Event::Seccomp),
+            Stop::Fork(_) => event_stop(Event::Fork),
+            Stop::Clone(_) => event_stop(Event::Clone),
+            Stop::Exec(_) => event_stop(Event::Exec),
             Stop::Signal(signal) => u32::from(signal) << 8 | 0x7f,
         }
     }
@@ -58,9 +61,9 @@ impl Stop {
     }
 }
 
-/// The raw wait status of the event of this number.
-fn event_stop(event: u8) -> u32
-    ensures { result ≡ event * 0x10000 + 0x057f }
+/// The raw wait status of an event stop.
+fn event_stop(event: Event) -> u32
+    ensures { result ≡ code_of event * 0x10000 + 0x057f }
 {
-    u32::from(event) << 16 | EVENT_STOP
+    u32::from(event.code()) << 16 | EVENT_STOP
 }

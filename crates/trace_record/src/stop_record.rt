@@ -9,7 +9,7 @@ ghost use Rattle.trace_record.specs.Stop.{stop_status};
 use crate::stop::Stop;
 use std::alloc::{Allocator, Global};
 use trace_pages::Memory;
-use trace_regs::Regs;
+use trace_regs::{Outcome, Regs};
 use trace_status::{Part, SyscallInfo};
 
 /// The architecture of x86-64 (`<linux/audit.h>`, `AUDIT_ARCH_X86_64`).
@@ -86,13 +86,10 @@ fn part_at(stop: Stop, regs: &Regs) -> Part
             nr: regs.nr(),
             args: regs.args(),
         },
-        Stop::Exit => {
-            let rval = regs.rax.cast_signed();
-            Part::Exit {
-                rval,
-                is_error: (-4095..0).contains(&rval),
-            }
-        }
+        Stop::Exit => Part::Exit {
+            rval: regs.rax.cast_signed(),
+            is_error: matches!(regs.result(), Outcome::Errno(_)),
+        },
         Stop::Seccomp(ret_data) => Part::Seccomp {
             nr: regs.nr(),
             args: regs.args(),

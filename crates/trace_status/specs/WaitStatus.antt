@@ -1,6 +1,8 @@
 -- Wait statuses: the word that wait(2) stores of a tracee, and what it means. The cases are those of the
 -- macros of wait(2) (WIFEXITED, WIFSIGNALED, WIFSTOPPED), with the stops that ptrace(2) tells by it.
-use Rattle.std.specs.Prelude.{◌≡◌, ◌⊎◌, ◌+◌, ◌*◌, ◌<◌, ◌≤◌, ℕ, if◌then◌else◌, Option, Some, None}
+use Rattle.std.specs.Prelude.{◌≡◌, ◌+◌, ◌*◌, ◌<◌, ◌≤◌, ℕ, if◌then◌else◌, Option, Some, None}
+use Rattle.trace_options.specs.Event.{code_of}
+use Rattle.trace_options.specs.declared.event.Event.{Event}
 use Rattle.trace_status.specs.declared.wait_status.WaitStatus.{WaitStatus}
 use Rattle.trace_status.specs.declared.wait_status.WaitStatus.TheVariants.{Exited, Signaled, Stopped, PtraceEvent, PtraceSyscall, StillAlive}
 
@@ -8,9 +10,9 @@ use Rattle.trace_status.specs.declared.wait_status.WaitStatus.TheVariants.{Exite
 abbrev pub IsSignal : ℕ → Type 0
 IsSignal signal = (1 ≤ signal) × (signal ≤ 64)
 
--- an event of ptrace(2), "PTRACE_SETOPTIONS": PTRACE_EVENT_FORK to PTRACE_EVENT_SECCOMP, or PTRACE_EVENT_STOP
+-- the number of an event (ptrace(2), "PTRACE_EVENT stops")
 abbrev pub IsEvent : ℕ → Type 0
-IsEvent event = ((1 ≤ event) × (event ≤ 7)) ⊎ (event ≡ 128)
+IsEvent number = (event : Event) × (code_of event ≡ number)
 
 -- wait(2) reports this status by this raw value
 abbrev pub Encodes : WaitStatus → ℕ → Type 0

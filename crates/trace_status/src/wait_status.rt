@@ -13,6 +13,8 @@ ghost use Rattle.std.specs.Prelude.{◌≡◌, ◌↔◌, ℕ, IfSome, IsTrue};
 ghost use Rattle.trace_status.specs.WaitStatus.{Encodes, IsEvent, IsSignal, pid_of};
 ghost use Rattle.trace_status.specs.declared.wait_status.WaitStatus.{WaitStatus};
 
+use trace_options::Event;
+
 /// SIGTRAP, the signal of an event stop.
 const SIGTRAP: u8 = 5;
 
@@ -97,5 +99,5 @@ fn is_signal(number: u8) -> bool
 fn is_event(number: u8) -> bool
     ensures { IsTrue result ↔ IsEvent number }
 {
-    matches!(number, 1..=7 | 128)
+    Event::from_code(number).is_some()
 }

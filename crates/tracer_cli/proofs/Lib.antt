@@ -1,3 +1,4 @@
+pub mod Commands
 pub mod Cuts
 pub mod Decimals
 pub mod Digits
@@ -6,6 +7,7 @@ pub mod LinesRead
 pub mod OneThread
 pub mod ReadBack
 pub mod RosterGrows
+pub mod Runs
 pub mod SixWords
 pub mod Spelled
 pub mod Written

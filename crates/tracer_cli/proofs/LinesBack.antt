@@ -1,6 +1,6 @@
 -- The words of each row and each command say that row and that command.
-use Rattle.std.proofs.Common.{refl, ◌≡◌, ◌^◌, ◌<◌, ◌≤◌, ◌&&◌, ◌||◌, ℕ, Bool, true, false, not, Option, Some, None, List, Ok, length, arith, cond, eqb, eqb-true, leb-true, nat_le, codes, decimal, is_some, ap, sym, ◌∙◌, inl, inr, ◌⊎◌, lit<}
-use Rattle.std.proofs.lemmas.Bool.{and_parts, not-false, or_cases}
+use Rattle.std.proofs.Common.{refl, ◌≡◌, ◌^◌, ◌<◌, ◌≤◌, ◌&&◌, ◌||◌, ℕ, Bool, true, false, not, Option, Some, None, List, Ok, length, arith, cond, eqb, eqb-true, le-leb, leb-true, nat_le, codes, decimal, is_some, ap, sym, ◌∙◌, inl, inr, ◌⊎◌, ◌-◌, lit<}
+use Rattle.std.proofs.lemmas.Bool.{and_from, and_parts, not-false, or_cases}
 use Rattle.trace_record.specs.declared.stop.Stop.{Stop}
 use Rattle.trace_record.specs.declared.stop.Stop.TheVariants as stop
 use Rattle.trace_record.specs.declared.resume.Kind.{Kind}
@@ -10,39 +10,51 @@ use Rattle.trace_record.specs.declared.death.Death.TheVariants as death
 use Rattle.stop_board.specs.declared.roster.Row.{Row}
 use Rattle.stop_board.specs.declared.roster.RosterError.{RosterError}
 use Rattle.stop_board.specs.declared.roster.RosterError.TheVariants as fault
-use Rattle.stop_board.specs.Roster.{family_fault, fault_after, has_ids, is_id, is_root, parent_in, with_tid}
+use Rattle.stop_board.specs.Roster.{family_fault, fault_after, has_ids, is_id, is_root, last_id, parent_in, with_tid}
+use Rattle.stop_board.specs.Sequential.{most_tracers}
 use Rattle.tracer_cli.specs.declared.command.Command.{Command}
 use Rattle.tracer_cli.specs.declared.command.Command.TheVariants as command
 use Rattle.tracer_cli.specs.declared.grammar.Line.TheVariants as line
 use Rattle.tracer_cli.specs.declared.grammar.Numbered.{Numbered}
 use Rattle.tracer_cli.specs.declared.grammar.Numbered.TheVariants as numbered
 use Rattle.tracer_cli.specs.Command.{IsCommand}
-use Rattle.tracer_cli.specs.Grammar.{◌>>=◌, claim_line, exit_line, id_of, line_of, number_between, publish_numbered, publish_plain, resume_line, row_line, state_line, stop_of, plain_stop, numbered_stop, kind_of}
-use Rattle.tracer_cli.specs.Spelling.{IsId, IsSpelled, command_words, kind_word, row_words}
+use Rattle.tracer_cli.specs.Grammar.{◌>>=◌, claim_line, exit_line, id_of, line_of, number_between, publish_numbered, publish_plain, resume_line, row_line, state_line, stop_of, plain_stop, numbered_stop, kind_of, tracer_of}
+use Rattle.tracer_cli.specs.Spelling.{IsSpelled, command_words, kind_word, row_words}
 use Rattle.tracer_cli.proofs.Decimals.{decimal_between, decimal_is_word}
 use Rattle.tracer_cli.proofs.Spelled.{AreWords, is_word}
 
-id_read : (n : ℕ) → IsId n → id_of (decimal n) ≡ Ok n
-id_read n id = decimal_between 1 4194303 n id.0 id.1 (lit< tt)
+-- ---- ids
 
-id_word : (n : ℕ) → n ≤ 4194303 → is_word (decimal n) ≡ true
-id_word n most = decimal_is_word n (omega arith)
+id_ends : (n : ℕ) → is_id n ≡ true → (1 ≤ n) × (n ≤ last_id)
+id_ends n id = let ends = and_parts (nat_le 1 n) (nat_le n last_id) id in (leb-true 1 n ends.0, leb-true n last_id ends.1)
+
+pub ends_id : (n : ℕ) → 1 ≤ n → n ≤ last_id → is_id n ≡ true
+ends_id n least most = and_from (nat_le 1 n) (nat_le n last_id) (le-leb 1 n least) (le-leb n last_id most)
+
+id_read : (n : ℕ) → is_id n ≡ true → id_of (decimal n) ≡ Ok n
+id_read n id = let ends = id_ends n id in decimal_between 1 last_id n ends.0 ends.1 (lit< tt)
+
+up_to_last : (n : ℕ) → n ≤ last_id → is_word (decimal n) ≡ true
+up_to_last n most = decimal_is_word n (omega arith)
+
+id_word : (n : ℕ) → is_id n ≡ true → is_word (decimal n) ≡ true
+id_word n id = up_to_last n (id_ends n id).1
+
+tracer_read : (c : ℕ) → c < most_tracers → tracer_of (decimal c) ≡ Ok c
+tracer_read c some = decimal_between 0 (most_tracers - 1) c (omega arith) (omega arith) (lit< tt)
 
 -- ---- rows
 
 -- the ranges of a row's ids
 pub record HasRanges (row : Row) : Type 0 where
-  pub tid : IsId row.tid
-  pub tgid : IsId row.tgid
-  pub pgid : IsId row.pgid
-  pub parent : row.parent ≤ 4194303
+  pub tid : is_id row.tid ≡ true
+  pub tgid : is_id row.tgid ≡ true
+  pub pgid : is_id row.pgid ≡ true
+  pub parent : row.parent ≤ last_id
 
-id_range : (n : ℕ) → is_id n ≡ true → IsId n
-id_range n h = let ends = and_parts (nat_le 1 n) (nat_le n 4194303) h in (leb-true 1 n ends.0, leb-true n 4194303 ends.1)
-
-parent_range : (n : ℕ) → (eqb n 0 ≡ true) ⊎ (is_id n ≡ true) → n ≤ 4194303
+parent_range : (n : ℕ) → (eqb n 0 ≡ true) ⊎ (is_id n ≡ true) → n ≤ last_id
 parent_range n (inl root) = let none : n ≡ 0 = eqb-true n 0 root in omega arith
-parent_range n (inr child) = (id_range n child).1
+parent_range n (inr child) = (id_ends n child).1
 
 ranges : (row : Row) → has_ids row ≡ true → HasRanges row
 ranges row h =
@@ -50,9 +62,9 @@ ranges row h =
     let two = and_parts (is_id row.tid && is_id row.tgid) (is_id row.pgid) three.0 in
     let one = and_parts (is_id row.tid) (is_id row.tgid) two.0 in
     record {
-      tid = id_range row.tid one.0;
-      tgid = id_range row.tgid one.1;
-      pgid = id_range row.pgid two.1;
+      tid = one.0;
+      tgid = one.1;
+      pgid = two.1;
       parent = parent_range row.parent (or_cases (is_root row) (is_id row.parent) three.1);
     }
 
@@ -65,20 +77,20 @@ pub row_ranges : (before : List Row) (row : Row) → fault_after before row ≡ 
 row_ranges before row h =
     ranges row (not-false (has_ids row) (passed (not (has_ids row)) (fault.Number (length before)) (cond (is_some (with_tid before row.tid)) (Some (fault.Twice (length before))) (family_fault (length before) row (parent_in before row))) h))
 
-row_said : (a b c d : List ℕ) (row : Row) → id_of a ≡ Ok row.tid → id_of b ≡ Ok row.tgid → id_of c ≡ Ok row.pgid → number_between 0 4194303 d ≡ Ok row.parent → row_line a b c d ≡ Ok (line.Row row)
+row_said : (a b c d : List ℕ) (row : Row) → id_of a ≡ Ok row.tid → id_of b ≡ Ok row.tgid → id_of c ≡ Ok row.pgid → number_between 0 last_id d ≡ Ok row.parent → row_line a b c d ≡ Ok (line.Row row)
 row_said a b c d row t g p q =
-    ap (λ r. r >>= λ t. id_of b >>= λ g. id_of c >>= λ p. number_between 0 4194303 d >>= λ q. Ok (line.Row (record { tid = t; tgid = g; pgid = p; parent = q }))) t
-    ∙ ap (λ r. r >>= λ g. id_of c >>= λ p. number_between 0 4194303 d >>= λ q. Ok (line.Row (record { tid = row.tid; tgid = g; pgid = p; parent = q }))) g
-    ∙ ap (λ r. r >>= λ p. number_between 0 4194303 d >>= λ q. Ok (line.Row (record { tid = row.tid; tgid = row.tgid; pgid = p; parent = q }))) p
+    ap (λ r. r >>= λ t. id_of b >>= λ g. id_of c >>= λ p. number_between 0 last_id d >>= λ q. Ok (line.Row (record { tid = t; tgid = g; pgid = p; parent = q }))) t
+    ∙ ap (λ r. r >>= λ g. id_of c >>= λ p. number_between 0 last_id d >>= λ q. Ok (line.Row (record { tid = row.tid; tgid = g; pgid = p; parent = q }))) g
+    ∙ ap (λ r. r >>= λ p. number_between 0 last_id d >>= λ q. Ok (line.Row (record { tid = row.tid; tgid = row.tgid; pgid = p; parent = q }))) p
     ∙ ap (λ r. r >>= λ q. Ok (line.Row (record { tid = row.tid; tgid = row.tgid; pgid = row.pgid; parent = q }))) q
 
 pub row_line_read : (row : Row) → HasRanges row → line_of false (row_words row) ≡ Ok (line.Row row)
 row_line_read row has =
     row_said (decimal row.tid) (decimal row.tgid) (decimal row.pgid) (decimal row.parent) row (id_read row.tid has.tid) (id_read row.tgid has.tgid) (id_read row.pgid has.pgid)
-    (decimal_between 0 4194303 row.parent (omega arith) has.parent (lit< tt))
+    (decimal_between 0 last_id row.parent (omega arith) has.parent (lit< tt))
 
 pub row_are_words : (row : Row) → HasRanges row → AreWords (row_words row)
-row_are_words row has = (refl, (id_word row.tid has.tid.1, (id_word row.tgid has.tgid.1, (id_word row.pgid has.pgid.1, (id_word row.parent has.parent, tt)))))
+row_are_words row has = (refl, (id_word row.tid has.tid, (id_word row.tgid has.tgid, (id_word row.pgid has.pgid, (up_to_last row.parent has.parent, tt)))))
 
 -- ---- commands
 
@@ -93,15 +105,15 @@ numbered_said tid name number w t s id is says =
     ∙ ap (λ r. r >>= λ t. stop_of w number >>= λ s. Ok (line.Command t (command.Publish s))) id
     ∙ ap (λ r. r >>= λ s. Ok (line.Command t (command.Publish s))) says
 
-claim_said : (tid tracer : List ℕ) (t c : ℕ) → id_of tid ≡ Ok t → number_between 0 15 tracer ≡ Ok c → claim_line tid tracer ≡ Ok (line.Command t (command.Claim c))
+claim_said : (tid tracer : List ℕ) (t c : ℕ) → id_of tid ≡ Ok t → tracer_of tracer ≡ Ok c → claim_line tid tracer ≡ Ok (line.Command t (command.Claim c))
 claim_said tid tracer t c id is =
-    ap (λ r. r >>= λ t. number_between 0 15 tracer >>= λ c. Ok (line.Command t (command.Claim c))) id
+    ap (λ r. r >>= λ t. tracer_of tracer >>= λ c. Ok (line.Command t (command.Claim c))) id
     ∙ ap (λ r. r >>= λ c. Ok (line.Command t (command.Claim c))) is
 
-resume_said : (tid tracer name signal : List ℕ) (t c : ℕ) (how : Resume) → id_of tid ≡ Ok t → number_between 0 15 tracer ≡ Ok c → kind_of name ≡ Ok how.kind → number_between 0 64 signal ≡ Ok how.signal → resume_line tid tracer name signal ≡ Ok (line.Command t (command.Resume c how))
+resume_said : (tid tracer name signal : List ℕ) (t c : ℕ) (how : Resume) → id_of tid ≡ Ok t → tracer_of tracer ≡ Ok c → kind_of name ≡ Ok how.kind → number_between 0 64 signal ≡ Ok how.signal → resume_line tid tracer name signal ≡ Ok (line.Command t (command.Resume c how))
 resume_said tid tracer name signal t c how id is kind handed =
-    ap (λ r. r >>= λ k. id_of tid >>= λ t. number_between 0 15 tracer >>= λ c. number_between 0 64 signal >>= λ s. Ok (line.Command t (command.Resume c (record { kind = k; signal = s })))) kind
-    ∙ ap (λ r. r >>= λ t. number_between 0 15 tracer >>= λ c. number_between 0 64 signal >>= λ s. Ok (line.Command t (command.Resume c (record { kind = how.kind; signal = s })))) id
+    ap (λ r. r >>= λ k. id_of tid >>= λ t. tracer_of tracer >>= λ c. number_between 0 64 signal >>= λ s. Ok (line.Command t (command.Resume c (record { kind = k; signal = s })))) kind
+    ∙ ap (λ r. r >>= λ t. tracer_of tracer >>= λ c. number_between 0 64 signal >>= λ s. Ok (line.Command t (command.Resume c (record { kind = how.kind; signal = s })))) id
     ∙ ap (λ r. r >>= λ c. number_between 0 64 signal >>= λ s. Ok (line.Command t (command.Resume c (record { kind = how.kind; signal = s })))) is
     ∙ ap (λ r. r >>= λ s. Ok (line.Command t (command.Resume c (record { kind = how.kind; signal = s })))) handed
 
@@ -126,14 +138,14 @@ kind_is_word : (k : Kind) → is_word (kind_word k) ≡ true
 kind_is_word kind.Syscall = refl
 kind_is_word kind.Cont = refl
 
-id_stop : (w : ℕ → Stop) (n : ℕ) → IsId n → (id_of (decimal n) >>= λ n. Ok (w n)) ≡ Ok (w n)
+id_stop : (w : ℕ → Stop) (n : ℕ) → is_id n ≡ true → (id_of (decimal n) >>= λ n. Ok (w n)) ≡ Ok (w n)
 id_stop w n id = ap (λ r. r >>= λ n. Ok (w n)) (id_read n id)
 
 range_stop : (w : ℕ → Stop) (low high n : ℕ) → low ≤ n → n ≤ high → high < 2 ^ 64 → (number_between low high (decimal n) >>= λ n. Ok (w n)) ≡ Ok (w n)
 range_stop w low high n least most small = ap (λ r. r >>= λ n. Ok (w n)) (decimal_between low high n least most small)
 
 -- the words of a command say it
-command_read : (tid : ℕ) (c : Command) → IsId tid → IsCommand c → IsSpelled c → line_of false (command_words tid c) ≡ Ok (line.Command tid c)
+command_read : (tid : ℕ) (c : Command) → is_id tid ≡ true → IsCommand c → IsSpelled c → line_of false (command_words tid c) ≡ Ok (line.Command tid c)
 command_read tid (command.Publish stop.Start) id range spelled = plain_said (decimal tid) (codes "start") tid stop.Start (id_read tid id) refl
 command_read tid (command.Publish stop.Enter) id range spelled = plain_said (decimal tid) (codes "enter") tid stop.Enter (id_read tid id) refl
 command_read tid (command.Publish stop.Exit) id range spelled = plain_said (decimal tid) (codes "exit") tid stop.Exit (id_read tid id) refl
@@ -148,9 +160,9 @@ command_read tid (command.Publish (stop.Exec n)) id range spelled =
 command_read tid (command.Publish (stop.Signal n)) id range spelled =
     numbered_said (decimal tid) (codes "signal") (decimal n) numbered.Signal tid (stop.Signal n) (id_read tid id) refl (range_stop (λ n. stop.Signal n) 1 64 n range.0 range.1 (lit< tt))
 command_read tid (command.Claim c) id range spelled =
-    claim_said (decimal tid) (decimal c) tid c (id_read tid id) (decimal_between 0 15 c (omega arith) spelled (lit< tt))
+    claim_said (decimal tid) (decimal c) tid c (id_read tid id) (tracer_read c spelled)
 command_read tid (command.Resume c how) id range spelled =
-    resume_said (decimal tid) (decimal c) (kind_word how.kind) (decimal how.signal) tid c how (id_read tid id) (decimal_between 0 15 c (omega arith) spelled (lit< tt)) (kind_read how.kind)
+    resume_said (decimal tid) (decimal c) (kind_word how.kind) (decimal how.signal) tid c how (id_read tid id) (tracer_read c spelled) (kind_read how.kind)
     (decimal_between 0 64 how.signal (omega arith) range (lit< tt))
 command_read tid (command.Exit (death.Exited n)) id range spelled =
     exited_said (decimal tid) (decimal n) tid n (id_read tid id) (decimal_between 0 255 n (omega arith) (omega arith) (lit< tt))
@@ -167,21 +179,21 @@ said_again tid (command.Resume c how) = refl
 said_again tid (command.Exit d) = refl
 said_again tid command.State = refl
 
-pub command_line_read : (begun : Bool) (tid : ℕ) (c : Command) → IsId tid → IsCommand c → IsSpelled c → line_of begun (command_words tid c) ≡ Ok (line.Command tid c)
+pub command_line_read : (begun : Bool) (tid : ℕ) (c : Command) → is_id tid ≡ true → IsCommand c → IsSpelled c → line_of begun (command_words tid c) ≡ Ok (line.Command tid c)
 command_line_read true tid c id range spelled = said_again tid c ∙ command_read tid c id range spelled
 command_line_read false tid c id range spelled = command_read tid c id range spelled
 
-pub command_are_words : (tid : ℕ) (c : Command) → IsId tid → IsCommand c → IsSpelled c → AreWords (command_words tid c)
-command_are_words tid (command.Publish stop.Start) id range spelled = (refl, (id_word tid id.1, (refl, tt)))
-command_are_words tid (command.Publish stop.Enter) id range spelled = (refl, (id_word tid id.1, (refl, tt)))
-command_are_words tid (command.Publish stop.Exit) id range spelled = (refl, (id_word tid id.1, (refl, tt)))
-command_are_words tid (command.Publish (stop.Seccomp n)) id range spelled = (refl, (id_word tid id.1, (refl, (id_word n (omega arith), tt))))
-command_are_words tid (command.Publish (stop.Fork n)) id range spelled = (refl, (id_word tid id.1, (refl, (id_word n spelled.1, tt))))
-command_are_words tid (command.Publish (stop.Clone n)) id range spelled = (refl, (id_word tid id.1, (refl, (id_word n spelled.1, tt))))
-command_are_words tid (command.Publish (stop.Exec n)) id range spelled = (refl, (id_word tid id.1, (refl, (id_word n spelled.1, tt))))
-command_are_words tid (command.Publish (stop.Signal n)) id range spelled = (refl, (id_word tid id.1, (refl, (id_word n (omega arith), tt))))
-command_are_words tid (command.Claim c) id range spelled = (refl, (id_word tid id.1, (id_word c (omega arith), tt)))
-command_are_words tid (command.Resume c how) id range spelled = (refl, (id_word tid id.1, (id_word c (omega arith), (kind_is_word how.kind, (id_word how.signal (omega arith), tt)))))
-command_are_words tid (command.Exit (death.Exited n)) id range spelled = (refl, (id_word tid id.1, (refl, (id_word n (omega arith), tt))))
-command_are_words tid (command.Exit (death.Signaled n core)) id range spelled = (refl, (id_word tid id.1, (refl, (id_word n (omega arith), tt))))
-command_are_words tid command.State id range spelled = (refl, (id_word tid id.1, tt))
+pub command_are_words : (tid : ℕ) (c : Command) → is_id tid ≡ true → IsCommand c → IsSpelled c → AreWords (command_words tid c)
+command_are_words tid (command.Publish stop.Start) id range spelled = (refl, (id_word tid id, (refl, tt)))
+command_are_words tid (command.Publish stop.Enter) id range spelled = (refl, (id_word tid id, (refl, tt)))
+command_are_words tid (command.Publish stop.Exit) id range spelled = (refl, (id_word tid id, (refl, tt)))
+command_are_words tid (command.Publish (stop.Seccomp n)) id range spelled = (refl, (id_word tid id, (refl, (up_to_last n (omega arith), tt))))
+command_are_words tid (command.Publish (stop.Fork n)) id range spelled = (refl, (id_word tid id, (refl, (id_word n spelled, tt))))
+command_are_words tid (command.Publish (stop.Clone n)) id range spelled = (refl, (id_word tid id, (refl, (id_word n spelled, tt))))
+command_are_words tid (command.Publish (stop.Exec n)) id range spelled = (refl, (id_word tid id, (refl, (id_word n spelled, tt))))
+command_are_words tid (command.Publish (stop.Signal n)) id range spelled = (refl, (id_word tid id, (refl, (up_to_last n (omega arith), tt))))
+command_are_words tid (command.Claim c) id range spelled = (refl, (id_word tid id, (up_to_last c (omega arith), tt)))
+command_are_words tid (command.Resume c how) id range spelled = (refl, (id_word tid id, (up_to_last c (omega arith), (kind_is_word how.kind, (up_to_last how.signal (omega arith), tt)))))
+command_are_words tid (command.Exit (death.Exited n)) id range spelled = (refl, (id_word tid id, (refl, (up_to_last n (omega arith), tt))))
+command_are_words tid (command.Exit (death.Signaled n core)) id range spelled = (refl, (id_word tid id, (refl, (up_to_last n (omega arith), tt))))
+command_are_words tid command.State id range spelled = (refl, (id_word tid id, tt))

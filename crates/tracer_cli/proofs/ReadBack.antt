@@ -4,16 +4,16 @@ use Rattle.std.proofs.lemmas.List.Elements.{All-head, All-tail}
 use Rattle.std.specs.List.{All, join_with_byte}
 use Rattle.stop_board.specs.declared.roster.Row.{Row}
 use Rattle.stop_board.specs.declared.roster.RosterError.{RosterError}
-use Rattle.stop_board.specs.Roster.{IsRoster, fault_after, first_fault, row_at}
+use Rattle.stop_board.specs.Roster.{IsRoster, fault_after, first_fault, most_rows, row_at}
 use Rattle.stop_board.proofs.Rosters.{both_none, few_rows, row_of-tid, tid_in_range}
 use Rattle.tracer_cli.specs.declared.order.Order.{Order}
 use Rattle.tracer_cli.specs.declared.grammar.Line.{Line}
 use Rattle.tracer_cli.specs.declared.grammar.Line.TheVariants as line
 use Rattle.tracer_cli.specs.Grammar.{◌>>=◌, line_of}
 use Rattle.tracer_cli.specs.Lines.{lines_of}
-use Rattle.tracer_cli.specs.File.{Content, content_after, content_of, has_begun, line_added, line_read, most_bytes, order_added, row_added}
+use Rattle.tracer_cli.specs.File.{Content, content_after, content_of, has_begun, line_added, line_read, most_bytes, order_added, row_added, with_cause}
 use Rattle.tracer_cli.specs.Spelling.{IsContent, IsOrderOf, line_text, order_words, orders_text, row_words, rows_text, spelling}
-use Rattle.tracer_cli.proofs.LinesBack.{command_are_words, command_line_read, row_are_words, row_line_read, row_ranges}
+use Rattle.tracer_cli.proofs.LinesBack.{command_are_words, command_line_read, ends_id, row_are_words, row_line_read, row_ranges}
 use Rattle.tracer_cli.proofs.LinesRead.{all_read, goes_on}
 use Rattle.tracer_cli.proofs.Spelled.{AreWords, line_ended, words_in_line, words_joined}
 
@@ -25,7 +25,7 @@ first_line n so_far new words said rest are says added =
     let cut : lines_of (line_text words ++ rest) ≡ join_with_byte 32 words ∷ lines_of rest =
     ap lines_of (append_assoc (join_with_byte 32 words) (10 ∷ []) rest) ∙ line_ended (join_with_byte 32 words) rest (words_in_line words are) in
     let read : line_read so_far (join_with_byte 32 words) ≡ Ok new =
-    ap (λ ws. line_of (has_begun so_far) ws >>= line_added so_far) (words_joined words are) ∙ ap (λ r. r >>= line_added so_far) says ∙ added in
+    ap (λ ws. with_cause (line_of (has_begun so_far) ws) >>= line_added so_far) (words_joined words are) ∙ ap (λ r. with_cause r >>= line_added so_far) says ∙ added in
     ap (content_after n so_far) cut ∙ goes_on n so_far new (join_with_byte 32 words) (lines_of rest) read
 
 abbrev only_rows : List Row → Content
@@ -34,12 +34,12 @@ only_rows rows = record { rows = rows; orders = [] }
 abbrev with_orders : List Row → List Order → Content
 with_orders rows orders = record { rows = rows; orders = orders }
 
-row_takes : (before : List Row) (row : Row) → length before < 64 → fault_after before row ≡ None → line_added (only_rows before) (line.Row row) ≡ Ok (only_rows (before ++ row ∷ []))
+row_takes : (before : List Row) (row : Row) → length before < most_rows → fault_after before row ≡ None → line_added (only_rows before) (line.Row row) ≡ Ok (only_rows (before ++ row ∷ []))
 row_takes before row room fits =
-    ap (row_added (only_rows before) row) fits ∙ rw (lt-ltb (length before) 64 room)
+    ap (row_added (only_rows before) row) fits ∙ rw (lt-ltb (length before) most_rows room)
 
 -- rows are read behind those before them
-rows_read : (before rows : List Row) (rest : List ℕ) (all : Content) → first_fault before rows ≡ None → length before + length rows ≤ 64
+rows_read : (before rows : List Row) (rest : List ℕ) (all : Content) → first_fault before rows ≡ None → length before + length rows ≤ most_rows
     → ((n : ℕ) → content_after n (only_rows (before ++ rows)) (lines_of rest) ≡ Ok all)
     → (n : ℕ) → content_after n (only_rows before) (lines_of (rows_text rows ++ rest)) ≡ Ok all
 rows_read before [] rest all fine few then n = ap (λ rows. content_after n (only_rows rows) (lines_of rest)) (sym (append-nil before)) ∙ then n
@@ -62,7 +62,8 @@ orders_read : (rows : List Row) (before orders : List Order) → IsRoster rows �
 orders_read rows before [] roster all n = all_read n (with_orders rows before) ∙ ap (λ os. Ok (with_orders rows os)) (sym (append-nil before))
 orders_read rows before (order ∷ orders) roster all n =
     let is : IsOrderOf rows order = All-head (IsOrderOf rows) order orders all in
-    let tid = tid_in_range rows roster order.row is.there in
+    let ends = tid_in_range rows roster order.row is.there in
+    let tid = ends_id (row_at rows order.row).tid ends.0 ends.1 in
     first_line n (with_orders rows before) (with_orders rows (before ++ order ∷ [])) (order_words rows order) (line.Command (row_at rows order.row).tid order.command) (orders_text rows orders)
     (command_are_words (row_at rows order.row).tid order.command tid is.in_range is.spelled)
     (command_line_read (has_begun (with_orders rows before)) (row_at rows order.row).tid order.command tid is.in_range is.spelled)
@@ -78,7 +79,7 @@ no_fault false fault many h = cc
 pub read_back : (content : Content) → IsContent content → content_of (spelling content) ≡ Ok content
 read_back content is =
     let small : length (spelling content) ≤ most_bytes = is.size in
-    let few : length content.rows ≤ 64 = few_rows content.rows is.roster in
+    let few : length content.rows ≤ most_rows = few_rows content.rows is.roster in
     rw (le-leb (length (spelling content)) most_bytes small)
     (rows_read [] content.rows (orders_text content.rows content.orders) content (no_fault _ _ _ is.roster) (omega arith)
     (orders_read content.rows [] content.orders is.roster is.orders) 1)

@@ -1,7 +1,7 @@
 -- No line has more than five words, so the first six of them say all.
 use Rattle.std.proofs.Common.{refl, ◌≡◌, ◌<◌, ◌≤◌, ◌∷◌, [], ℕ, Bool, List, Result, Ok, length, take, cond, arith, eqb, ap, ◌∙◌, get_or-take, length-take, lit<, lit≤, min, if◌then◌else◌, slice_index}
 use Rattle.std.proofs.lemmas.Bool.Decides.{nat_tests}
-use Rattle.tracer_cli.specs.declared.cause.Cause.{Cause}
+use Rattle.tracer_cli.specs.declared.cause.LineFault.{LineFault}
 use Rattle.tracer_cli.specs.declared.grammar.Line.{Line}
 use Rattle.tracer_cli.specs.declared.grammar.Line.TheVariants as line
 use Rattle.tracer_cli.specs.declared.grammar.Keyword.{Keyword}
@@ -15,20 +15,20 @@ same_word : (words : List (List ℕ)) (i : ℕ) → i < 5 → word_at (take 5 wo
 same_word words i few = get_or-take 5 words i [] few
 
 -- what is read of so many words is read of the first five
-of_some : (words : List (List ℕ)) (k : ℕ) (read : List (List ℕ) → Result Line Cause) (other other' : Result Line Cause) → k ≤ 4 → read (take 5 words) ≡ read words → other ≡ other'
+of_some : (words : List (List ℕ)) (k : ℕ) (read : List (List ℕ) → Result Line LineFault) (other other' : Result Line LineFault) → k ≤ 4 → read (take 5 words) ≡ read words → other ≡ other'
     → (if eqb (length (take 5 words)) k then read (take 5 words) else other) ≡ (if eqb (length words) k then read words else other')
 of_some words k read other other' few same others =
     ap (λ b. cond b (read (take 5 words)) other) (same_length words k few)
     ∙ ap (λ r. cond (eqb (length words) k) r other) same
     ∙ ap (cond (eqb (length words) k) (read words)) others
 
-two : (words : List (List ℕ)) (read : List ℕ → List ℕ → Result Line Cause) → read (word_at (take 5 words) 0) (word_at (take 5 words) 1) ≡ read (word_at words 0) (word_at words 1)
+two : (words : List (List ℕ)) (read : List ℕ → List ℕ → Result Line LineFault) → read (word_at (take 5 words) 0) (word_at (take 5 words) 1) ≡ read (word_at words 0) (word_at words 1)
 two words read = ap (λ w. read w (word_at (take 5 words) 1)) (same_word words 0 (lit< tt)) ∙ ap (read (word_at words 0)) (same_word words 1 (lit< tt))
 
-three : (words : List (List ℕ)) (read : List ℕ → List ℕ → List ℕ → Result Line Cause) → read (word_at (take 5 words) 0) (word_at (take 5 words) 1) (word_at (take 5 words) 2) ≡ read (word_at words 0) (word_at words 1) (word_at words 2)
+three : (words : List (List ℕ)) (read : List ℕ → List ℕ → List ℕ → Result Line LineFault) → read (word_at (take 5 words) 0) (word_at (take 5 words) 1) (word_at (take 5 words) 2) ≡ read (word_at words 0) (word_at words 1) (word_at words 2)
 three words read = two words (λ a b. read a b (word_at (take 5 words) 2)) ∙ ap (read (word_at words 0) (word_at words 1)) (same_word words 2 (lit< tt))
 
-four : (words : List (List ℕ)) (read : List ℕ → List ℕ → List ℕ → List ℕ → Result Line Cause)
+four : (words : List (List ℕ)) (read : List ℕ → List ℕ → List ℕ → List ℕ → Result Line LineFault)
     → read (word_at (take 5 words) 0) (word_at (take 5 words) 1) (word_at (take 5 words) 2) (word_at (take 5 words) 3) ≡ read (word_at words 0) (word_at words 1) (word_at words 2) (word_at words 3)
 four words read = three words (λ a b c. read a b c (word_at (take 5 words) 3)) ∙ ap (read (word_at words 0) (word_at words 1) (word_at words 2)) (same_word words 3 (lit< tt))
 
@@ -46,4 +46,4 @@ pub first_six : (begun : Bool) (words : List (List ℕ)) → line_of begun (take
 first_six begun [] = refl
 first_six begun (first ∷ words) =
     let same : (λ w. behind w (take 5 words)) ≡ (λ w. behind w words) = λ i w. at_most_five w words i in
-    ap (λ (read : Keyword → Result Line Cause). if eqb (slice_index first 0) 35 then Ok line.Nothing else (keyword_of first >>= λ k. in_place begun k >>= read)) same
+    ap (λ (read : Keyword → Result Line LineFault). if eqb (slice_index first 0) 35 then Ok line.Nothing else (keyword_of first >>= λ k. in_place begun k >>= read)) same

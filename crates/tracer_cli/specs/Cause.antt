@@ -1,9 +1,15 @@
--- The causes of a refusal: their names, and the cause that a roster's fault is told as.
+-- The causes of a refusal: their names, and the cause that a fault of a line or of a roster is told as.
 use Rattle.std.specs.Prelude.{ℕ, List, codes}
 use Rattle.stop_board.specs.declared.roster.RosterError.{RosterError}
 use Rattle.stop_board.specs.declared.roster.RosterError.TheVariants as fault
 use Rattle.tracer_cli.specs.declared.cause.Cause.{Cause}
 use Rattle.tracer_cli.specs.declared.cause.Cause.TheVariants as cause
+use Rattle.tracer_cli.specs.declared.cause.LineFault.{LineFault}
+use Rattle.tracer_cli.specs.declared.cause.LineFault.TheVariants as line_fault
+
+abbrev pub line_cause : LineFault → Cause
+line_cause line_fault.UnknownWord = cause.UnknownWord
+line_cause line_fault.BadNumber = cause.BadNumber
 
 abbrev pub cause_of : RosterError → Cause
 cause_of fault.TooMany = cause.TooMany

@@ -2,15 +2,16 @@
 use Rattle.std.specs.Prelude.{◌≡◌, ◌+◌, ◌<◌, ◌≤◌, ◌++◌, ◌∷◌, [], ℕ, Bool, max, nat_le, nat_lt, List, length, Option, Some, None, Result, Ok, Err, IfErr, IsOk, if◌then◌else◌}
 use Rattle.stop_board.specs.declared.roster.Row.{Row}
 use Rattle.stop_board.specs.declared.roster.RosterError.{RosterError}
-use Rattle.stop_board.specs.Roster.{fault_after, row_of}
+use Rattle.stop_board.specs.Roster.{fault_after, most_rows, row_of}
 use Rattle.tracer_cli.specs.declared.cause.Cause.{Cause}
 use Rattle.tracer_cli.specs.declared.cause.Cause.TheVariants.{NoMemory, NoSuchTracee, TooMany}
 use Rattle.tracer_cli.specs.declared.cause.CaseError.{CaseError}
+use Rattle.tracer_cli.specs.declared.cause.LineFault.{LineFault}
 use Rattle.tracer_cli.specs.declared.command.Command.{Command}
 use Rattle.tracer_cli.specs.declared.order.Order.{Order}
 use Rattle.tracer_cli.specs.declared.grammar.Line.{Line}
 use Rattle.tracer_cli.specs.declared.grammar.Line.TheVariants as line
-use Rattle.tracer_cli.specs.Cause.{cause_of}
+use Rattle.tracer_cli.specs.Cause.{cause_of, line_cause}
 use Rattle.tracer_cli.specs.Grammar.{◌>>=◌, line_of}
 use Rattle.tracer_cli.specs.Lines.{lines_of, words_of}
 
@@ -26,7 +27,7 @@ nothing = record { rows = []; orders = [] }
 abbrev pub has_begun : Content → Bool
 has_begun so_far = nat_lt 0 (length so_far.orders)
 
--- the most rows, and the most bytes
+-- the most bytes
 abbrev pub most_bytes : ℕ
 most_bytes = 16777216
 
@@ -39,7 +40,7 @@ with_order so_far row command = record { rows = so_far.rows; orders = so_far.ord
 -- a row that has no fault behind those before it, where there is room
 abbrev pub row_added : Content → Row → Option RosterError → Result Content Cause
 row_added so_far row (Some fault) = Err (cause_of fault)
-row_added so_far row None = if nat_lt (length so_far.rows) 64 then Ok (with_row so_far row) else Err TooMany
+row_added so_far row None = if nat_lt (length so_far.rows) most_rows then Ok (with_row so_far row) else Err TooMany
 
 -- a command to a row that is there
 abbrev pub order_added : Content → Command → Option ℕ → Result Content Cause
@@ -51,9 +52,14 @@ line_added so_far line.Nothing = Ok so_far
 line_added so_far (line.Row row) = row_added so_far row (fault_after so_far.rows row)
 line_added so_far (line.Command tid command) = order_added so_far command (row_of so_far.rows tid)
 
+-- what the words of a line say, or its first fault as a cause
+abbrev pub with_cause : {A : Type 0} → Result A LineFault → Result A Cause
+with_cause (Ok said) = Ok said
+with_cause (Err fault) = Err (line_cause fault)
+
 -- what one more line makes of the content so far, or its first fault
 abbrev pub line_read : Content → List ℕ → Result Content Cause
-line_read so_far line = line_of (has_begun so_far) (words_of line) >>= line_added so_far
+line_read so_far line = with_cause (line_of (has_begun so_far) (words_of line)) >>= line_added so_far
 
 -- lines count from n
 abbrev pub at_line : {A : Type 0} → ℕ → Result A Cause → Result A CaseError

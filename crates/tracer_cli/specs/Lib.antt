@@ -1,3 +1,4 @@
+pub mod Arguments
 pub mod CaseError
 pub mod Cause
 pub mod Command
@@ -9,4 +10,5 @@ pub mod Numbers
 pub mod OneThread
 pub mod Replay
 pub mod Replies
+pub mod Run
 pub mod Spelling

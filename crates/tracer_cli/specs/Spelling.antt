@@ -1,6 +1,6 @@
 -- A content as a file: one line for each row, then one for each order. Numbers are decimal, one space stands between
 -- words, and a line feed ends each line.
-use Rattle.std.specs.Prelude.{◌≡◌, ◌<◌, ◌≤◌, ◌++◌, ◌∷◌, [], ℕ, false, List, length, codes, decimal}
+use Rattle.std.specs.Prelude.{◌≡◌, ◌<◌, ◌≤◌, ◌++◌, ◌∷◌, [], ℕ, false, IsTrue, List, length, codes, decimal}
 use Rattle.std.specs.List.{All, join_with_byte}
 use Rattle.trace_record.specs.declared.stop.Stop.{Stop}
 use Rattle.trace_record.specs.declared.stop.Stop.TheVariants as stop
@@ -9,7 +9,8 @@ use Rattle.trace_record.specs.declared.resume.Kind.TheVariants as kind
 use Rattle.trace_record.specs.declared.death.Death.{Death}
 use Rattle.trace_record.specs.declared.death.Death.TheVariants as death
 use Rattle.stop_board.specs.declared.roster.Row.{Row}
-use Rattle.stop_board.specs.Roster.{IsRoster, row_at}
+use Rattle.stop_board.specs.Roster.{IsRoster, is_id, row_at}
+use Rattle.stop_board.specs.Sequential.{most_tracers}
 use Rattle.tracer_cli.specs.declared.command.Command.{Command}
 use Rattle.tracer_cli.specs.declared.command.Command.TheVariants as command
 use Rattle.tracer_cli.specs.declared.order.Order.{Order}
@@ -70,19 +71,15 @@ spelling content = rows_text content.rows ++ orders_text content.rows content.or
 
 -- ---- what can be spelled
 
--- the id of a tracee
-abbrev pub IsId : ℕ → Type 0
-IsId number = (1 ≤ number) × (number ≤ 4194303)
-
 -- the ranges of a stop that a file can write, beside those of IsStop
 abbrev pub IsSpelledStop : Stop → Type 0
 IsSpelledStop stop.Start = Unit {0}
 IsSpelledStop stop.Enter = Unit {0}
 IsSpelledStop stop.Exit = Unit {0}
 IsSpelledStop (stop.Seccomp ret_data) = ret_data < 65536
-IsSpelledStop (stop.Fork child) = IsId child
-IsSpelledStop (stop.Clone child) = IsId child
-IsSpelledStop (stop.Exec former) = IsId former
+IsSpelledStop (stop.Fork child) = IsTrue (is_id child)
+IsSpelledStop (stop.Clone child) = IsTrue (is_id child)
+IsSpelledStop (stop.Exec former) = IsTrue (is_id former)
 IsSpelledStop (stop.Signal signal) = Unit {0}
 
 abbrev pub IsSpelledDeath : Death → Type 0
@@ -92,8 +89,8 @@ IsSpelledDeath (death.Signaled signal core) = core ≡ false
 -- the ranges of a command that a file can write, beside those of IsCommand
 abbrev pub IsSpelled : Command → Type 0
 IsSpelled (command.Publish stop) = IsSpelledStop stop
-IsSpelled (command.Claim tracer) = tracer ≤ 15
-IsSpelled (command.Resume tracer how) = tracer ≤ 15
+IsSpelled (command.Claim tracer) = tracer < most_tracers
+IsSpelled (command.Resume tracer how) = tracer < most_tracers
 IsSpelled (command.Exit death) = IsSpelledDeath death
 IsSpelled command.State = Unit {0}
 

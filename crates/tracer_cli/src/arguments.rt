@@ -1,8 +1,13 @@
 //! The command line.
 
+ghost use Rattle.std.specs.Prelude.{◌≡◌, ℕ, List, codes, map, IfErr, IfOk, option_and_then, option_map};
+ghost use Rattle.clap.specs.Words.{app_of, first_of, kind_of, subcommand_rows_of};
+ghost use Rattle.tracer_cli.specs.Arguments.{AsksForInput, replay_words, tracer_app};
+ghost use Rattle.tracer_cli.specs.Run.{IsWordsFailure};
+
 use crate::failure::Failure;
 use clap::error::ErrorKind;
-use clap::{Arg, ArgAction, Command, Error};
+use clap::{Arg, ArgAction, ArgMatches, Command, Error};
 use std::alloc::{AllocError, Global};
 
 /// What the command line asks for.
@@ -15,21 +20,34 @@ pub enum Request<'a> {
 }
 
 /// What the words ask for, the program's name first.
-pub fn read_arguments<'a>(alloc: Global, words: &'a [&'a str]) -> Result<Request<'a>, Failure> {
+pub fn read_arguments<'a>(alloc: Global, words: &'a [&'a str]) -> Result<Request<'a>, Failure>
+    ensures failure { IfErr result IsWordsFailure }
+    ensures input { (name : List ℕ) → map (λ word. word.now) words.now ≡ replay_words name → AsksForInput result }
+{
     let command = tracer(alloc)?;
-    let matches = match command.try_get_matches_from(words) {
-        Ok(matches) => matches,
-        Err(error) => return without_matches(alloc, &error),
-    };
-    let file = match matches.subcommand() {
+    match command.try_get_matches_from(words) {
+        Ok(matches) => Ok(Request::Replay {
+            file: file_in(&matches),
+        }),
+        Err(error) => without_matches(alloc, &error),
+    }
+}
+
+/// The file that the words name.
+fn file_in<'a>(matches: &ArgMatches<'a>) -> Option<&'a str>
+    ensures { option_map (λ file. file.now) result ≡ option_and_then (λ found. first_of (codes "FILE") found.1) (subcommand_rows_of matches.now) }
+{
+    match matches.subcommand() {
         Some((_, replay)) => replay.get_str("FILE"),
         None => None,
-    };
-    Ok(Request::Replay { file })
+    }
 }
 
 /// Help was asked for, or the words are wrong.
-fn without_matches<'a>(alloc: Global, error: &Error) -> Result<Request<'a>, Failure> {
+fn without_matches<'a>(alloc: Global, error: &Error) -> Result<Request<'a>, Failure>
+    ensures failure { IfErr result IsWordsFailure }
+    ensures memory { kind_of error.now ≡ ErrorKind.OutOfMemory → result ≡ Err Failure.NoMemory }
+{
     if error.kind() == ErrorKind::OutOfMemory {
         return Err(Failure::NoMemory);
     }
@@ -41,21 +59,17 @@ fn without_matches<'a>(alloc: Global, error: &Error) -> Result<Request<'a>, Fail
     }
 }
 
-fn tracer<'a>(alloc: Global) -> Result<Command<'a>, AllocError> {
+fn tracer<'a>(alloc: Global) -> Result<Command<'a>, AllocError>
+    ensures { IfOk result (λ command. app_of command ≡ tracer_app) }
+{
+    let file = Arg::new(alloc, "FILE")
+        .action(ArgAction::Set)
+        .help("The file to read; standard input if there is none");
+    let replay = Command::new(alloc, "replay")
+        .about("Prints the stop board's reply to each command of a replay file")
+        .arg(file)?;
     Command::new(alloc, "tracer")
         .about("Replays the stops of traced threads on a one-thread stop board")
         .subcommand_required(true)
-        .subcommand(replay(alloc)?)
-}
-
-fn replay<'a>(alloc: Global) -> Result<Command<'a>, AllocError> {
-    Command::new(alloc, "replay")
-        .about("Prints the stop board's reply to each command of a replay file")
-        .arg(file(alloc))
-}
-
-fn file<'a>(alloc: Global) -> Arg<'a> {
-    Arg::new(alloc, "FILE")
-        .action(ArgAction::Set)
-        .help("The file to read; standard input if there is none")
+        .subcommand(replay)
 }

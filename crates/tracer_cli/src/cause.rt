@@ -37,6 +37,28 @@ pub enum Cause {
     NoMemory,
 }
 
+/// What can be wrong with a line by its words alone, whatever stands before it.
+#[derive(Clone, Copy, Debug, PartialEq, Eq)]
+pub enum LineFault {
+    /// `Cause::UnknownWord`.
+    UnknownWord,
+    /// `Cause::BadNumber`.
+    BadNumber,
+}
+
+impl From<LineFault> for Cause {
+    ghost use Rattle.tracer_cli.specs.Cause.{line_cause};
+
+    ghost from_gives = { λ fault e. e ≡ line_cause fault };
+
+    fn from(fault: LineFault) -> Cause {
+        match fault {
+            LineFault::UnknownWord => Cause::UnknownWord,
+            LineFault::BadNumber => Cause::BadNumber,
+        }
+    }
+}
+
 impl Cause {
     ghost use Rattle.tracer_cli.specs.Cause.{cause_name};
 

@@ -1,9 +1,15 @@
 //! The program: from words and streams to an exit status.
 
+ghost use Rattle.std.specs.Prelude.{◌≡◌, ◌≤◌, ◌⊎◌, ℕ, List, IfErr, IfOk, IfSome, OnOk, map, string_bytes};
+ghost use Rattle.std.specs.Io.KnownBytes.{Appends};
+ghost use Rattle.tracer_cli.specs.Arguments.{replay_words};
+ghost use Rattle.tracer_cli.specs.Run.{Answers, Ends, IsReadFailure, IsReadOf, IsUnwritten, Replays};
+
 use crate::arguments::{Request, read_arguments};
 use crate::failure::{Failure, read_failure};
 use crate::reading::MOST_BYTES;
 use crate::replay::replay_text;
+use std::alloc::{AllocError, Global};
 use std::fs;
 use std::io::{Read, Write};
 use std::rt::Files;
@@ -17,13 +23,17 @@ pub fn program<H: Files + AllocGlobal, R: Read, W: Write, E: Write>(
     input: &mut R,
     output: &mut W,
     errors: &mut E,
-) -> u8 {
+) -> u8
+    ensures status { result ≤ 3 }
+    ensures unwritten { (result ≡ 1) ⊎ (result ≡ 2) → output.new ≡ output.old }
+
+    // The words of a replay of standard input, where what it has is known.
+    ensures replay { (name : List ℕ) → map string_bytes words.now ≡ replay_words name →
+        IfSome (R.remaining input.old) (λ text. Ends text (W.contents output.old) (W.contents output.new) result) }
+{
     match run(rt, words, input, output) {
         Ok(()) => 0,
-        Err(failure) => {
-            let _ = write!(errors, "{failure}");
-            failure.status()
-        }
+        Err(failure) => failure.tell(errors),
     }
 }
 
@@ -33,17 +43,50 @@ fn run<H: Files + AllocGlobal, R: Read, W: Write>(
     words: &[String],
     input: &mut R,
     output: &mut W,
-) -> Result<(), Failure> {
+) -> Result<(), Failure>
+    ensures unwritten { IsUnwritten output.old output.new result }
+    ensures replay { (name : List ℕ) → map string_bytes words.now ≡ replay_words name →
+        IfSome (R.remaining input.old) (λ text. Replays text (W.contents output.old) (W.contents output.new) result) }
+{
     let alloc = rt.alloc();
-    let words: Vec<&str> = words.iter().map(|word| word.as_str()).collect(alloc)?;
-    match read_arguments(alloc, words.as_slice())? {
+    let words = texts_of(alloc, words)?;
+    let request = read_arguments(alloc, words.as_slice())?;
+    answer(rt, &request, input, output)
+}
+
+/// The words as slices.
+fn texts_of<'a>(alloc: Global, words: &'a [String]) -> Result<Vec<&'a str>, AllocError>
+    ensures { IfOk result (λ texts. map (λ text. text.now) texts.items ≡ map string_bytes words.now) }
+{
+    words.iter().map(|word| word.as_str()).collect(alloc)
+}
+
+/// Does what the command line asks for.
+fn answer<H: Files + AllocGlobal, R: Read, W: Write>(
+    rt: &H,
+    request: &Request,
+    input: &mut R,
+    output: &mut W,
+) -> Result<(), Failure>
+    ensures answer { Answers request.now (R.remaining input.old) (W.contents output.old) (W.contents output.new) result }
+    ensures unwritten { IsUnwritten output.old output.new result }
+{
+    match request {
         Request::Help(text) => write_all(output, text.as_bytes()),
         Request::Replay { file } => {
-            let text = read_file(rt, file, input)?;
-            let replies = replay_text(alloc, text.as_slice())?;
-            write_all(output, replies.as_slice())
+            let text = read_file(rt, *file, input)?;
+            replay(rt.alloc(), text.as_slice(), output)
         }
     }
+}
+
+/// Prints the replies to the commands of a file.
+fn replay<W: Write>(alloc: Global, text: &[u8], output: &mut W) -> Result<(), Failure>
+    ensures replies { Replays text.now (W.contents output.old) (W.contents output.new) result }
+    ensures unwritten { IsUnwritten output.old output.new result }
+{
+    let replies = replay_text(alloc, text)?;
+    write_all(output, replies.as_slice())
 }
 
 /// The bytes of a file, or of standard input where none is named; one more than a file may have at most.
@@ -51,7 +94,10 @@ fn read_file<H: Files + AllocGlobal, R: Read>(
     rt: &H,
     file: Option<&str>,
     input: &mut R,
-) -> Result<Vec<u8>, Failure> {
+) -> Result<Vec<u8>, Failure>
+    ensures input { file.entry ≡ None → IfOk result (λ bytes. IsReadOf (R.remaining input.old) bytes.items) }
+    ensures failure { IfErr result IsReadFailure }
+{
     match file {
         None => read_all(rt, input),
         Some(path) => match fs::open(rt, path) {
@@ -61,16 +107,22 @@ fn read_file<H: Files + AllocGlobal, R: Read>(
     }
 }
 
-fn read_all<H: AllocGlobal, R: Read>(rt: &H, input: &mut R) -> Result<Vec<u8>, Failure> {
+fn read_all<H: AllocGlobal, R: Read>(rt: &H, input: &mut R) -> Result<Vec<u8>, Failure>
+    ensures read { IfOk result (λ bytes. IsReadOf (R.remaining input.old) bytes.items) }
+    ensures failure { IfErr result IsReadFailure }
+{
     let most = MOST_BYTES + 1;
     let mut bytes = Vec::with_capacity(rt.alloc(), most)?;
-    match input.by_ref().take(most as u64).read_to_end(&mut bytes) {
+    match input.take(most as u64).read_to_end(&mut bytes) {
         Ok(_) => Ok(bytes),
         Err(error) => Err(read_failure(&error)),
     }
 }
 
-fn write_all<W: Write>(output: &mut W, bytes: &[u8]) -> Result<(), Failure> {
+fn write_all<W: Write>(output: &mut W, bytes: &[u8]) -> Result<(), Failure>
+    ensures ok { OnOk result (Appends (W.contents output.old) (W.contents output.new) bytes.now) }
+    ensures err { IfErr result (λ failure. failure ≡ Failure.CannotWrite) }
+{
     match output.write_all(bytes) {
         Ok(()) => Ok(()),
         Err(_) => Err(Failure::CannotWrite),

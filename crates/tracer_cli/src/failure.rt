@@ -1,11 +1,13 @@
 //! How a run of the program ends otherwise than done.
 
 ghost use Rattle.std.specs.Prelude.{◌≡◌};
+ghost use Rattle.std.specs.IoError.{error_kind};
+ghost use Rattle.tracer_cli.specs.Failure.{failure_at};
 
 use crate::cause::{CaseError, Cause};
 use std::alloc::{AllocError, AllocFailed};
 use std::fmt;
-use std::io::{self, ErrorKind};
+use std::io::{self, ErrorKind, Write};
 
 /// Why the program did not do what it was asked for.
 #[derive(Debug, Drop)]
@@ -14,6 +16,8 @@ pub enum Failure {
     Refused(CaseError),
     /// The words are no command line, with clap's text.
     Usage(String),
+    /// An argument is no text.
+    NoText,
     /// A growth was refused.
     NoMemory,
     /// The file, or standard input, cannot be read.
@@ -31,9 +35,17 @@ impl Failure {
     {
         match self {
             Failure::Refused(_) => 1,
-            Failure::Usage(_) => 2,
+            Failure::Usage(_) | Failure::NoText => 2,
             Failure::NoMemory | Failure::CannotRead | Failure::CannotWrite => 3,
         }
+    }
+
+    /// Tells the failure on standard error, and answers the exit status. A failed write does not change it.
+    pub fn tell<E: Write>(&self, errors: &mut E) -> u8
+        ensures { result ≡ failure_status self.now }
+    {
+        let _ = write!(errors, "{self}");
+        self.status()
     }
 }
 
@@ -47,6 +59,7 @@ impl fmt::Display for Failure {
         match self {
             Failure::Refused(error) => write!(f, "tracer: {error}\n"),
             Failure::Usage(text) => write!(f, "{text}"),
+            Failure::NoText => write!(f, "tracer: an argument is no text\n"),
             Failure::NoMemory => write!(f, "tracer: no memory\n"),
             Failure::CannotRead => write!(f, "tracer: cannot read\n"),
             Failure::CannotWrite => write!(f, "tracer: cannot write\n"),
@@ -87,8 +100,20 @@ impl From<CaseError> for Failure {
     }
 }
 
+/// Why the arguments cannot be had: there is no memory for them, or one is no text.
+pub fn arguments_failure(error: &io::Error) -> Failure
+    ensures { result ≡ failure_at (error_kind error.now) Failure.NoText }
+{
+    match error.kind() {
+        ErrorKind::OutOfMemory => Failure::NoMemory,
+        _ => Failure::NoText,
+    }
+}
+
 /// Why reading failed.
-pub fn read_failure(error: &io::Error) -> Failure {
+pub fn read_failure(error: &io::Error) -> Failure
+    ensures { result ≡ failure_at (error_kind error.now) Failure.CannotRead }
+{
     match error.kind() {
         ErrorKind::OutOfMemory => Failure::NoMemory,
         _ => Failure::CannotRead,

@@ -1,20 +1,17 @@
 //! What a line of a replay file says, by its words. All words are looked at before any number.
 
-ghost use Rattle.std.specs.Prelude.{◌≡◌, ◌≢◌, ◌≤◌, map, IfErr, IfOk};
+ghost use Rattle.std.specs.Prelude.{◌≡◌, ◌≤◌, map, IfOk};
 ghost use Rattle.trace_record.specs.Death.{IsDeath};
 ghost use Rattle.trace_record.specs.Stop.{IsStop};
 ghost use Rattle.tracer_cli.specs.Lines.{words_of};
-ghost use Rattle.tracer_cli.specs.Grammar.{IsLine, behind, claim_line, death_of, ending_of, exit_line, id_of, in_place, keyword_of, kind_of, line_of, number_between, numbered_stop, plain_stop, publish_line, publish_numbered, publish_plain, resume_line, row_line, state_line, stop_of};
+ghost use Rattle.tracer_cli.specs.Grammar.{IsLine, behind, claim_line, death_of, ending_of, exit_line, id_of, in_place, keyword_of, kind_of, line_of, number_between, numbered_stop, plain_stop, publish_line, publish_numbered, publish_plain, resume_line, row_line, state_line, stop_of, tracer_of};
 
-use crate::cause::Cause;
+use crate::cause::LineFault;
 use crate::command::Command;
 use crate::lines::first_words;
 use crate::numbers::number;
-use stop_board::Row;
+use stop_board::{Row, TRACERS};
 use trace_record::{Death, Kind, Resume, Stop};
-
-/// The greatest id.
-const LAST_ID: u64 = 4_194_303;
 
 /// What a line says.
 #[derive(Clone, Copy, Debug, PartialEq, Eq)]
@@ -56,20 +53,18 @@ pub enum Ending {
 }
 
 /// What a line says, where commands have begun or not, or its first fault.
-pub fn read_line(begun: bool, line: &[u8]) -> Result<Line, Cause>
+pub fn read_line(begun: bool, line: &[u8]) -> Result<Line, LineFault>
     ensures line { result ≡ line_of begun (words_of line.now) }
     ensures range { IfOk result IsLine }
-    ensures told { IfErr result (λ cause. cause ≢ Cause.NoMemory) }
 {
     let (words, count) = first_words(line);
     read_words(begun, &words[..count])
 }
 
 /// What the words of a line say, where commands have begun or not.
-fn read_words(begun: bool, words: &[&[u8]]) -> Result<Line, Cause>
+fn read_words(begun: bool, words: &[&[u8]]) -> Result<Line, LineFault>
     ensures line { result ≡ line_of begun (map (λ w. w.now) words.now) }
     ensures range { IfOk result IsLine }
-    ensures told { IfErr result (λ cause. cause ≢ Cause.NoMemory) }
 {
     match words {
         [] => Ok(Line::Nothing),
@@ -82,67 +77,63 @@ fn read_words(begun: bool, words: &[&[u8]]) -> Result<Line, Cause>
 }
 
 /// Rows stand before the first command.
-fn in_place(begun: bool, keyword: Keyword) -> Result<Keyword, Cause>
-    ensures value { result ≡ in_place begun keyword }
-    ensures told { IfErr result (λ cause. cause ≢ Cause.NoMemory) }
+fn in_place(begun: bool, keyword: Keyword) -> Result<Keyword, LineFault>
+    ensures { result ≡ in_place begun keyword }
 {
     match keyword {
-        Keyword::Row if begun => Err(Cause::UnknownWord),
+        Keyword::Row if begun => Err(LineFault::UnknownWord),
         keyword => Ok(keyword),
     }
 }
 
-fn behind(keyword: Keyword, words: &[&[u8]]) -> Result<Line, Cause>
+fn behind(keyword: Keyword, words: &[&[u8]]) -> Result<Line, LineFault>
     ensures line { result ≡ behind keyword (map (λ w. w.now) words.now) }
     ensures range { IfOk result IsLine }
-    ensures told { IfErr result (λ cause. cause ≢ Cause.NoMemory) }
 {
     match keyword {
         Keyword::Row => match words {
             [tid, tgid, pgid, parent] => row_line(tid, tgid, pgid, parent),
-            _ => Err(Cause::UnknownWord),
+            _ => Err(LineFault::UnknownWord),
         },
         Keyword::Publish => publish_line(words),
         Keyword::Claim => match words {
             [tid, tracer] => claim_line(tid, tracer),
-            _ => Err(Cause::UnknownWord),
+            _ => Err(LineFault::UnknownWord),
         },
         Keyword::Resume => match words {
             [tid, tracer, kind, signal] => resume_line(tid, tracer, kind, signal),
-            _ => Err(Cause::UnknownWord),
+            _ => Err(LineFault::UnknownWord),
         },
         Keyword::Exit => match words {
             [tid, how, number] => exit_line(tid, how, number),
-            _ => Err(Cause::UnknownWord),
+            _ => Err(LineFault::UnknownWord),
         },
         Keyword::State => match words {
             [tid] => state_line(tid),
-            _ => Err(Cause::UnknownWord),
+            _ => Err(LineFault::UnknownWord),
         },
     }
 }
 
-fn publish_line(words: &[&[u8]]) -> Result<Line, Cause>
+fn publish_line(words: &[&[u8]]) -> Result<Line, LineFault>
     ensures line { result ≡ publish_line (map (λ w. w.now) words.now) }
     ensures range { IfOk result IsLine }
-    ensures told { IfErr result (λ cause. cause ≢ Cause.NoMemory) }
 {
     match words {
         [tid, name] => publish_plain(tid, name),
         [tid, name, number] => publish_numbered(tid, name, number),
-        _ => Err(Cause::UnknownWord),
+        _ => Err(LineFault::UnknownWord),
     }
 }
 
-fn row_line(tid: &[u8], tgid: &[u8], pgid: &[u8], parent: &[u8]) -> Result<Line, Cause>
+fn row_line(tid: &[u8], tgid: &[u8], pgid: &[u8], parent: &[u8]) -> Result<Line, LineFault>
     ensures line { result ≡ row_line tid.now tgid.now pgid.now parent.now }
     ensures range { IfOk result IsLine }
-    ensures told { IfErr result (λ cause. cause ≢ Cause.NoMemory) }
 {
     let tid = id(tid)?;
     let tgid = id(tgid)?;
     let pgid = id(pgid)?;
-    let parent = number_between(0, LAST_ID, parent)? as u32;
+    let parent = number_between(0, u64::from(Row::LAST_ID), parent)? as u32;
     Ok(Line::Row(Row {
         tid,
         tgid,
@@ -151,20 +142,18 @@ fn row_line(tid: &[u8], tgid: &[u8], pgid: &[u8], parent: &[u8]) -> Result<Line,
     }))
 }
 
-fn publish_plain(tid: &[u8], name: &[u8]) -> Result<Line, Cause>
+fn publish_plain(tid: &[u8], name: &[u8]) -> Result<Line, LineFault>
     ensures line { result ≡ publish_plain tid.now name.now }
     ensures range { IfOk result IsLine }
-    ensures told { IfErr result (λ cause. cause ≢ Cause.NoMemory) }
 {
     let stop = plain_stop(name)?;
     let tid = id(tid)?;
     Ok(Line::Command(tid, Command::Publish(stop)))
 }
 
-fn publish_numbered(tid: &[u8], name: &[u8], number: &[u8]) -> Result<Line, Cause>
+fn publish_numbered(tid: &[u8], name: &[u8], number: &[u8]) -> Result<Line, LineFault>
     ensures line { result ≡ publish_numbered tid.now name.now number.now }
     ensures range { IfOk result IsLine }
-    ensures told { IfErr result (λ cause. cause ≢ Cause.NoMemory) }
 {
     let name = numbered_stop(name)?;
     let tid = id(tid)?;
@@ -172,32 +161,29 @@ fn publish_numbered(tid: &[u8], name: &[u8], number: &[u8]) -> Result<Line, Caus
     Ok(Line::Command(tid, Command::Publish(stop)))
 }
 
-fn claim_line(tid: &[u8], tracer: &[u8]) -> Result<Line, Cause>
+fn claim_line(tid: &[u8], tracer: &[u8]) -> Result<Line, LineFault>
     ensures line { result ≡ claim_line tid.now tracer.now }
     ensures range { IfOk result IsLine }
-    ensures told { IfErr result (λ cause. cause ≢ Cause.NoMemory) }
 {
     let tid = id(tid)?;
-    let tracer = number_between(0, 15, tracer)? as u8;
+    let tracer = tracer_of(tracer)?;
     Ok(Line::Command(tid, Command::Claim(tracer)))
 }
 
-fn resume_line(tid: &[u8], tracer: &[u8], kind: &[u8], signal: &[u8]) -> Result<Line, Cause>
+fn resume_line(tid: &[u8], tracer: &[u8], kind: &[u8], signal: &[u8]) -> Result<Line, LineFault>
     ensures line { result ≡ resume_line tid.now tracer.now kind.now signal.now }
     ensures range { IfOk result IsLine }
-    ensures told { IfErr result (λ cause. cause ≢ Cause.NoMemory) }
 {
     let kind = kind_of(kind)?;
     let tid = id(tid)?;
-    let tracer = number_between(0, 15, tracer)? as u8;
+    let tracer = tracer_of(tracer)?;
     let signal = number_between(0, 64, signal)? as u8;
     Ok(Line::Command(tid, Command::Resume(tracer, Resume { kind, signal })))
 }
 
-fn exit_line(tid: &[u8], how: &[u8], number: &[u8]) -> Result<Line, Cause>
+fn exit_line(tid: &[u8], how: &[u8], number: &[u8]) -> Result<Line, LineFault>
     ensures line { result ≡ exit_line tid.now how.now number.now }
     ensures range { IfOk result IsLine }
-    ensures told { IfErr result (λ cause. cause ≢ Cause.NoMemory) }
 {
     let how = ending_of(how)?;
     let tid = id(tid)?;
@@ -205,19 +191,17 @@ fn exit_line(tid: &[u8], how: &[u8], number: &[u8]) -> Result<Line, Cause>
     Ok(Line::Command(tid, Command::Exit(death)))
 }
 
-fn state_line(tid: &[u8]) -> Result<Line, Cause>
+fn state_line(tid: &[u8]) -> Result<Line, LineFault>
     ensures line { result ≡ state_line tid.now }
     ensures range { IfOk result IsLine }
-    ensures told { IfErr result (λ cause. cause ≢ Cause.NoMemory) }
 {
     let tid = id(tid)?;
     Ok(Line::Command(tid, Command::State))
 }
 
-fn stop_of(name: Numbered, number: &[u8]) -> Result<Stop, Cause>
+fn stop_of(name: Numbered, number: &[u8]) -> Result<Stop, LineFault>
     ensures value { result ≡ stop_of name number.now }
     ensures range { IfOk result IsStop }
-    ensures told { IfErr result (λ cause. cause ≢ Cause.NoMemory) }
 {
     match name {
         Numbered::Seccomp => Ok(Stop::Seccomp(number_between(0, 65535, number)? as u16)),
@@ -228,10 +212,9 @@ fn stop_of(name: Numbered, number: &[u8]) -> Result<Stop, Cause>
     }
 }
 
-fn death_of(how: Ending, number: &[u8]) -> Result<Death, Cause>
+fn death_of(how: Ending, number: &[u8]) -> Result<Death, LineFault>
     ensures value { result ≡ death_of how number.now }
     ensures range { IfOk result IsDeath }
-    ensures told { IfErr result (λ cause. cause ≢ Cause.NoMemory) }
 {
     match how {
         Ending::Exited => Ok(Death::Exited(number_between(0, 255, number)? as u8)),
@@ -245,29 +228,33 @@ fn death_of(how: Ending, number: &[u8]) -> Result<Death, Cause>
     }
 }
 
-/// An id, 1 to 4,194,303.
-fn id(word: &[u8]) -> Result<u32, Cause>
-    ensures value { result ≡ id_of word.now }
-    ensures told { IfErr result (λ cause. cause ≢ Cause.NoMemory) }
+/// An id.
+fn id(word: &[u8]) -> Result<u32, LineFault>
+    ensures { result ≡ id_of word.now }
 {
-    Ok(number_between(1, LAST_ID, word)? as u32)
+    Ok(number_between(1, u64::from(Row::LAST_ID), word)? as u32)
+}
+
+/// The number of one of the board's tracers.
+fn tracer_of(word: &[u8]) -> Result<u8, LineFault>
+    ensures { result ≡ tracer_of word.now }
+{
+    Ok(number_between(0, u64::from(TRACERS) - 1, word)? as u8)
 }
 
 /// A number from `low` to `high`.
-fn number_between(low: u64, high: u64, word: &[u8]) -> Result<u64, Cause>
+fn number_between(low: u64, high: u64, word: &[u8]) -> Result<u64, LineFault>
     ensures number { result ≡ number_between low high word.now }
     ensures range { IfOk result (λ n. (low ≤ n) × (n ≤ high)) }
-    ensures told { IfErr result (λ cause. cause ≢ Cause.NoMemory) }
 {
     match number(word) {
         Some(n) if low <= n && n <= high => Ok(n),
-        _ => Err(Cause::BadNumber),
+        _ => Err(LineFault::BadNumber),
     }
 }
 
-fn keyword_of(word: &[u8]) -> Result<Keyword, Cause>
-    ensures value { result ≡ keyword_of word.now }
-    ensures told { IfErr result (λ cause. cause ≢ Cause.NoMemory) }
+fn keyword_of(word: &[u8]) -> Result<Keyword, LineFault>
+    ensures { result ≡ keyword_of word.now }
 {
     if word == b"row".as_slice() {
         Ok(Keyword::Row)
@@ -282,14 +269,13 @@ fn keyword_of(word: &[u8]) -> Result<Keyword, Cause>
     } else if word == b"state".as_slice() {
         Ok(Keyword::State)
     } else {
-        Err(Cause::UnknownWord)
+        Err(LineFault::UnknownWord)
     }
 }
 
-fn plain_stop(word: &[u8]) -> Result<Stop, Cause>
+fn plain_stop(word: &[u8]) -> Result<Stop, LineFault>
     ensures value { result ≡ plain_stop word.now }
     ensures range { IfOk result IsStop }
-    ensures told { IfErr result (λ cause. cause ≢ Cause.NoMemory) }
 {
     if word == b"start".as_slice() {
         Ok(Stop::Start)
@@ -298,13 +284,12 @@ fn plain_stop(word: &[u8]) -> Result<Stop, Cause>
     } else if word == b"exit".as_slice() {
         Ok(Stop::Exit)
     } else {
-        Err(Cause::UnknownWord)
+        Err(LineFault::UnknownWord)
     }
 }
 
-fn numbered_stop(word: &[u8]) -> Result<Numbered, Cause>
-    ensures value { result ≡ numbered_stop word.now }
-    ensures told { IfErr result (λ cause. cause ≢ Cause.NoMemory) }
+fn numbered_stop(word: &[u8]) -> Result<Numbered, LineFault>
+    ensures { result ≡ numbered_stop word.now }
 {
     if word == b"seccomp".as_slice() {
         Ok(Numbered::Seccomp)
@@ -317,32 +302,30 @@ fn numbered_stop(word: &[u8]) -> Result<Numbered, Cause>
     } else if word == b"signal".as_slice() {
         Ok(Numbered::Signal)
     } else {
-        Err(Cause::UnknownWord)
+        Err(LineFault::UnknownWord)
     }
 }
 
-fn kind_of(word: &[u8]) -> Result<Kind, Cause>
-    ensures value { result ≡ kind_of word.now }
-    ensures told { IfErr result (λ cause. cause ≢ Cause.NoMemory) }
+fn kind_of(word: &[u8]) -> Result<Kind, LineFault>
+    ensures { result ≡ kind_of word.now }
 {
     if word == b"syscall".as_slice() {
         Ok(Kind::Syscall)
     } else if word == b"cont".as_slice() {
         Ok(Kind::Cont)
     } else {
-        Err(Cause::UnknownWord)
+        Err(LineFault::UnknownWord)
     }
 }
 
-fn ending_of(word: &[u8]) -> Result<Ending, Cause>
-    ensures value { result ≡ ending_of word.now }
-    ensures told { IfErr result (λ cause. cause ≢ Cause.NoMemory) }
+fn ending_of(word: &[u8]) -> Result<Ending, LineFault>
+    ensures { result ≡ ending_of word.now }
 {
     if word == b"exited".as_slice() {
         Ok(Ending::Exited)
     } else if word == b"killed".as_slice() {
         Ok(Ending::Killed)
     } else {
-        Err(Cause::UnknownWord)
+        Err(LineFault::UnknownWord)
     }
 }

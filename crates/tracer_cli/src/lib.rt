@@ -18,5 +18,6 @@ mod replies;
 
 pub use cause::{CaseError, Cause};
 pub use entry::program;
+pub use failure::{Failure, arguments_failure};
 pub use laws::what_is_spelled_is_read;
 pub use replay::replay_text;

@@ -100,6 +100,17 @@ left_behind rows h taken up (event.Claim row number tracer) fits =
 left_behind rows h taken up (event.Resume row number how tracer) fits = refl
 left_behind rows h taken up (event.Exit row death) fits = refl
 
+-- an event leaves in its row the word that it makes of the row's word, and in every other row the word as it was
+pub own_word : (rows : List Row) (h : History) (taken : ℕ → Bool) → ((row : ℕ) → taken row ≡ true → state_after rows h row ≡ state.Running) → (e : Event) → Fits rows h e
+    → word_after (taken_with (Happened e) taken) (e ∷ h) (subject e) ≡ word_behind (word_after taken h (subject e)) e
+own_word rows h taken up e fits =
+    ap (word_in (taken_with (Happened e) taken (subject e))) (own_events (subject e) e h refl)
+    ∙ ap (λ b. word_in b (e ∷ events_of (subject e) h)) (lowered rows h taken up e fits) ∙ sym (left_behind rows h taken up e fits)
+
+pub other_word : (taken : ℕ → Bool) (h : History) (e : Event) (row : ℕ) → row ≢ subject e → word_after (taken_with (Happened e) taken) (e ∷ h) row ≡ word_after taken h row
+other_word taken h e row apart =
+    ap (λ b. word_in b (events_of row (e ∷ h))) (kept taken e row apart) ∙ ap (word_in (taken row)) (other_events row e h (λ same. apart (sym same)))
+
 -- ---- the three changes
 
 taken_stands : (rows : List Row) (words : List Word) (taken : ℕ → Bool) (h : History) → AreAt rows words taken h → length words ≡ length rows

@@ -4,20 +4,23 @@ use crate::refused::Refused;
 use crate::word::Word;
 use trace_record::{Death, Resume, Stop};
 
-/// One atomic step on a stop cell.
+/// One atomic step on a stop cell. Each is refused as `NoRow` to the wrong kind of actor, and where the row is out of
+/// range; the other refusals stand here in the order of their tests.
 #[derive(Clone, Copy, Debug, PartialEq, Eq, Hash)]
 pub enum Action {
     /// Reads a row's word. Everybody may look.
     Look(u32),
-    /// A tracee takes its row up: it takes its restart, and runs.
+    /// A tracee takes its row up: it takes its restart, and runs. Refused: `Unborn`, `NotRunning` (also where it has
+    /// taken it up already).
     TakeUp,
-    /// A tracee publishes its next stop.
+    /// A tracee publishes its next stop. Refused: `Unborn`, `NotRunning`, `NotTaken`, `NotNext`, `Full`.
     Publish(Stop),
-    /// A tracer claims a row's stop or its death, if the row's word is still the one that it last saw there.
+    /// A tracer claims a row's stop or its death, if the row's word is still the one that it last saw there. Refused:
+    /// `Unborn`, `NotWaitable` (by the word last seen).
     Claim(u32),
-    /// A tracer resumes a row that it has claimed.
+    /// A tracer resumes a row that it has claimed. Refused: `Unborn`, `NotClaimed`, `NotHolder`.
     Resume(u32, Resume),
-    /// A tracee exits.
+    /// A tracee exits. Refused: `Unborn`, `NotRunning`, `NotTaken`, `GroupAlive`.
     Exit(Death),
 }
 

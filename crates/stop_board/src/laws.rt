@@ -1,13 +1,14 @@
 //! Laws of the definitions: each function is its contract alone.
 
-ghost use Rattle.std.specs.Prelude.{◌≡◌, ◌⊎◌, ◌<◌, ◌≤◌, ◌++◌, [], ℕ, Bool, true, false, List, Option, Some, length, count_by, nat_lt};
+ghost use Rattle.std.specs.Prelude.{◌≡◌, ◌≢◌, ◌∷◌, ◌⊎◌, ◌<◌, ◌≤◌, ◌++◌, [], ℕ, Bool, true, false, List, Option, Some, length, count_by, nat_lt};
 ghost use Rattle.std.specs.List.{range_with_len};
 ghost use Rattle.stop_board.specs.declared.roster.Row.{Row};
 ghost use Rattle.stop_board.specs.declared.actor.Actor.{Actor};
 ghost use Rattle.stop_board.specs.declared.actor.Actor.TheVariants as actor;
 ghost use Rattle.stop_board.specs.declared.phase.Phase.TheVariants as phase;
+ghost use Rattle.stop_board.specs.declared.state.State.TheVariants as state;
 ghost use Rattle.stop_board.specs.Actor.{IsQuiet, actor_of, is_moved_by, mover_of};
-ghost use Rattle.stop_board.specs.Change.{Change, IsAllowed, history_with, taken_with, words_with};
+ghost use Rattle.stop_board.specs.Change.{Change, Happened, IsAllowed, history_with, taken_with, word_behind, words_with};
 ghost use Rattle.stop_board.specs.Event.{Event, History, events_of, subject};
 ghost use Rattle.stop_board.specs.Roster.{IsPlaced, IsRoster, parent_of, rank_of};
 ghost use Rattle.stop_board.specs.State.{is_born, is_waitable, state_after};
@@ -80,6 +81,14 @@ pub fn a_waiting_row_is_as_it_was_or_was_claimed()
 pub fn words_are_in_range()
     ensures { (rows : List Row) (h : History) → IsRoster rows → IsLegal rows h → AreEvents h →
         (taken : ℕ → Bool) (row : ℕ) → row < length rows → IsWord (word_after taken h row) }
+{}
+
+/// An event makes of its row's word what its kind makes of it, and leaves every other row's word as it was.
+pub fn an_event_changes_its_row_alone()
+    ensures own { (rows : List Row) (h : History) (taken : ℕ → Bool) → ((row : ℕ) → taken row ≡ true → state_after rows h row ≡ state.Running) →
+        (e : Event) → Fits rows h e → word_after (taken_with (Happened e) taken) (e ∷ h) (subject e) ≡ word_behind (word_after taken h (subject e)) e }
+    ensures other { (taken : ℕ → Bool) (h : History) (e : Event) (row : ℕ) → row ≢ subject e →
+        word_after (taken_with (Happened e) taken) (e ∷ h) row ≡ word_after taken h row }
 {}
 
 /// One atomic step on words that stand at a history: where the history allows the change, each row's word is the one

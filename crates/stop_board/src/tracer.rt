@@ -64,11 +64,20 @@ fn claim_seen(rows: &[Row], words: &mut [Word], seen: &[Word], row: u32, tracer:
         return Reply::Refused(Refused::Unborn);
     }
     let now = words[at];
-    let reply = exchange(seen[tracer as usize * rows.len() + at], now);
+    let reply = exchange(seen[seen_place(rows, tracer, row)], now);
     if let Reply::Got(_) = reply {
         words[at] = claimed(now, tracer as u8);
     }
     reply
+}
+
+/// Where the word stands that a tracer last saw in a row: tracer by tracer, and row by row.
+pub(crate) fn seen_place(rows: &[Row], tracer: u32, row: u32) -> usize
+    requires few { length rows.now ≤ 64 }
+    requires tracer { tracer < most_tracers }
+    ensures { result ≡ seen_place rows.now tracer row }
+{
+    tracer as usize * rows.len() + row as usize
 }
 
 /// What a claim that expects the word last seen says where it finds another one, or the same.

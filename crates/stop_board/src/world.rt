@@ -18,7 +18,7 @@ use crate::roster::{Roster, Row};
 use crate::state::State;
 use crate::steps::state_of;
 use crate::tracee::tracee_step;
-use crate::tracer::{row_seen, tracer_step};
+use crate::tracer::{row_seen, seen_place, tracer_step};
 use crate::word::Word;
 use std::alloc::{Allocator, Global};
 use std::marker::Model;
@@ -86,7 +86,9 @@ impl<A: Allocator> World<A> {
         state_of(self.rows.as_slice(), self.words.as_slice(), row)
     }
 
-    /// One atomic step of an actor.
+    /// One atomic step of an actor, by its number. Refusals are those of `Action`; `NoRow` too where no actor has the
+    /// number. What is refused, looked at or missed changes no word. A tracer has seen the word that it looked at or
+    /// that made it miss, and the one that its own claim or resume put there.
     pub fn step(&mut self, actor: u32, action: Action) -> Reply
         requires { IsAction action }
         ensures reply { (m : Moment) → StandsAt self.old m → Replies self.old.rows self.old.tracers m actor action result }
@@ -113,7 +115,8 @@ impl<A: Allocator> World<A> {
 impl<A: Allocator + Copy> World<A> {
     ghost use Rattle.stop_board.specs.World.{AreReplies, Moment, StandsAt, moment_behind};
 
-    /// The replies to turns of actors, in order. A refused run has done nothing.
+    /// The replies to turns of actors, in order. Room for them is made first, so a run that is refused for want of
+    /// memory has done nothing.
     pub fn run(&mut self, turns: &[(u32, Action)]) -> Result<Vec<Reply, A>, NoMemory>
         requires { All (λ turn. IsAction turn.1) turns.now }
         ensures replies { (m : Moment) → StandsAt self.old m →
@@ -188,6 +191,6 @@ fn note(rows: &[Row], words: &[Word], seen: &mut [Word], tracer: u32, row: Optio
     ensures { seen.new ≡ words_seen rows.now (word_at words.now) tracer row seen.old }
 {
     if let Some(row) = row {
-        seen[tracer as usize * rows.len() + row as usize] = words[row as usize];
+        seen[seen_place(rows, tracer, row)] = words[row as usize];
     }
 }

@@ -27,9 +27,10 @@ const KIND_BITS: u32 = 1;
 const SIGNAL_BITS: u32 = 7;
 
 impl Word {
-    /// The 64 bits of the word.
+    /// The 64 bits of the word, which is in range.
     pub fn pack(self) -> u64
-        ensures { result ≡ raw_of self }
+        ensures bits { result ≡ raw_of self }
+        ensures range { IsWord self }
     {
         let parts = Parts::of(self.phase);
         let raw = u64::from(parts.tracer);

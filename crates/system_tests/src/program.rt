@@ -155,10 +155,7 @@ fn want_of_memory_is_told_apart_from_a_failed_read(rt: HostRuntime) -> Result<()
     let ended = run_with(&rt, &["replay"], &mut Exhausted)?;
     assert_eq!(rt; ended.status, 3);
     assert_eq!(rt; ended.output.as_slice(), [].as_slice());
-    assert_eq!(rt;
-        ended.errors.as_slice(),
-        b"tracer: no memory\n".as_slice()
-    );
+    assert_eq!(rt; ended.errors.as_slice(), b"tracer: no memory\n".as_slice());
     Ok(())
 }
 

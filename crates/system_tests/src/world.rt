@@ -63,10 +63,22 @@ fn a_claim_of_a_word_that_has_changed_misses(rt: HostRuntime) -> Result<(), Fail
         (2, Action::Look(0), Reply::Word(STOPPED)),
         (2, Action::Claim(0), Reply::Got(STOPPED)),
         (1, Action::Claim(0), Reply::Missed(CLAIMED)),
-        (1, Action::Resume(0, SYSCALL), Reply::Refused(Refused::NotHolder)),
+        (
+            1,
+            Action::Resume(0, SYSCALL),
+            Reply::Refused(Refused::NotHolder),
+        ),
         (2, Action::Resume(0, SYSCALL), Reply::Done),
-        (1, Action::Resume(0, SYSCALL), Reply::Refused(Refused::NotClaimed)),
-        (0, Action::Publish(Stop::Enter), Reply::Refused(Refused::NotTaken)),
+        (
+            1,
+            Action::Resume(0, SYSCALL),
+            Reply::Refused(Refused::NotClaimed),
+        ),
+        (
+            0,
+            Action::Publish(Stop::Enter),
+            Reply::Refused(Refused::NotTaken),
+        ),
     ];
     for (actor, action, reply) in table {
         assert_eq!(rt; world.step(actor, action), reply);

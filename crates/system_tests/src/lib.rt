@@ -17,4 +17,6 @@ mod roster;
 #[cfg(test)]
 mod word;
 #[cfg(test)]
+mod words;
+#[cfg(test)]
 mod world;

@@ -1,17 +1,11 @@
 //! The packed word, by values worked out by hand from its table of bits.
 
+use crate::words::{dead, stopped_at_start};
 use std::test::Fail;
 use stop_board::{Phase, Word};
 use trace_record::{Kind, Resume};
 
-/// Stopped at number 1, by the first stop of a tracee.
-const STOPPED: Word = Word {
-    phase: Phase::Stopped { status: 0x80057f },
-    births: 0,
-    number: 1,
-};
-
-/// That stop, claimed by tracer 2.
+/// Stop 1, claimed by tracer 2.
 const CLAIMED: Word = Word {
     phase: Phase::Claimed { tracer: 2 },
     births: 0,
@@ -28,13 +22,6 @@ const RESUMED: Word = Word {
     number: 4,
 };
 
-/// Dead by exit code 3 behind stop 2, having borne one child.
-const DEAD: Word = Word {
-    phase: Phase::Dead { status: 0x300 },
-    births: 1,
-    number: 2,
-};
-
 /// The word with every field of its state at the greatest value.
 const GREATEST: Word = Word {
     phase: Phase::Claimed { tracer: 15 },
@@ -45,10 +32,10 @@ const GREATEST: Word = Word {
 #[test]
 fn a_word_has_the_bits_of_its_table(rt: HostRuntime) -> Result<(), Fail> {
     let table = [
-        (STOPPED, 0x0001000a00000203u64),
+        (stopped_at_start(), 0x0001000a00000203u64),
         (CLAIMED, 0x0400000000000204),
         (RESUMED, 0x003e000000000801),
-        (DEAD, 0x000006000000040d),
+        (dead(), 0x000006000000040d),
         (GREATEST, 0x1e000001fffffffc),
     ];
     for (word, raw) in table {

@@ -1,5 +1,6 @@
 //! The interleaving model, on runs worked out by hand.
 
+use crate::words::{stopped_at_fork, stopped_at_start};
 use std::test::Fail;
 use stop_board::{Action, Phase, Refused, Reply, Roster, Row, State, Word, World};
 use trace_record::{Death, Kind, Resume, Stop};
@@ -30,19 +31,14 @@ const CONT: Resume = Resume {
     signal: 0,
 };
 
-/// The row of the tracee at its first stop: 0x0001000a00000203.
-const STOPPED: Word = Word {
-    phase: Phase::Stopped { status: 0x80057f },
-    births: 0,
-    number: 1,
-};
-
-/// That stop, claimed by tracer 1: 0x0200000000000204.
+/// Stop 1, claimed by tracer 1: 0x0200000000000204.
 const CLAIMED: Word = Word {
     phase: Phase::Claimed { tracer: 1 },
     births: 0,
     number: 1,
 };
+
+const NO_ROW: Reply = Reply::Refused(Refused::NoRow);
 
 const OPENING: Word = Word {
     phase: Phase::Fresh,
@@ -54,14 +50,15 @@ const OPENING: Word = Word {
 fn a_claim_of_a_word_that_has_changed_misses(rt: HostRuntime) -> Result<(), Fail> {
     let roster = Roster::new(rt.alloc(), &[ROOT])?;
     let mut world = World::new(rt.alloc(), &roster, 2)?;
-    assert_eq!(rt; STOPPED.pack(), 0x0001000a00000203);
+    let stopped = stopped_at_start();
+    assert_eq!(rt; stopped.pack(), 0x0001000a00000203);
     assert_eq!(rt; CLAIMED.pack(), 0x0200000000000204);
     let table = [
         (0u32, Action::TakeUp, Reply::Took(CONT)),
         (0, Action::Publish(Stop::Start), Reply::Number(1)),
-        (1, Action::Look(0), Reply::Word(STOPPED)),
-        (2, Action::Look(0), Reply::Word(STOPPED)),
-        (2, Action::Claim(0), Reply::Got(STOPPED)),
+        (1, Action::Look(0), Reply::Word(stopped)),
+        (2, Action::Look(0), Reply::Word(stopped)),
+        (2, Action::Claim(0), Reply::Got(stopped)),
         (1, Action::Claim(0), Reply::Missed(CLAIMED)),
         (
             1,
@@ -92,16 +89,17 @@ fn a_claim_of_a_word_that_has_changed_misses(rt: HostRuntime) -> Result<(), Fail
 fn what_a_tracer_saw_decides_its_claim(rt: HostRuntime) -> Result<(), Fail> {
     let roster = Roster::new(rt.alloc(), &[ROOT, CHILD])?;
     let mut world = World::new(rt.alloc(), &roster, 2)?;
+    let stopped = stopped_at_start();
     let table = [
         // A claim before any look compares with the opening word, which has nothing to claim.
         (0u32, Action::TakeUp, Reply::Took(CONT)),
         (0, Action::Publish(Stop::Start), Reply::Number(1)),
         (2, Action::Claim(0), Reply::Refused(Refused::NotWaitable)),
         // A look at one row is no look at another, and none of another tracer.
-        (2, Action::Look(0), Reply::Word(STOPPED)),
+        (2, Action::Look(0), Reply::Word(stopped)),
         (2, Action::Claim(1), Reply::Refused(Refused::Unborn)),
         (3, Action::Claim(0), Reply::Refused(Refused::NotWaitable)),
-        (2, Action::Claim(0), Reply::Got(STOPPED)),
+        (2, Action::Claim(0), Reply::Got(stopped)),
         // The word last seen is now the claimed one, and after the resume the resumed one.
         (2, Action::Claim(0), Reply::Refused(Refused::NotWaitable)),
         (2, Action::Resume(0, SYSCALL), Reply::Done),
@@ -122,20 +120,19 @@ fn what_a_tracer_saw_decides_its_claim(rt: HostRuntime) -> Result<(), Fail> {
 fn an_action_of_another_kind_of_actor_finds_no_row(rt: HostRuntime) -> Result<(), Fail> {
     let roster = Roster::new(rt.alloc(), &[ROOT])?;
     let mut world = World::new(rt.alloc(), &roster, 2)?;
-    let none = Reply::Refused(Refused::NoRow);
     let table = [
         (0u32, Action::Look(0), Reply::Word(OPENING)),
-        (0, Action::Look(1), none),
-        (1, Action::Look(1), none),
-        (3, Action::Look(0), none),
-        (u32::MAX, Action::TakeUp, none),
-        (0, Action::Claim(0), none),
-        (0, Action::Resume(0, SYSCALL), none),
-        (1, Action::TakeUp, none),
-        (1, Action::Publish(Stop::Start), none),
-        (1, Action::Exit(Death::Exited(0)), none),
-        (1, Action::Claim(1), none),
-        (1, Action::Resume(1, SYSCALL), none),
+        (0, Action::Look(1), NO_ROW),
+        (1, Action::Look(1), NO_ROW),
+        (3, Action::Look(0), NO_ROW),
+        (u32::MAX, Action::TakeUp, NO_ROW),
+        (0, Action::Claim(0), NO_ROW),
+        (0, Action::Resume(0, SYSCALL), NO_ROW),
+        (1, Action::TakeUp, NO_ROW),
+        (1, Action::Publish(Stop::Start), NO_ROW),
+        (1, Action::Exit(Death::Exited(0)), NO_ROW),
+        (1, Action::Claim(1), NO_ROW),
+        (1, Action::Resume(1, SYSCALL), NO_ROW),
     ];
     for (actor, action, reply) in table {
         assert_eq!(rt; world.step(actor, action), reply);
@@ -147,11 +144,7 @@ fn an_action_of_another_kind_of_actor_finds_no_row(rt: HostRuntime) -> Result<()
 fn a_run_answers_each_turn_in_order(rt: HostRuntime) -> Result<(), Fail> {
     let roster = Roster::new(rt.alloc(), &[ROOT, CHILD])?;
     let mut world = World::new(rt.alloc(), &roster, 1)?;
-    let forked = Word {
-        phase: Phase::Stopped { status: 0x01057f },
-        births: 1,
-        number: 1,
-    };
+    let forked = stopped_at_fork();
     let replies = world.run(&[
         (1, Action::TakeUp),
         (0, Action::TakeUp),

@@ -93,10 +93,12 @@ untouched rows actors (e ∷ more) front legal quiet row moved =
       | inr other ↦ other_events row e (more ++ front) other ∙ before
     ]
 
--- and so its word is as it was
+-- and so its word is as it was, as long as it is taken up or not as it was
 pub stays : (rows : List Row) (actors : Actor → Bool) (more front : History) → IsLegal rows (more ++ front) → IsQuiet actors more
-    → (row : ℕ) → is_moved_by actors (mover_of row (phase_in (events_of row front))) ≡ true → (taken : ℕ → Bool) → word_after taken (more ++ front) row ≡ word_after taken front row
-stays rows actors more front legal quiet row moved taken = ap (word_in (taken row)) (untouched rows actors more front legal quiet row moved)
+    → (row : ℕ) → is_moved_by actors (mover_of row (phase_in (events_of row front))) ≡ true
+    → (taken next : ℕ → Bool) → next row ≡ taken row → word_after next (more ++ front) row ≡ word_after taken front row
+stays rows actors more front legal quiet row moved taken next same =
+    ap (λ b. word_in b (events_of row (more ++ front))) same ∙ ap (word_in (taken row)) (untouched rows actors more front legal quiet row moved)
 
 -- ---- a claim that a silent tracer holds was there before
 

@@ -6,7 +6,7 @@ use Rattle.std.proofs.lemmas.List.Sums.{count_by_more_yes, sum_by-take-le}
 use Rattle.stop_board.specs.declared.roster.Row.{Row}
 use Rattle.stop_board.specs.declared.roster.RosterError.{RosterError}
 use Rattle.stop_board.specs.declared.roster.RosterError.TheVariants as fault
-use Rattle.stop_board.specs.Roster.{IsChild, IsPlaced, is_id, IsRoster, fault_after, family_fault, first_fault, has_ids, is_child_of, is_leader, is_root, most_rows, nobody, or_later, parent_in, parent_of, rank_of, row_at, row_of, with_tid}
+use Rattle.stop_board.specs.Roster.{IsChild, IsPlaced, is_id, IsRoster, fault_after, family_fault, first_fault, has_ids, last_id, is_child_of, is_leader, is_root, most_rows, nobody, or_later, parent_in, parent_of, rank_of, row_at, row_of, with_tid}
 use Rattle.stop_board.proofs.Places.{fails_each, first_place, found_in_front}
 
 -- of two faults, the first that there is
@@ -122,15 +122,15 @@ same_rank rows i j within_i within_j parents ranks =
 
 -- ---- the facts of the law on placed rows
 
-pub tid_in_range : (rows : List Row) → IsRoster rows → (row : ℕ) → row < length rows → (1 ≤ (row_at rows row).tid) × ((row_at rows row).tid ≤ 4194303)
+pub tid_in_range : (rows : List Row) → IsRoster rows → (row : ℕ) → row < length rows → (1 ≤ (row_at rows row).tid) × ((row_at rows row).tid ≤ last_id)
 tid_in_range rows roster row within =
     let it : Row = row_at rows row in
     let ids = (fits rows roster row within).ids in
     let three = (and_parts (is_id it.tid && is_id it.tgid && is_id it.pgid) (is_root it || is_id it.parent) ids).0 in
     let two = (and_parts (is_id it.tid && is_id it.tgid) (is_id it.pgid) three).0 in
     let one = (and_parts (is_id it.tid) (is_id it.tgid) two).0 in
-    let ends = and_parts (nat_le 1 it.tid) (nat_le it.tid 4194303) one in
-    (leb-true 1 it.tid ends.0, leb-true it.tid 4194303 ends.1)
+    let ends = and_parts (nat_le 1 it.tid) (nat_le it.tid last_id) one in
+    (leb-true 1 it.tid ends.0, leb-true it.tid last_id ends.1)
 
 -- a row that is no root has a parent
 pub has_parent : (rows : List Row) → IsRoster rows → (row : ℕ) → row < length rows → is_root (row_at rows row) ≡ false → (parent : ℕ) × (parent_of rows row ≡ Some parent)

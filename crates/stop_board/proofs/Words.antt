@@ -15,8 +15,7 @@ use Rattle.trace_record.specs.Stop.{IsStop, stop_status, stop_wait_status}
 use Rattle.trace_record.specs.Death.{IsDeath, death_status, death_wait_status}
 use Rattle.stop_board.specs.declared.phase.Phase.{Phase}
 use Rattle.stop_board.specs.declared.phase.Phase.TheVariants as phase
-use Rattle.stop_board.specs.declared.parts.Parts.{Parts}
-use Rattle.stop_board.specs.Layout.{kind_number, parts_of, raw_of}
+use Rattle.stop_board.specs.Layout.{Kept, births_bits, kept_of, kind_bits, kind_number, number_bits, raw_of, signal_bits, state_bits, status_bits}
 use Rattle.stop_board.specs.Word.{IsPhase, IsWord, Tells, Word, tells_death, tells_stop}
 
 -- each stop's status tells a stop
@@ -48,7 +47,7 @@ few_codes ptrace_event.Seccomp = omega arith
 few_codes ptrace_event.Stop = omega arith
 
 -- a stop's status is kept without its low byte
-stop_kept : (raw : ℕ) → Tells tells_stop raw → (raw / 0x100 * 0x100 + 0x7f ≡ raw) × (raw / 0x100 < 2 ^ 16)
+stop_kept : (raw : ℕ) → Tells tells_stop raw → (raw / 0x100 * 0x100 + 0x7f ≡ raw) × (raw / 0x100 < 2 ^ status_bits)
 stop_kept raw (status.Stopped pid signal, of, is, tells) = let value = is.1 in let range = is.0 in (omega arith, omega arith)
 stop_kept raw (status.PtraceEvent pid signal number, of, is, tells) =
     let value = is.2 in
@@ -59,7 +58,7 @@ stop_kept raw (status.Exited pid code, of, is, tells) = cc
 stop_kept raw (status.Signaled pid signal core, of, is, tells) = cc
 stop_kept raw (status.StillAlive, of, is, tells) = cc
 
-death_small : (raw : ℕ) → Tells tells_death raw → raw < 2 ^ 16
+death_small : (raw : ℕ) → Tells tells_death raw → raw < 2 ^ status_bits
 death_small raw (status.Exited pid code, of, is, tells) = let value = is.1 in let range = is.0 in omega arith
 death_small raw (status.Signaled pid signal true, of, is, tells) = let value : raw ≡ signal + 0x80 = is.1 in let range = is.0.1 in omega arith
 death_small raw (status.Signaled pid signal false, of, is, tells) = let value : raw ≡ signal + 0 = is.1 in let range = is.0.1 in omega arith
@@ -68,28 +67,28 @@ death_small raw (status.PtraceEvent pid signal number, of, is, tells) = cc
 death_small raw (status.PtraceSyscall pid, of, is, tells) = cc
 death_small raw (status.StillAlive, of, is, tells) = cc
 
--- each part fits its field
-record FitFields (p : Parts) : Type 0 where
-  state : p.state < 2 ^ 3
-  status : p.status < 2 ^ 16
-  kind : p.kind < 2 ^ 1
-  signal : p.signal < 2 ^ 7
+-- each value fits its field
+record FitFields (p : Kept) : Type 0 where
+  state : p.state < 2 ^ state_bits
+  status : p.status < 2 ^ status_bits
+  kind : p.kind < 2 ^ kind_bits
+  signal : p.signal < 2 ^ signal_bits
 
 kind_small : (k : Kind) → kind_number k < 2
 kind_small kind.Syscall = omega arith
 kind_small kind.Cont = omega arith
 
-parts_fit : (p : Phase) → IsPhase p → FitFields (parts_of p)
-parts_fit phase.Fresh is = record { state = omega arith; status = omega arith; kind = omega arith; signal = omega arith }
-parts_fit (phase.Resumed how) is = record { state = omega arith; status = omega arith; kind = kind_small how.kind; signal = omega arith }
-parts_fit phase.Active is = record { state = omega arith; status = omega arith; kind = omega arith; signal = omega arith }
-parts_fit (phase.Stopped raw) is = record { state = omega arith; status = (stop_kept raw is).1; kind = omega arith; signal = omega arith }
-parts_fit (phase.Claimed tracer) is = record { state = omega arith; status = omega arith; kind = omega arith; signal = omega arith }
-parts_fit (phase.Dead raw) is = record { state = omega arith; status = death_small raw is; kind = omega arith; signal = omega arith }
-parts_fit phase.Reaped is = record { state = omega arith; status = omega arith; kind = omega arith; signal = omega arith }
+kept_fits : (p : Phase) → IsPhase p → FitFields (kept_of p)
+kept_fits phase.Fresh is = record { state = omega arith; status = omega arith; kind = omega arith; signal = omega arith }
+kept_fits (phase.Resumed how) is = record { state = omega arith; status = omega arith; kind = kind_small how.kind; signal = omega arith }
+kept_fits phase.Active is = record { state = omega arith; status = omega arith; kind = omega arith; signal = omega arith }
+kept_fits (phase.Stopped raw) is = record { state = omega arith; status = (stop_kept raw is).1; kind = omega arith; signal = omega arith }
+kept_fits (phase.Claimed tracer) is = record { state = omega arith; status = omega arith; kind = omega arith; signal = omega arith }
+kept_fits (phase.Dead raw) is = record { state = omega arith; status = death_small raw is; kind = omega arith; signal = omega arith }
+kept_fits phase.Reaped is = record { state = omega arith; status = omega arith; kind = omega arith; signal = omega arith }
 
--- the phase that has these parts
-abbrev phase_at : Parts → Option Phase
+-- the phase of which this is kept
+abbrev phase_at : Kept → Option Phase
 phase_at p =
     if p.state == 0 then Some phase.Fresh
     else if p.state == 1 then Some (phase.Resumed (record { kind = if p.kind == 0 then kind.Syscall else kind.Cont; signal = p.signal }))
@@ -103,7 +102,7 @@ kind_back : (k : Kind) → (if kind_number k == 0 then kind.Syscall else kind.Co
 kind_back kind.Syscall = refl
 kind_back kind.Cont = refl
 
-phase_back : (p : Phase) → IsPhase p → phase_at (parts_of p) ≡ Some p
+phase_back : (p : Phase) → IsPhase p → phase_at (kept_of p) ≡ Some p
 phase_back phase.Fresh is = refl
 phase_back (phase.Resumed how) is = ap (λ k. Some (phase.Resumed (record { kind = k; signal = how.signal }))) (kind_back how.kind)
 phase_back phase.Active is = refl
@@ -112,25 +111,25 @@ phase_back (phase.Claimed tracer) is = refl
 phase_back (phase.Dead raw) is = refl
 phase_back phase.Reaped is = refl
 
--- phases of one parts are one
-same_phase : (v w : Phase) → IsPhase v → IsPhase w → parts_of v ≡ parts_of w → v ≡ w
+-- phases of which the same is kept are one
+same_phase : (v w : Phase) → IsPhase v → IsPhase w → kept_of v ≡ kept_of w → v ≡ w
 same_phase v w is_v is_w same = let e : Some v ≡ Some w = sym (phase_back v is_v) ∙ ap phase_at same ∙ phase_back w is_w in cc
 
 -- words of one raw value are one
 pub same_word : (v w : Word) → IsWord v → IsWord w → raw_of v ≡ raw_of w → v ≡ w
 same_word v w is_v is_w same =
-    let fit_v = parts_fit v.phase is_v.of_phase in
-    let fit_w = parts_fit w.phase is_w.of_phase in
-    let few_v : v.births < 2 ^ 6 = is_v.few in
-    let few_w : w.births < 2 ^ 6 = is_w.few in
-    let last_v : v.number < 2 ^ 24 = (let most = is_v.last in omega arith) in
-    let last_w : w.number < 2 ^ 24 = (let most = is_w.last in omega arith) in
-    let state = same_from_place _ _ _ _ (2 ^ 3) fit_v.state fit_w.state same in
-    let births = same_from_place _ _ _ _ (2 ^ 6) few_v few_w state.0 in
-    let number = same_from_place _ _ _ _ (2 ^ 24) last_v last_w births.0 in
-    let status = same_from_place _ _ _ _ (2 ^ 16) fit_v.status fit_w.status number.0 in
-    let kind = same_from_place _ _ _ _ (2 ^ 1) fit_v.kind fit_w.kind status.0 in
-    let signal = same_from_place _ _ _ _ (2 ^ 7) fit_v.signal fit_w.signal kind.0 in
-    let tracer : (parts_of v.phase).tracer ≡ (parts_of w.phase).tracer = (let last = signal.0 in omega arith) in
+    let fit_v = kept_fits v.phase is_v.of_phase in
+    let fit_w = kept_fits w.phase is_w.of_phase in
+    let few_v : v.births < 2 ^ births_bits = is_v.few in
+    let few_w : w.births < 2 ^ births_bits = is_w.few in
+    let last_v : v.number < 2 ^ number_bits = (let most = is_v.last in omega arith) in
+    let last_w : w.number < 2 ^ number_bits = (let most = is_w.last in omega arith) in
+    let state = same_from_place _ _ _ _ (2 ^ state_bits) fit_v.state fit_w.state same in
+    let births = same_from_place _ _ _ _ (2 ^ births_bits) few_v few_w state.0 in
+    let number = same_from_place _ _ _ _ (2 ^ number_bits) last_v last_w births.0 in
+    let status = same_from_place _ _ _ _ (2 ^ status_bits) fit_v.status fit_w.status number.0 in
+    let kind = same_from_place _ _ _ _ (2 ^ kind_bits) fit_v.kind fit_w.kind status.0 in
+    let signal = same_from_place _ _ _ _ (2 ^ signal_bits) fit_v.signal fit_w.signal kind.0 in
+    let tracer : (kept_of v.phase).tracer ≡ (kept_of w.phase).tracer = (let last = signal.0 in omega arith) in
     let phases = same_phase v.phase w.phase is_v.of_phase is_w.of_phase (λ i. record { state = state.1 i; status = status.1 i; kind = kind.1 i; signal = signal.1 i; tracer = tracer i }) in
     λ i. record { phase = phases i; births = births.1 i; number = number.1 i }

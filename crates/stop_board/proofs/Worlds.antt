@@ -27,11 +27,11 @@ use Rattle.stop_board.specs.Event as event
 use Rattle.stop_board.specs.Event.{Event, History, events_of, subject}
 use Rattle.stop_board.specs.History.{Fits, IsLegal}
 use Rattle.stop_board.specs.Roster.{IsRoster}
-use Rattle.stop_board.specs.Sequential.{and_then, exit_answer, most_tracers, publish_answer, resume_answer, running_by}
+use Rattle.stop_board.specs.Sequential.{and_then, claim_answer, claim_state, exit_answer, most_tracers, publish_answer, resume_answer, running_by}
 use Rattle.stop_board.specs.Standing.{AreAt}
 use Rattle.stop_board.specs.State.{is_born, is_waitable, number_in, state_after}
 use Rattle.stop_board.specs.Word.{Word, claimed_phase, opening, phase_in, raised, shown, state_by, word_after, word_at, word_in}
-use Rattle.stop_board.specs.World.{ActorReplies, IsActor, Moment, actor_change, is_active, last_seen, seen_by, sight_at, sight_by, words_seen, words_seen_by, seen_with, seen_place}
+use Rattle.stop_board.specs.World.{ActorReplies, IsActor, Moment, Replies, actor_change, is_active, last_seen, seen_by, sight_at, sight_by, words_seen, words_seen_by, seen_with, seen_place}
 use Rattle.stop_board.proofs.AtomicSteps.{change_stands, not_running}
 use Rattle.stop_board.proofs.Events.{other_events}
 use Rattle.stop_board.proofs.Going.{exit_fits, publish_fits, resume_fits}
@@ -169,6 +169,33 @@ claim_allowed rows taken h up row tracer last word is =
       ap is_waitable (now ∙ sym shows) ∙ waits_shown (is_born rows h row) (number_in (events_of row h)) (raised (taken row) (phase_in (events_of row h))) got.waiting,
       ap (λ (w : Word). w.number) got.same,
     )
+
+-- a word that waits shows the same whether its row is born or not
+born_either : (born : Bool) (number : ℕ) (at : Phase) → waits at ≡ true → shown born number at ≡ shown true number at
+born_either born number (phase.Stopped status) waiting = refl
+born_either born number (phase.Dead status) waiting = refl
+born_either born number phase.Fresh waiting = cc
+born_either born number (phase.Resumed how) waiting = cc
+born_either born number phase.Active waiting = cc
+born_either born number (phase.Claimed tracer) waiting = cc
+born_either born number phase.Reaped waiting = cc
+
+-- what a claim got is what one thread alone would be answered
+pub got_is_sequential : (rows : List Row) (tracers : ℕ) (m : Moment) → ((row : ℕ) → m.taken row ≡ true → state_after rows m.history row ≡ state.Running)
+    → (actor tracer row : ℕ) (word : Word) → tracer < most_tracers → numbered_actor (length rows) tracers actor ≡ Some (Tracer tracer)
+    → Replies rows tracers m actor (action.Claim row) (reply.Got word) → claim_answer rows m.history row tracer ≡ claim_state (shown true word.number word.phase)
+got_is_sequential rows tracers m up actor tracer row word few who is =
+    let reply = subst (λ w. ActorReplies rows (sight_at rows m) m.seen w (action.Claim row) (reply.Got word)) who is in
+    let got = has_got (state_after rows m.history row) (m.seen tracer row) (word_after m.taken m.history row) word reply in
+    let within = present rows m.history row got.there in
+    let now = state_within rows m.history row within in
+    let born = is_born rows m.history row in
+    let word_now = word_after m.taken m.history row in
+    let shows : shown born word_now.number word_now.phase ≡ state_after rows m.history row =
+    shows_taken (m.taken row) born (events_of row m.history) (λ is_up. sym now ∙ up row is_up) ∙ sym now in
+    let answered : claim_answer rows m.history row tracer ≡ claim_state (state_after rows m.history row) = rw (lt-ltb _ _ few) refl in
+    answered ∙ ap claim_state (sym shows ∙ born_either born word_now.number word_now.phase got.waiting)
+    ∙ ap (λ (w : Word). claim_state (shown true w.number w.phase)) (sym got.same)
 
 resume_allowed : (rows : List Row) (taken : ℕ → Bool) (h : History) (row tracer : ℕ) (how : Restart) (answer : Result (Unit {0}) Refused)
     → resume_answer rows h row tracer ≡ answer → IsAllowed rows h (tracer_change (word_after taken h) tracer (action.Resume row how) (done answer))

@@ -1,4 +1,4 @@
--- What an actor asks of the cells in one atomic step, and the reply. The replies are the sequential answers and two
+-- What an actor asks of the cells in one atomic step, and the reply (ptrace(2), PTRACE_SYSCALL and PTRACE_CONT; waitid(2)). The replies are the sequential answers and two
 -- more: a row that its tracee has not taken up is refused to publish and to exit, and a claim that finds another word
 -- than the one last seen misses.
 use Rattle.std.specs.Prelude.{◌≡◌, ◌≢◌, ℕ, Bool, true, false, nat_lt, List, length, Option, Some, None, Result, Ok, Err, if◌then◌else◌}
@@ -22,7 +22,8 @@ use Rattle.stop_board.specs.Change.{Change, Happened, Nothing, TakenUp}
 use Rattle.stop_board.specs.Event as event
 use Rattle.stop_board.specs.History.{bears_next, holding_back}
 use Rattle.stop_board.specs.Sequential.{and_then, exit_by, publish_by, resume_by, running_by}
-use Rattle.stop_board.specs.Word.{Word}
+use Rattle.stop_board.specs.State.{is_waitable}
+use Rattle.stop_board.specs.Word.{Word, shown}
 
 -- an action that a caller may ask for: its stop, restart or death is one that there is
 abbrev pub IsAction : Action → Type 0
@@ -82,15 +83,10 @@ TraceeReplies rows sight row (action.Exit death) r =
 TraceeReplies rows sight row (action.Claim other) r = r ≡ reply.Refused refused.NoRow
 TraceeReplies rows sight row (action.Resume other how) r = r ≡ reply.Refused refused.NoRow
 
--- whether a word shows a stop or a death to report (waitid(2))
+-- whether a word of this phase shows a stop or a death to report (waitid(2)), which neither its number nor whether
+-- its row is born decides
 abbrev pub waits : Phase → Bool
-waits (phase.Stopped status) = true
-waits (phase.Dead status) = true
-waits phase.Fresh = false
-waits (phase.Resumed how) = false
-waits phase.Active = false
-waits (phase.Claimed tracer) = false
-waits phase.Reaped = false
+waits at = is_waitable (shown true 0 at)
 
 -- a claim that compares the row's word with the one last seen: got, missed, or nothing to claim in what was seen
 abbrev pub Exchanges : (last now : Word) → Reply → Type 0

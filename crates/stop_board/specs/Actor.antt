@@ -1,4 +1,4 @@
--- Who acts: a row's tracee publishes and exits, a tracer claims and resumes.
+-- Who acts: a row's tracee publishes and exits, a tracer claims (waitid(2)) and resumes (ptrace(2), "Restarting").
 use Rattle.std.specs.Prelude.{◌≡◌, ◌+◌, ◌-◌, ◌∷◌, [], ℕ, Bool, false, nat_lt, Option, Some, None, if◌then◌else◌}
 use Rattle.stop_board.specs.declared.actor.Actor.{Actor}
 use Rattle.stop_board.specs.declared.actor.Actor.TheVariants.{Tracee, Tracer}

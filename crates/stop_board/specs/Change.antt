@@ -1,4 +1,5 @@
--- What one atomic step on the cells changes: nothing, or a tracee takes its row up, or an event happens.
+-- What one atomic step on the cells changes: nothing, or a tracee takes its row up, or an event happens (ptrace(2),
+-- "Stopped states": a tracee runs from its restart to its next stop).
 use Rattle.std.specs.Prelude.{◌≡◌, ◌==◌, ◌&&◌, ◌||◌, ◌∷◌, ℕ, Bool, false, not, List, slice_set}
 use Rattle.stop_board.specs.declared.phase.Phase.TheVariants as phase
 use Rattle.stop_board.specs.declared.roster.Row.{Row}

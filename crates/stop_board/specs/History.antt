@@ -100,10 +100,10 @@ stop_claims_in number (event.Resume row n how tracer ∷ es) = stop_claims_in nu
 stop_claims_in number (event.Exit row death ∷ es) = stop_claims_in number es
 
 -- of a history that has gone on: the row was claimed, and nothing had happened to it before that
-pub record WasClaimed (row : ℕ) (more front : History) : Type 0 where
+pub record WasClaimed (row : ℕ) (more h : History) : Type 0 where
   pub later : History
   pub sooner : History
   pub number : ℕ
   pub tracer : ℕ
   pub is : more ≡ later ++ (event.Claim row number tracer ∷ sooner)
-  pub unchanged : events_of row (sooner ++ front) ≡ events_of row front
+  pub unchanged : events_of row (sooner ++ h) ≡ events_of row h

@@ -4,6 +4,7 @@ pub mod Change
 pub mod Event
 pub mod History
 pub mod Layout
+pub mod Parts
 pub mod Ranges
 pub mod Roster
 pub mod Sequential

@@ -96,7 +96,7 @@ state_by rows words row =
 
 -- ---- the word that a history leaves
 
--- of one row's events, newest first: the phase that they leave where the row is not taken up
+-- what a claim leaves, by the events before it: a stop is claimed, a death is reaped
 abbrev pub claimed_phase : ℕ → List Event → Phase
 claimed_phase tracer [] = phase.Claimed tracer
 claimed_phase tracer (event.Publish row number stop ∷ es) = phase.Claimed tracer
@@ -104,6 +104,7 @@ claimed_phase tracer (event.Claim row number other ∷ es) = phase.Claimed trace
 claimed_phase tracer (event.Resume row number how other ∷ es) = phase.Claimed tracer
 claimed_phase tracer (event.Exit row death ∷ es) = phase.Reaped
 
+-- of one row's events, newest first: the phase that they leave where the row is not taken up
 abbrev pub phase_in : List Event → Phase
 phase_in [] = phase.Fresh
 phase_in (event.Publish row number stop ∷ es) = phase.Stopped (stop_status stop)

@@ -1,4 +1,5 @@
--- The interleaving model: the cells of all rows, and what each tracer last saw in each of them.
+-- The interleaving model: the cells of all rows, and what each tracer last saw in each of them. Several tracers of one
+-- tracee are this project's own: under ptrace(2) a tracee has one, whose threads wait for it by waitid(2).
 use Rattle.std.specs.Prelude.{◌≡◌, ◌+◌, ◌*◌, ◌<◌, ◌≤◌, ◌∷◌, [], ℕ, Bool, true, false, List, length, Option, Some, None, slice_set, if◌then◌else◌, ◌==◌, ◌&&◌}
 use Rattle.stop_board.specs.declared.action.Action.{Action}
 use Rattle.stop_board.specs.declared.action.Reply.{Reply}
@@ -19,14 +20,14 @@ use Rattle.stop_board.specs.State.{state_after}
 use Rattle.stop_board.specs.Word.{Word, opening, state_by, word_after, word_at}
 
 -- what a World holds: its rows and tracers, the word of each row, and the word that each tracer last saw in each row
-pub record Place : Type 0 where
+pub record Contents : Type 0 where
   pub rows : List Row
   pub tracers : ℕ
   pub words : List Word
   pub seen : List Word
 
 -- whatever the history: a word for each row of a roster, and one for each row and each of at most 16 tracers
-pub record IsPlace (rows : List Row) (tracers : ℕ) (words seen : List Word) : Type 0 where
+pub record IsContents (rows : List Row) (tracers : ℕ) (words seen : List Word) : Type 0 where
   pub held : IsHeld rows words
   pub few : tracers ≤ most_tracers
   pub each : length seen ≡ tracers * length rows
@@ -44,10 +45,10 @@ seen_place rows tracer row = tracer * length rows + row
 abbrev pub last_seen : List Row → List Word → (tracer row : ℕ) → Word
 last_seen rows words tracer row = word_at words (seen_place rows tracer row)
 
-abbrev pub HasSeen : Place → ((tracer row : ℕ) → Word) → Type 0
+abbrev pub HasSeen : Contents → ((tracer row : ℕ) → Word) → Type 0
 HasSeen world seen = (tracer row : ℕ) → tracer < world.tracers → row < length world.rows → last_seen world.rows world.seen tracer row ≡ seen tracer row
 
-abbrev pub StandsAt : Place → Moment → Type 0
+abbrev pub StandsAt : Contents → Moment → Type 0
 StandsAt world m = AreAt world.rows world.words m.taken m.history × HasSeen world m.seen
 
 -- before any event: no row is taken up, and nobody has looked

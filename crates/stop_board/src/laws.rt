@@ -3,25 +3,29 @@
 ghost use Rattle.std.specs.Prelude.{◌≡◌, ◌≢◌, ◌∷◌, ◌⊎◌, ◌<◌, ◌≤◌, ◌++◌, [], ℕ, Bool, true, false, List, Option, Some, length, count_by, nat_lt};
 ghost use Rattle.std.specs.List.{range_with_len};
 ghost use Rattle.stop_board.specs.declared.roster.Row.{Row};
+ghost use Rattle.stop_board.specs.declared.action.Action.TheVariants as action;
+ghost use Rattle.stop_board.specs.declared.action.Reply.TheVariants as reply;
 ghost use Rattle.stop_board.specs.declared.actor.Actor.{Actor};
 ghost use Rattle.stop_board.specs.declared.actor.Actor.TheVariants as actor;
 ghost use Rattle.stop_board.specs.declared.phase.Phase.TheVariants as phase;
 ghost use Rattle.stop_board.specs.declared.state.State.TheVariants as state;
-ghost use Rattle.stop_board.specs.Actor.{IsQuiet, actor_of, is_moved_by, mover_of};
+ghost use Rattle.stop_board.specs.Actor.{IsQuiet, actor_of, is_moved_by, mover_of, numbered_actor};
 ghost use Rattle.stop_board.specs.Change.{Change, Happened, IsAllowed, history_with, taken_with, word_behind, words_with};
 ghost use Rattle.stop_board.specs.Event.{Event, History, events_of, subject};
-ghost use Rattle.stop_board.specs.Roster.{IsPlaced, IsRoster, parent_of, rank_of};
+ghost use Rattle.stop_board.specs.Roster.{IsPlaced, IsRoster, most_rows, parent_of, rank_of};
 ghost use Rattle.stop_board.specs.State.{is_born, is_waitable, state_after};
 ghost use Rattle.stop_board.specs.Layout.{raw_of};
 ghost use Rattle.stop_board.specs.Ranges.{AreEvents};
 ghost use Rattle.stop_board.specs.Standing.{AreAt};
-ghost use Rattle.stop_board.specs.Word.{IsWord, Word, phase_in, word_after};
+ghost use Rattle.stop_board.specs.Sequential.{claim_answer, claim_state, most_tracers};
+ghost use Rattle.stop_board.specs.World.{Moment, Replies};
+ghost use Rattle.stop_board.specs.Word.{IsWord, Word, phase_in, shown, word_after};
 ghost use Rattle.stop_board.specs.History.{Fits, IsLegal, IsSettled, IsSilent, WasClaimed, births_after, is_born_child, stop_claims_in};
 
 /// A roster has at most 64 rows. Each of them is found by its tid and stands behind its parent, whose process
 /// group it is in; it leads a thread group or is in its parent's; a root leads one.
 pub fn rows_are_placed()
-    ensures few { (rows : List Row) → IsRoster rows → length rows ≤ 64 }
+    ensures few { (rows : List Row) → IsRoster rows → length rows ≤ most_rows }
     ensures placed { (rows : List Row) → IsRoster rows → (row : ℕ) → row < length rows → IsPlaced rows row }
 {}
 
@@ -49,16 +53,21 @@ pub fn settled_rows_stay_settled()
         (row : ℕ) → IsSettled rows beside h row → IsSettled rows beside (more ++ h) row }
 {}
 
-/// A row that only actors of a set can move has no event of the others, so that its word is as it was. Its tracee
-/// moves it where it is fresh or runs, the tracer that has claimed it where it is claimed.
+/// While the actors of a set make no event, a row that only they can move has none: its word is as it was, where it is
+/// taken up now if it was then. A row is moved by its tracee where it is fresh or runs, and by the tracer that has
+/// claimed it where it is claimed.
 pub fn only_its_mover_moves_a_row()
     ensures moved { (rows : List Row) (h : History) (e : Event) → Fits rows h e → (actor : Actor) →
         mover_of (subject e) (phase_in (events_of (subject e) h)) ≡ Some actor → actor_of e ≡ actor }
     ensures untouched { (rows : List Row) (actors : Actor → Bool) (more h : History) → IsLegal rows (more ++ h) → IsQuiet actors more →
         (row : ℕ) → is_moved_by actors (mover_of row (phase_in (events_of row h))) ≡ true → events_of row (more ++ h) ≡ events_of row h }
+    ensures word { (rows : List Row) (actors : Actor → Bool) (more h : History) → IsLegal rows (more ++ h) → IsQuiet actors more →
+        (row : ℕ) → is_moved_by actors (mover_of row (phase_in (events_of row h))) ≡ true →
+        (taken next : ℕ → Bool) → next row ≡ taken row → word_after next (more ++ h) row ≡ word_after taken h row }
 {}
 
-/// A claim that a tracer holds is as old as the tracer's silence.
+/// A row that a tracer holds was held by it before all that has happened while the tracer made no event, and has had
+/// no event since.
 pub fn a_claim_is_its_tracers()
     ensures { (actors : Actor → Bool) (more h : History) → IsQuiet actors more → (tracer : ℕ) → actors (actor.Tracer tracer) ≡ true →
         (row : ℕ) → phase_in (events_of row (more ++ h)) ≡ phase.Claimed tracer → events_of row (more ++ h) ≡ events_of row h }
@@ -89,6 +98,14 @@ pub fn an_event_changes_its_row_alone()
         (e : Event) → Fits rows h e → word_after (taken_with (Happened e) taken) (e ∷ h) (subject e) ≡ word_behind (word_after taken h (subject e)) e }
     ensures other { (taken : ℕ → Bool) (h : History) (e : Event) (row : ℕ) → row ≢ subject e →
         word_after (taken_with (Happened e) taken) (e ∷ h) row ≡ word_after taken h row }
+{}
+
+/// What a claim got is what one thread alone would be answered: the stop or the death that the word shows.
+pub fn a_claim_gets_the_sequential_answer()
+    ensures { (rows : List Row) (tracers : ℕ) (m : Moment) → ((row : ℕ) → m.taken row ≡ true → state_after rows m.history row ≡ state.Running) →
+        (number tracer row : ℕ) (word : Word) → tracer < most_tracers → numbered_actor (length rows) tracers number ≡ Some (actor.Tracer tracer) →
+        Replies rows tracers m number (action.Claim row) (reply.Got word) →
+        claim_answer rows m.history row tracer ≡ claim_state (shown true word.number word.phase) }
 {}
 
 /// One atomic step on words that stand at a history: where the history allows the change, each row's word is the one

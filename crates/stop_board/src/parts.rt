@@ -22,13 +22,15 @@ pub(crate) struct Parts {
 }
 
 impl Parts {
-    ghost use Rattle.stop_board.specs.Layout.{kind_number, parts_of};
+    ghost use Rattle.stop_board.specs.Layout.{kept_of, kind_number};
+    ghost use Rattle.stop_board.specs.Parts.{kept_in};
+    ghost use Rattle.stop_board.specs.Sequential.{most_tracers};
     ghost use Rattle.stop_board.specs.Word.{IsPhase};
 
     pub(crate) fn of(phase: Phase) -> Parts
         requires { IsPhase phase }
-        ensures parts { result ≡ parts_of phase }
-        ensures ranges { (result.state < 8) × (result.kind < 2) × (result.signal ≤ 64) × (result.tracer < 16) }
+        ensures kept { kept_in result ≡ kept_of phase }
+        ensures ranges { (result.state < 8) × (result.kind < 2) × (result.signal ≤ 64) × (result.tracer < most_tracers) }
     {
         let unused = Parts {
             state: 0,
@@ -67,7 +69,7 @@ impl Parts {
 
     /// The phase of this number, by the fields that it uses.
     pub(crate) fn phase(self) -> Option<Phase>
-        ensures { (phase : Phase) → IsPhase phase → self ≡ parts_of phase → result ≡ Some phase }
+        ensures { (phase : Phase) → IsPhase phase → kept_in self ≡ kept_of phase → result ≡ Some phase }
     {
         match self.state {
             0 => Some(Phase::Fresh),

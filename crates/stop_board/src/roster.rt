@@ -1,7 +1,7 @@
 //! The roster: the rows of all tracees.
 
 ghost use Rattle.std.specs.Prelude.{◌≡◌, ◌<◌, ◌≤◌, ℕ, List, length, IfOk, IfSome, IsOkUnless, slice_get};
-ghost use Rattle.stop_board.specs.Roster.{family_fault, fault_after, has_ids, is_child_of, is_id, is_leader, is_root, parent_in, roster_fault, row_of, with_tid};
+ghost use Rattle.stop_board.specs.Roster.{family_fault, fault_after, has_ids, is_child_of, is_id, is_leader, is_root, most_rows, parent_in, roster_fault, row_of, with_tid};
 
 use std::alloc::{AllocError, Allocator, Global};
 use std::marker::Model;
@@ -155,7 +155,7 @@ fn fault_of(rows: &[Row]) -> Option<RosterError>
 
 /// The fault of a row behind those before it, if it has one. At most 64 rows stand before it.
 pub fn fault_after(before: &[Row], row: Row) -> Option<RosterError>
-    requires { length before.now ≤ 64 }
+    requires { length before.now ≤ most_rows }
     ensures { result ≡ fault_after before.now row }
 {
     let at = before.len() as u32;

@@ -1,10 +1,12 @@
 //! The events of a row, on the words of all rows. Board and model alike are made of these.
 
 ghost use Rattle.std.specs.Prelude.{◌≡◌, ◌+◌, ◌<◌, ◌≤◌, ℕ, true, length, IsSome};
-ghost use Rattle.stop_board.specs.Roster.{IsRoster, most_rows, parent_of, rank_of, row_at, row_of};
+ghost use Rattle.stop_board.specs.Roster.{IsRoster, most_rows, parent_of, rank_of};
 ghost use Rattle.stop_board.specs.History.{bears_next, holding_back, holds_back, is_next_child};
 ghost use Rattle.stop_board.specs.State.{is_alive};
 ghost use Rattle.stop_board.specs.Sequential.{claim_by, claim_state, exit_by, publish_by, resume_by, resume_state, running_by};
+ghost use Rattle.stop_board.specs.Action.{look_reply};
+ghost use Rattle.stop_board.specs.World.{sight_by};
 ghost use Rattle.stop_board.specs.Word.{is_borne_by, state_by, word_at};
 ghost use Rattle.stop_board.specs.Step.{claimed, died, published, restarted, with_word};
 ghost use Rattle.std.specs.Option.{ForSome};
@@ -12,6 +14,7 @@ ghost use Rattle.trace_record.specs.Stop.{IsStop, child_of};
 ghost use Rattle.trace_record.specs.Death.{IsDeath};
 ghost use Rattle.trace_record.specs.Resume.{IsResume};
 
+use crate::action::Reply;
 use crate::board::Got;
 use crate::changes::{claimed, died, published, restarted};
 use crate::phase::Phase;
@@ -115,7 +118,7 @@ fn is_next_child(rows: &[Row], at: usize, births: u8, child: Option<usize>) -> b
 fn holding_back(rows: &[Row], words: &[Word], at: usize) -> Option<u32>
     requires row { at < length rows.now }
     requires words { length words.now ≡ length rows.now }
-    requires few { length rows.now ≤ 64 }
+    requires few { length rows.now ≤ most_rows }
     ensures { result ≡ holding_back rows.now (state_by rows.now words.now) at }
 {
     if !is_leader(rows[at]) {
@@ -134,7 +137,7 @@ fn holds_back(rows: &[Row], words: &[Word], at: usize, other: usize) -> bool
     requires row { at < length rows.now }
     requires other { other < length rows.now }
     requires words { length words.now ≡ length rows.now }
-    requires few { length rows.now ≤ 64 }
+    requires few { length rows.now ≤ most_rows }
     ensures { result ≡ holds_back rows.now (state_by rows.now words.now) at other }
 {
     other != at
@@ -150,6 +153,17 @@ fn is_alive(state: State) -> bool
         state,
         State::Running | State::Stopped(..) | State::Claimed(..)
     )
+}
+
+/// Reads a row's word.
+pub(crate) fn look_at(rows: &[Row], words: &[Word], row: u32) -> Reply
+    requires { length words.now ≡ length rows.now }
+    ensures { result ≡ look_reply rows.now (sight_by rows.now words.now) row }
+{
+    match words.get(row as usize) {
+        Some(word) => Reply::Word(*word),
+        None => Reply::Refused(Refused::NoRow),
+    }
 }
 
 /// Publishes a row's next stop: its number, or why not.

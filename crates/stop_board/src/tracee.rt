@@ -1,7 +1,7 @@
 //! The atomic steps of a tracee on the words of all rows.
 
 ghost use Rattle.std.specs.Prelude.{◌≡◌, ℕ, Result, length};
-ghost use Rattle.stop_board.specs.Action.{IsAction, Sight, TraceeReplies, done, look_reply, numbered, restart_in, taken_by, took, tracee_change};
+ghost use Rattle.stop_board.specs.Action.{IsAction, TraceeReplies, restart_in, taken_by, tracee_change};
 ghost use Rattle.stop_board.specs.Change.{taken_up, words_with};
 ghost use Rattle.stop_board.specs.History.{bears_next, holding_back};
 ghost use Rattle.stop_board.specs.Roster.{IsRoster};
@@ -17,7 +17,7 @@ use crate::changes::taken_up;
 use crate::phase::Phase;
 use crate::refused::Refused;
 use crate::roster::Row;
-use crate::steps::{exit_at, publish_at, running, state_of};
+use crate::steps::{exit_at, look_at, publish_at, running, state_of};
 use crate::word::Word;
 use trace_record::{Death, Kind, Resume, Stop};
 
@@ -44,17 +44,6 @@ pub(crate) fn tracee_step(rows: &[Row], words: &mut [Word], row: u32, action: Ac
             Err(refusal) => Reply::Refused(refusal),
         },
         Action::Claim(_) | Action::Resume(..) => Reply::Refused(Refused::NoRow),
-    }
-}
-
-/// Reads a row's word.
-pub(crate) fn look_at(rows: &[Row], words: &[Word], row: u32) -> Reply
-    requires { length words.now ≡ length rows.now }
-    ensures { result ≡ look_reply rows.now (sight_by rows.now words.now) row }
-{
-    match words.get(row as usize) {
-        Some(word) => Reply::Word(*word),
-        None => Reply::Refused(Refused::NoRow),
     }
 }
 

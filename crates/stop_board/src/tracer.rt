@@ -2,12 +2,13 @@
 
 ghost use Rattle.std.specs.Prelude.{◌≡◌, ◌+◌, ◌*◌, ◌<◌, ◌≤◌, ℕ, length};
 ghost use Rattle.std.specs.Option.{ForSome};
-ghost use Rattle.stop_board.specs.Action.{ClaimReplies, Exchanges, IsAction, TracerReplies, done, row_seen, tracer_change, waits};
+ghost use Rattle.stop_board.specs.Action.{ClaimReplies, Exchanges, IsAction, TracerReplies, row_seen, tracer_change, waits};
 ghost use Rattle.stop_board.specs.declared.action.Action.TheVariants as action;
 ghost use Rattle.stop_board.specs.Change.{words_with};
+ghost use Rattle.stop_board.specs.Roster.{most_rows};
 ghost use Rattle.stop_board.specs.Sequential.{most_tracers};
 ghost use Rattle.stop_board.specs.Word.{state_by, word_at};
-ghost use Rattle.stop_board.specs.World.{last_seen, seen_place, seen_with, sight_by};
+ghost use Rattle.stop_board.specs.World.{last_seen, seen_place, sight_by};
 
 use crate::action::{Action, Reply};
 use crate::changes::claimed;
@@ -15,8 +16,7 @@ use crate::phase::Phase;
 use crate::refused::Refused;
 use crate::roster::Row;
 use crate::state::State;
-use crate::steps::{resume_at, state_of};
-use crate::tracee::look_at;
+use crate::steps::{look_at, resume_at, state_of};
 use crate::word::Word;
 
 /// A step of a tracer, by the words that each tracer last saw in each row.
@@ -28,7 +28,7 @@ pub(crate) fn tracer_step(
     action: Action,
 ) -> Reply
     requires words { length words.old ≡ length rows.now }
-    requires few { length rows.now ≤ 64 }
+    requires few { length rows.now ≤ most_rows }
     requires tracer { tracer < most_tracers }
     requires seen { tracer * length rows.now + length rows.now ≤ length seen.now }
     requires action { IsAction action }
@@ -50,7 +50,7 @@ pub(crate) fn tracer_step(
 /// Claims a row for a tracer, if its word is still the one that the tracer last saw there.
 fn claim_seen(rows: &[Row], words: &mut [Word], seen: &[Word], row: u32, tracer: u32) -> Reply
     requires words { length words.old ≡ length rows.now }
-    requires few { length rows.now ≤ 64 }
+    requires few { length rows.now ≤ most_rows }
     requires tracer { tracer < most_tracers }
     requires seen { tracer * length rows.now + length rows.now ≤ length seen.now }
     ensures reply { ClaimReplies (state_by rows.now words.old row) (last_seen rows.now seen.now tracer row) (word_at words.old row) result }
@@ -73,7 +73,7 @@ fn claim_seen(rows: &[Row], words: &mut [Word], seen: &[Word], row: u32, tracer:
 
 /// Where the word stands that a tracer last saw in a row: tracer by tracer, and row by row.
 pub(crate) fn seen_place(rows: &[Row], tracer: u32, row: u32) -> usize
-    requires few { length rows.now ≤ 64 }
+    requires few { length rows.now ≤ most_rows }
     requires tracer { tracer < most_tracers }
     ensures { result ≡ seen_place rows.now tracer row }
 {

@@ -1,13 +1,13 @@
 //! The interleaving model: the stop cells of all rows under any interleaving of atomic steps.
 
-ghost use Rattle.std.specs.Prelude.{◌≡◌, All, ◌+◌, ◌*◌, ◌<◌, ◌≤◌, ℕ, IfOk, OnErr, Option, length, replicate};
+ghost use Rattle.std.specs.Prelude.{◌≡◌, All, ◌+◌, ◌*◌, ◌<◌, ◌≤◌, ℕ, IfOk, OnErr, Option, length};
 ghost use Rattle.std.specs.Option.{ForSome};
 ghost use Rattle.stop_board.specs.Action.{IsAction, row_seen};
 ghost use Rattle.stop_board.specs.Actor.{numbered_actor};
 ghost use Rattle.stop_board.specs.Change.{words_with};
-ghost use Rattle.stop_board.specs.Roster.{IsRoster};
+ghost use Rattle.stop_board.specs.Roster.{IsRoster, most_rows};
 ghost use Rattle.stop_board.specs.Sequential.{most_tracers};
-ghost use Rattle.stop_board.specs.Word.{opening, word_at};
+ghost use Rattle.stop_board.specs.Word.{word_at};
 ghost use Rattle.stop_board.specs.World.{ActorReplies, IsActor, actor_change, last_seen, sight_by, words_seen, words_seen_by};
 
 use crate::action::{Action, Reply};
@@ -38,13 +38,13 @@ pub struct World<A: Allocator = Global> {
 }
 
 impl<A: Allocator> Model for World<A> {
-    ghost use Rattle.stop_board.specs.World.{IsPlace, Place};
+    ghost use Rattle.stop_board.specs.World.{IsContents, Contents};
 
-    ghost Value = { Place };
+    ghost Value = { Contents };
 
     ghost view = { λ w. record { rows = w.rows.items; tracers = w.tracers; words = w.words.items; seen = w.seen.items } };
 
-    ghost invariant = { λ w. IsPlace w.rows.items w.tracers w.words.items w.seen.items };
+    ghost invariant = { λ w. IsContents w.rows.items w.tracers w.words.items w.seen.items };
 }
 
 impl<A: Allocator + Copy> World<A> {
@@ -139,7 +139,7 @@ impl<A: Allocator + Copy> World<A> {
 
 /// The actor of a number, if there is one.
 fn actor_of(rows: &[Row], tracers: u32, number: u32) -> Option<Actor>
-    requires few { length rows.now ≤ 64 }
+    requires few { length rows.now ≤ most_rows }
     requires tracers { tracers ≤ most_tracers }
     ensures { result ≡ numbered_actor (length rows.now) tracers number }
 {
@@ -184,7 +184,7 @@ fn step_of(
 /// Notes that a tracer has seen the word that a row has now.
 fn note(rows: &[Row], words: &[Word], seen: &mut [Word], tracer: u32, row: Option<u32>)
     requires words { length words.now ≡ length rows.now }
-    requires few { length rows.now ≤ 64 }
+    requires few { length rows.now ≤ most_rows }
     requires tracer { tracer < most_tracers }
     requires row { ForSome row (λ at. at < length rows.now) }
     requires seen { tracer * length rows.now + length rows.now ≤ length seen.old }

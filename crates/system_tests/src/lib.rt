@@ -5,6 +5,8 @@
 #[cfg(test)]
 mod board;
 #[cfg(test)]
+mod expected_words;
+#[cfg(test)]
 mod growth;
 #[cfg(test)]
 mod program;
@@ -16,7 +18,5 @@ mod replay;
 mod roster;
 #[cfg(test)]
 mod word;
-#[cfg(test)]
-mod words;
 #[cfg(test)]
 mod world;

@@ -1,6 +1,6 @@
 //! The packed word, by values worked out by hand from its table of bits.
 
-use crate::words::{dead, stopped_at_start};
+use crate::expected_words::{OPENING, dead, stopped_at_start};
 use std::test::Fail;
 use stop_board::{Phase, Word};
 use trace_record::{Kind, Resume};
@@ -47,13 +47,8 @@ fn a_word_has_the_bits_of_its_table(rt: HostRuntime) -> Result<(), Fail> {
 
 #[test]
 fn the_opening_word_is_zero(rt: HostRuntime) -> Result<(), Fail> {
-    let opening = Word {
-        phase: Phase::Fresh,
-        births: 0,
-        number: 0,
-    };
-    assert_eq!(rt; opening.pack(), 0);
-    assert_eq!(rt; Word::unpack(0), Some(opening));
+    assert_eq!(rt; OPENING.pack(), 0);
+    assert_eq!(rt; Word::unpack(0), Some(OPENING));
     Ok(())
 }
 

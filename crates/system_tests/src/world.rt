@@ -1,6 +1,6 @@
 //! The interleaving model, on runs worked out by hand.
 
-use crate::words::{stopped_at_fork, stopped_at_start};
+use crate::expected_words::{OPENING, dead_before_any_stop, stopped_at_fork, stopped_at_start};
 use std::test::Fail;
 use stop_board::{Action, Phase, Refused, Reply, Roster, Row, State, Word, World};
 use trace_record::{Death, Kind, Resume, Stop};
@@ -39,12 +39,6 @@ const CLAIMED: Word = Word {
 };
 
 const NO_ROW: Reply = Reply::Refused(Refused::NoRow);
-
-const OPENING: Word = Word {
-    phase: Phase::Fresh,
-    births: 0,
-    number: 0,
-};
 
 #[test]
 fn a_claim_of_a_word_that_has_changed_misses(rt: HostRuntime) -> Result<(), Fail> {
@@ -113,6 +107,42 @@ fn what_a_tracer_saw_decides_its_claim(rt: HostRuntime) -> Result<(), Fail> {
         assert_eq!(rt; world.step(actor, action), reply);
     }
     assert_eq!(rt; world.state(0), State::Dead(1, 0x300));
+    Ok(())
+}
+
+#[test]
+fn a_death_is_reaped_once(rt: HostRuntime) -> Result<(), Fail> {
+    let roster = Roster::new(rt.alloc(), &[ROOT])?;
+    let mut world = World::new(rt.alloc(), &roster, 2)?;
+    let dead = dead_before_any_stop();
+    let reaped = Word {
+        phase: Phase::Reaped,
+        births: 0,
+        number: 0,
+    };
+    let table = [
+        (
+            0u32,
+            Action::Exit(Death::Exited(3)),
+            Reply::Refused(Refused::NotTaken),
+        ),
+        (0, Action::TakeUp, Reply::Took(CONT)),
+        (0, Action::Exit(Death::Exited(3)), Reply::Done),
+        (1, Action::Look(0), Reply::Word(dead)),
+        (2, Action::Look(0), Reply::Word(dead)),
+        (1, Action::Claim(0), Reply::Got(dead)),
+        (2, Action::Claim(0), Reply::Missed(reaped)),
+        (2, Action::Claim(0), Reply::Refused(Refused::NotWaitable)),
+        (
+            1,
+            Action::Resume(0, SYSCALL),
+            Reply::Refused(Refused::NotClaimed),
+        ),
+    ];
+    for (actor, action, reply) in table {
+        assert_eq!(rt; world.step(actor, action), reply);
+    }
+    assert_eq!(rt; world.state(0), State::Reaped);
     Ok(())
 }
 

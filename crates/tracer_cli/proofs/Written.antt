@@ -1,7 +1,7 @@
 -- What was written, said in other words.
 use Rattle.std.proofs.Common.{◌≡◌, ◌++◌, ◌∷◌, [], ℕ, List, OnOk, Result, subst, append_assoc, drop, drop-cons, drop_of_length-le, get_or, length, add-one, append-nil, ◌+◌, ◌<◌, ◌≤◌, ap, sym, ◌∙◌}
 use Rattle.stop_board.specs.Event.{History}
-use Rattle.stop_board.specs.World.{Place}
+use Rattle.stop_board.specs.World.{Contents}
 use Rattle.tracer_cli.specs.OneThread.{HasHistory}
 use Rattle.stop_board.specs.declared.roster.Row.{Row}
 use Rattle.tracer_cli.specs.declared.order.Order.{Order}
@@ -11,7 +11,7 @@ pub told : {T E : Type 0} (result : Result T E) (out old said text : List ℕ) �
     → OnOk result (out ≡ old ++ (said ++ 10 ∷ [])) → OnOk result (out ≡ old ++ (text ++ 10 ∷ []))
 told {T} {E} result out old said text same wrote = let P : List ℕ → Type 0 = λ t. OnOk result (out ≡ old ++ (t ++ 10 ∷ [])) in subst P same wrote
 
-pub has_history : (world : Place) (h k : History) → h ≡ k → HasHistory world h → HasHistory world k
+pub has_history : (world : Contents) (h k : History) → h ≡ k → HasHistory world h → HasHistory world k
 has_history world h k same at = (at.0, at.1, at.2 ∙ same)
 
 -- one more reply

@@ -1,18 +1,18 @@
 -- One thread that plays every actor of a World, one call after the other: what it is answered, and where it comes to.
-use Rattle.std.specs.Prelude.{◌≡◌, ℕ, Result, Ok, Err}
+use Rattle.std.specs.Prelude.{◌≡◌, ℕ, true, Result, Ok, Err}
 use Rattle.stop_board.specs.declared.action.Reply.{Reply}
 use Rattle.stop_board.specs.declared.action.Reply.TheVariants as reply
 use Rattle.stop_board.specs.declared.board.Got.{Got}
-use Rattle.stop_board.specs.declared.board.Got.TheVariants as got
 use Rattle.stop_board.specs.declared.phase.Phase.{Phase}
-use Rattle.stop_board.specs.declared.phase.Phase.TheVariants as phase
 use Rattle.stop_board.specs.declared.refused.Refused.{Refused}
 use Rattle.stop_board.specs.declared.refused.Refused.TheVariants as refused
 use Rattle.stop_board.specs.Event.{History}
-use Rattle.stop_board.specs.World.{Moment, Place, StandsAt}
+use Rattle.stop_board.specs.Sequential.{claim_state}
+use Rattle.stop_board.specs.Word.{shown}
+use Rattle.stop_board.specs.World.{Moment, Contents, StandsAt}
 
 -- a World stands at a moment with this history
-abbrev pub HasHistory : Place → History → Type 0
+abbrev pub HasHistory : Contents → History → Type 0
 HasHistory world h = (m : Moment) × StandsAt world m × (m.history ≡ h)
 
 -- the number of a stop that was published, or the refusal; other replies are to other actions
@@ -37,13 +37,7 @@ done_in (reply.Missed word) = Err refused.NotRunning
 
 -- the stop or the death that a claimed word showed
 abbrev pub got_of : ℕ → Phase → Result Got Refused
-got_of number (phase.Stopped status) = Ok (got.Stop number status)
-got_of number (phase.Dead status) = Ok (got.Ended number status)
-got_of number phase.Fresh = Err refused.NotWaitable
-got_of number (phase.Resumed how) = Err refused.NotWaitable
-got_of number phase.Active = Err refused.NotWaitable
-got_of number (phase.Claimed tracer) = Err refused.NotWaitable
-got_of number phase.Reaped = Err refused.NotWaitable
+got_of number at = claim_state (shown true number at)
 
 abbrev pub got_in : Reply → Result Got Refused
 got_in (reply.Got word) = got_of word.number word.phase

@@ -2,7 +2,7 @@
 
 use trace_record::{Death, Resume, Stop};
 
-/// What is asked of the board, of one row.
+/// What is asked of one row.
 #[derive(Clone, Copy, Debug, PartialEq, Eq, Hash)]
 pub enum Command {
     Publish(Stop),

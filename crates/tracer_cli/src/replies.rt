@@ -1,6 +1,6 @@
 //! The replies to the commands of a file, each on a line.
 
-ghost use Rattle.std.specs.Prelude.{◌≡◌, ◌++◌, ◌≤◌, ◌∷◌, [], length, All, IfOk, OnOk, codes, decimal, string_bytes};
+ghost use Rattle.std.specs.Prelude.{◌≡◌, ◌++◌, ◌≤◌, ◌∷◌, [], length, All, OnOk, codes, decimal, string_bytes};
 ghost use Rattle.tracer_cli.specs.Command.{IsOrder};
 ghost use Rattle.tracer_cli.specs.Replies.{done_text, got_text, history_with, published_text, refusal_text, replies, reply_text, state_text};
 ghost use Rattle.stop_board.specs.Roster.{most_rows, row_at};

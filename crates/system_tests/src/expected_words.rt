@@ -2,6 +2,13 @@
 
 use stop_board::{Phase, Word};
 
+/// The word of a row before any event: 0.
+pub(crate) const OPENING: Word = Word {
+    phase: Phase::Fresh,
+    births: 0,
+    number: 0,
+};
+
 /// Stopped at number 1, by the first stop of a tracee: 0x0001000a00000203.
 pub(crate) fn stopped_at_start() -> Word {
     Word {
@@ -26,5 +33,14 @@ pub(crate) fn dead() -> Word {
         phase: Phase::Dead { status: 0x300 },
         births: 1,
         number: 2,
+    }
+}
+
+/// Dead by exit code 3 without any stop.
+pub(crate) fn dead_before_any_stop() -> Word {
+    Word {
+        phase: Phase::Dead { status: 0x300 },
+        births: 0,
+        number: 0,
     }
 }

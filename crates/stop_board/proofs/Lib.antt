@@ -1,17 +1,4 @@
-pub mod AtomicSteps
-pub mod Births
-pub mod Children
-pub mod Claims
-pub mod Events
-pub mod Going
-pub mod LegalWords
-pub mod Longer
-pub mod Places
-pub mod Rosters
-pub mod Runs
-pub mod Search
-pub mod Settled
-pub mod Standing
-pub mod States
-pub mod Words
-pub mod Worlds
+mod OneThread
+mod Runs
+mod Search
+mod Worlds

@@ -1,8 +1,8 @@
 -- Runs of a World: the turns so far and the turns left are one run.
 use Rattle.std.proofs.Common.{refl, ◌≡◌, ◌++◌, ◌∷◌, [], ℕ, List, subst, append_assoc, append-nil, drop, drop-cons, drop_of_length-le, get_or, length, add-one, ◌+◌, ◌<◌, ◌≤◌, ap, sym, ◌∙◌}
-use Rattle.stop_board.specs.declared.action.Action.{Action}
-use Rattle.stop_board.specs.declared.action.Reply.{Reply}
-use Rattle.stop_board.specs.declared.roster.Row.{Row}
+use Rattle.stop_board.specs.declared.world.action.Action.{Action}
+use Rattle.stop_board.specs.declared.world.action.Reply.{Reply}
+use Rattle.stop_history.specs.declared.roster.Row.{Row}
 use Rattle.stop_board.specs.World.{AreReplies, Moment, Replies, moment_after, moment_behind}
 
 -- whatever the turns left reply, these replies and those are the replies of all turns, and come to the same moment

@@ -8,35 +8,36 @@ use Rattle.std.proofs.lemmas.Nat.{row_fits, same_from_place}
 use Rattle.trace_record.specs.declared.stop.Stop.{Stop}
 use Rattle.trace_record.specs.declared.resume.Resume.{Resume as Restart}
 use Rattle.trace_record.specs.declared.death.Death.{Death}
-use Rattle.stop_board.specs.declared.action.Action.{Action}
-use Rattle.stop_board.specs.declared.action.Action.TheVariants as action
-use Rattle.stop_board.specs.declared.action.Reply.{Reply}
-use Rattle.stop_board.specs.declared.action.Reply.TheVariants as reply
-use Rattle.stop_board.specs.declared.actor.Actor.{Actor}
-use Rattle.stop_board.specs.declared.actor.Actor.TheVariants.{Tracee, Tracer}
-use Rattle.stop_board.specs.declared.phase.Phase.{Phase}
-use Rattle.stop_board.specs.declared.phase.Phase.TheVariants as phase
-use Rattle.stop_board.specs.declared.refused.Refused.{Refused}
-use Rattle.stop_board.specs.declared.roster.Row.{Row}
-use Rattle.stop_board.specs.declared.state.State.{State}
-use Rattle.stop_board.specs.declared.state.State.TheVariants as state
+use Rattle.stop_board.specs.declared.world.action.Action.{Action}
+use Rattle.stop_board.specs.declared.world.action.Action.TheVariants as action
+use Rattle.stop_board.specs.declared.world.action.Reply.{Reply}
+use Rattle.stop_board.specs.declared.world.action.Reply.TheVariants as reply
+use Rattle.stop_history.specs.declared.actor.Actor.{Actor}
+use Rattle.stop_history.specs.declared.actor.Actor.TheVariants.{Tracee, Tracer}
+use Rattle.stop_history.specs.declared.phase.Phase.{Phase}
+use Rattle.stop_history.specs.declared.phase.Phase.TheVariants as phase
+use Rattle.stop_history.specs.declared.refused.Refused.{Refused}
+use Rattle.stop_history.specs.declared.roster.Row.{Row}
+use Rattle.stop_history.specs.declared.state.State.{State}
+use Rattle.stop_history.specs.declared.state.State.TheVariants as state
 use Rattle.stop_board.specs.Action.{ClaimReplies, Exchanges, TraceeReplies, TracerReplies, done, numbered, restart_in, taken_by, took, tracee_change, tracer_change, waits, row_seen}
-use Rattle.stop_board.specs.Actor.{numbered_actor}
-use Rattle.stop_board.specs.Change.{Change, IsAllowed, history_with, taken_with, words_with}
-use Rattle.stop_board.specs.Event as event
-use Rattle.stop_board.specs.Event.{Event, History, events_of, subject}
-use Rattle.stop_board.specs.History.{Fits, IsLegal}
-use Rattle.stop_board.specs.Roster.{IsRoster}
-use Rattle.stop_board.specs.Sequential.{and_then, claim_answer, claim_state, exit_answer, most_tracers, publish_answer, resume_answer, running_by}
-use Rattle.stop_board.specs.Standing.{AreAt}
-use Rattle.stop_board.specs.State.{is_born, is_waitable, number_in, state_after}
-use Rattle.stop_board.specs.Word.{Word, claimed_phase, opening, phase_in, raised, shown, state_by, word_after, word_at, word_in}
+use Rattle.stop_history.specs.Actor.{numbered_actor}
+use Rattle.stop_history.specs.Change.{Change, IsAllowed, history_with, taken_with, words_with}
+use Rattle.stop_history.specs.Event as event
+use Rattle.stop_history.specs.Event.{Event, History, events_of, subject}
+use Rattle.stop_history.specs.History.{Fits, IsLegal}
+use Rattle.stop_history.specs.Roster.{IsRoster}
+use Rattle.stop_history.specs.Sequential.{and_then, claim_answer, claim_state, exit_answer, publish_answer, resume_answer, running_by}
+use Rattle.stop_history.specs.declared.limits.TheConstants.{TRACERS}
+use Rattle.stop_history.specs.Standing.{AreAt}
+use Rattle.stop_history.specs.State.{is_born, is_waitable, number_in, state_after}
+use Rattle.stop_history.specs.Word.{Word, claimed_phase, opening, phase_in, raised, shown, state_by, word_after, word_at, word_in}
 use Rattle.stop_board.specs.World.{ActorReplies, IsActor, Moment, Replies, actor_change, is_active, last_seen, seen_by, sight_at, sight_by, words_seen, words_seen_by, seen_with, seen_place}
-use Rattle.stop_board.proofs.AtomicSteps.{change_stands, not_running}
-use Rattle.stop_board.proofs.Events.{other_events}
-use Rattle.stop_board.proofs.Going.{exit_fits, publish_fits, resume_fits}
-use Rattle.stop_board.proofs.Standing.{held_state, held_word, shows_taken}
-use Rattle.stop_board.proofs.States.{fits_within, past_or_within, present, state_within}
+use Rattle.stop_history.proofs.AtomicSteps.{change_stands, not_running}
+use Rattle.stop_history.proofs.Events.{other_events}
+use Rattle.stop_history.proofs.Going.{exit_fits, publish_fits, resume_fits}
+use Rattle.stop_history.proofs.Standing.{held_state, held_word, shows_taken}
+use Rattle.stop_history.proofs.States.{fits_within, past_or_within, present, state_within}
 
 -- ---- what the words show
 
@@ -182,7 +183,7 @@ born_either born number phase.Reaped waiting = cc
 
 -- what a claim got is what one thread alone would be answered
 pub got_is_sequential : (rows : List Row) (tracers : ℕ) (m : Moment) → ((row : ℕ) → m.taken row ≡ true → state_after rows m.history row ≡ state.Running)
-    → (actor tracer row : ℕ) (word : Word) → tracer < most_tracers → numbered_actor (length rows) tracers actor ≡ Some (Tracer tracer)
+    → (actor tracer row : ℕ) (word : Word) → tracer < TRACERS → numbered_actor (length rows) tracers actor ≡ Some (Tracer tracer)
     → Replies rows tracers m actor (action.Claim row) (reply.Got word) → claim_answer rows m.history row tracer ≡ claim_state (shown true word.number word.phase)
 got_is_sequential rows tracers m up actor tracer row word few who is =
     let reply = subst (λ w. ActorReplies rows (sight_at rows m) m.seen w (action.Claim row) (reply.Got word)) who is in
@@ -234,7 +235,7 @@ actor_allowed rows m up (Some (Tracer tracer)) a r is = tracer_allowed rows m up
 -- ---- one step of a World that stands at a moment
 
 -- an actor of the World has a place for what it last saw
-pub has_place : (rows tracers number places : ℕ) → tracers ≤ most_tracers → places ≡ tracers * rows → IsActor rows places (numbered_actor rows tracers number)
+pub has_place : (rows tracers number places : ℕ) → tracers ≤ TRACERS → places ≡ tracers * rows → IsActor rows places (numbered_actor rows tracers number)
 has_place rows tracers number places few each =
     elim (cases_lt number rows) [
       | inl within ↦ rw (lt-ltb _ _ within) within

@@ -7,23 +7,23 @@ use Rattle.trace_record.specs.Resume.{IsResume}
 use Rattle.trace_record.specs.Stop.{IsStop}
 use Rattle.trace_record.specs.declared.resume.Resume.{Resume}
 use Rattle.trace_record.specs.declared.resume.Kind.TheVariants.{Cont}
-use Rattle.stop_board.specs.declared.action.Action.{Action}
-use Rattle.stop_board.specs.declared.action.Action.TheVariants as action
-use Rattle.stop_board.specs.declared.action.Reply.{Reply}
-use Rattle.stop_board.specs.declared.action.Reply.TheVariants as reply
-use Rattle.stop_board.specs.declared.phase.Phase.{Phase}
-use Rattle.stop_board.specs.declared.phase.Phase.TheVariants as phase
-use Rattle.stop_board.specs.declared.refused.Refused.{Refused}
-use Rattle.stop_board.specs.declared.refused.Refused.TheVariants as refused
-use Rattle.stop_board.specs.declared.roster.Row.{Row}
-use Rattle.stop_board.specs.declared.state.State.{State}
-use Rattle.stop_board.specs.declared.state.State.TheVariants as state
-use Rattle.stop_board.specs.Change.{Change, Happened, Nothing, TakenUp}
-use Rattle.stop_board.specs.Event as event
-use Rattle.stop_board.specs.History.{bears_next, holding_back}
-use Rattle.stop_board.specs.Sequential.{and_then, exit_by, publish_by, resume_by, running_by}
-use Rattle.stop_board.specs.State.{is_waitable}
-use Rattle.stop_board.specs.Word.{Word, shown}
+use Rattle.stop_board.specs.declared.world.action.Action.{Action}
+use Rattle.stop_board.specs.declared.world.action.Action.TheVariants as action
+use Rattle.stop_board.specs.declared.world.action.Reply.{Reply}
+use Rattle.stop_board.specs.declared.world.action.Reply.TheVariants as reply
+use Rattle.stop_history.specs.declared.phase.Phase.{Phase}
+use Rattle.stop_history.specs.declared.phase.Phase.TheVariants as phase
+use Rattle.stop_history.specs.declared.refused.Refused.{Refused}
+use Rattle.stop_history.specs.declared.refused.Refused.TheVariants as refused
+use Rattle.stop_history.specs.declared.roster.Row.{Row}
+use Rattle.stop_history.specs.declared.state.State.{State}
+use Rattle.stop_history.specs.declared.state.State.TheVariants as state
+use Rattle.stop_history.specs.Change.{Change, Happened, Nothing, TakenUp}
+use Rattle.stop_history.specs.Event as event
+use Rattle.stop_history.specs.History.{bears_next, holding_back}
+use Rattle.stop_history.specs.Sequential.{and_then, exit_by, publish_by, resume_by, running_by}
+use Rattle.stop_history.specs.State.{is_waitable}
+use Rattle.stop_history.specs.Word.{Word, shown}
 
 -- an action that a caller may ask for: its stop, restart or death is one that there is
 abbrev pub IsAction : Action → Type 0

@@ -1,23 +1,24 @@
 -- The interleaving model: the cells of all rows, and what each tracer last saw in each of them. Several tracers of one
 -- tracee are this project's own: under ptrace(2) a tracee has one, whose threads wait for it by waitid(2).
 use Rattle.std.specs.Prelude.{◌≡◌, ◌+◌, ◌*◌, ◌<◌, ◌≤◌, ◌∷◌, [], ℕ, Bool, true, false, List, length, Option, Some, None, slice_set, if◌then◌else◌, ◌==◌, ◌&&◌}
-use Rattle.stop_board.specs.declared.action.Action.{Action}
-use Rattle.stop_board.specs.declared.action.Reply.{Reply}
-use Rattle.stop_board.specs.declared.action.Reply.TheVariants as reply
-use Rattle.stop_board.specs.declared.actor.Actor.{Actor}
-use Rattle.stop_board.specs.declared.actor.Actor.TheVariants.{Tracee, Tracer}
-use Rattle.stop_board.specs.declared.phase.Phase.{Phase}
-use Rattle.stop_board.specs.declared.phase.Phase.TheVariants as phase
-use Rattle.stop_board.specs.declared.refused.Refused.TheVariants as refused
-use Rattle.stop_board.specs.declared.roster.Row.{Row}
+use Rattle.stop_board.specs.declared.world.action.Action.{Action}
+use Rattle.stop_board.specs.declared.world.action.Reply.{Reply}
+use Rattle.stop_board.specs.declared.world.action.Reply.TheVariants as reply
+use Rattle.stop_history.specs.declared.actor.Actor.{Actor}
+use Rattle.stop_history.specs.declared.actor.Actor.TheVariants.{Tracee, Tracer}
+use Rattle.stop_history.specs.declared.phase.Phase.{Phase}
+use Rattle.stop_history.specs.declared.phase.Phase.TheVariants as phase
+use Rattle.stop_history.specs.declared.refused.Refused.TheVariants as refused
+use Rattle.stop_history.specs.declared.roster.Row.{Row}
 use Rattle.stop_board.specs.Action.{Sight, TraceeReplies, TracerReplies, row_seen, tracee_change, tracer_change}
-use Rattle.stop_board.specs.Actor.{numbered_actor}
-use Rattle.stop_board.specs.Change.{Change, Nothing, history_with, taken_with}
-use Rattle.stop_board.specs.Event.{History}
-use Rattle.stop_board.specs.Sequential.{most_tracers}
-use Rattle.stop_board.specs.Standing.{AreAt, IsHeld, none_taken}
-use Rattle.stop_board.specs.State.{state_after}
-use Rattle.stop_board.specs.Word.{Word, opening, state_by, word_after, word_at}
+use Rattle.stop_history.specs.Actor.{numbered_actor}
+use Rattle.stop_history.specs.Change.{Change, Nothing, history_with, taken_with}
+use Rattle.stop_history.specs.Event.{History}
+use Rattle.stop_history.specs.declared.limits.TheConstants.{TRACERS}
+use Rattle.stop_history.specs.Standing.{AreAt, none_taken}
+use Rattle.stop_board.specs.Board.{IsHeld}
+use Rattle.stop_history.specs.State.{state_after}
+use Rattle.stop_history.specs.Word.{Word, opening, state_by, word_after, word_at}
 
 -- what a World holds: its rows and tracers, the word of each row, and the word that each tracer last saw in each row
 pub record Contents : Type 0 where
@@ -29,7 +30,7 @@ pub record Contents : Type 0 where
 -- whatever the history: a word for each row of a roster, and one for each row and each of at most 16 tracers
 pub record IsContents (rows : List Row) (tracers : ℕ) (words seen : List Word) : Type 0 where
   pub held : IsHeld rows words
-  pub few : tracers ≤ most_tracers
+  pub few : tracers ≤ TRACERS
   pub each : length seen ≡ tracers * length rows
 
 -- where a run has come to: its history, the rows that are taken up, and by tracer and row the word last seen
@@ -115,7 +116,7 @@ is_active phase.Reaped = false
 abbrev pub IsActor : (rows places : ℕ) → Option Actor → Type 0
 IsActor rows places None = Unit {0}
 IsActor rows places (Some (Tracee row)) = row < rows
-IsActor rows places (Some (Tracer tracer)) = (tracer < most_tracers) × (tracer * rows + rows ≤ places)
+IsActor rows places (Some (Tracer tracer)) = (tracer < TRACERS) × (tracer * rows + rows ≤ places)
 
 abbrev pub sight_by : List Row → List Word → Sight
 sight_by rows words = record { states = state_by rows words; words = word_at words; taken = λ row. is_active (word_at words row).phase }

@@ -2,27 +2,26 @@
 
 ghost use Rattle.std.specs.Prelude.{◌≡◌, All, ◌+◌, ◌*◌, ◌<◌, ◌≤◌, ℕ, IfOk, OnErr, Option, length};
 ghost use Rattle.std.specs.Option.{ForSome};
-ghost use Rattle.stop_board.specs.Action.{IsAction, row_seen};
-ghost use Rattle.stop_board.specs.Actor.{numbered_actor};
-ghost use Rattle.stop_board.specs.Change.{words_with};
-ghost use Rattle.stop_board.specs.Roster.{IsRoster, most_rows};
-ghost use Rattle.stop_board.specs.Sequential.{most_tracers};
-ghost use Rattle.stop_board.specs.Word.{word_at};
+ghost use Rattle.stop_board.specs.Action.{IsAction, look_reply, row_seen};
+ghost use Rattle.stop_history.specs.Actor.{numbered_actor};
+ghost use Rattle.stop_history.specs.Change.{words_with};
+ghost use Rattle.stop_history.specs.Roster.{IsRoster};
+ghost use Rattle.stop_history.specs.declared.limits.TheConstants.{MOST_ROWS, TRACERS};
+ghost use Rattle.stop_history.specs.Word.{word_at};
 ghost use Rattle.stop_board.specs.World.{ActorReplies, IsActor, actor_change, last_seen, sight_by, words_seen, words_seen_by};
 
-use crate::action::{Action, Reply};
-use crate::actor::Actor;
-use crate::board::opening_words;
-use crate::refused::Refused;
-use crate::roster::{Roster, Row};
-use crate::state::State;
-use crate::steps::state_of;
-use crate::tracee::tracee_step;
-use crate::tracer::{row_seen, seen_place, tracer_step};
-use crate::word::Word;
+mod action;
+mod one_thread;
+mod tracee;
+mod tracer;
+
+use crate::words::{opening_words, state_of};
+pub use action::{Action, Reply};
 use std::alloc::{Allocator, Global};
 use std::marker::Model;
-use trace_pages::NoMemory;
+use stop_history::{Actor, NoMemory, Refused, Roster, Row, State, Word};
+use tracee::tracee_step;
+use tracer::{row_seen, seen_place, tracer_step};
 
 /// The stop cells of all rows of a roster, changed by one atomic step of one actor at a time. It stands at a moment:
 /// a legal history, the rows that are taken up, and the word that each tracer last saw in each row. Each step that is
@@ -57,7 +56,7 @@ impl<A: Allocator + Copy> World<A> {
         roster: &Roster<B>,
         tracers: u32,
     ) -> Result<World<A>, NoMemory>
-        requires { tracers ≤ most_tracers }
+        requires { tracers ≤ TRACERS }
         ensures rows { IfOk result (λ world. world.rows ≡ roster.now) }
         ensures tracers { IfOk result (λ world. world.tracers ≡ tracers) }
         ensures stands { IfOk result (λ world. StandsAt world first_moment) }
@@ -75,8 +74,8 @@ impl<A: Allocator + Copy> World<A> {
 }
 
 impl<A: Allocator> World<A> {
-    ghost use Rattle.stop_board.specs.Standing.{AreAt};
-    ghost use Rattle.stop_board.specs.State.{state_after};
+    ghost use Rattle.stop_history.specs.Standing.{AreAt};
+    ghost use Rattle.stop_history.specs.State.{state_after};
     ghost use Rattle.stop_board.specs.World.{HasSeen, Moment, Replies, StandsAt, moment_after};
 
     /// The state of a row, `Absent` out of range.
@@ -139,8 +138,8 @@ impl<A: Allocator + Copy> World<A> {
 
 /// The actor of a number, if there is one.
 fn actor_of(rows: &[Row], tracers: u32, number: u32) -> Option<Actor>
-    requires few { length rows.now ≤ most_rows }
-    requires tracers { tracers ≤ most_tracers }
+    requires few { length rows.now ≤ MOST_ROWS }
+    requires tracers { tracers ≤ TRACERS }
     ensures { result ≡ numbered_actor (length rows.now) tracers number }
 {
     let rows = rows.len() as u32;
@@ -184,13 +183,24 @@ fn step_of(
 /// Notes that a tracer has seen the word that a row has now.
 fn note(rows: &[Row], words: &[Word], seen: &mut [Word], tracer: u32, row: Option<u32>)
     requires words { length words.now ≡ length rows.now }
-    requires few { length rows.now ≤ most_rows }
-    requires tracer { tracer < most_tracers }
+    requires few { length rows.now ≤ MOST_ROWS }
+    requires tracer { tracer < TRACERS }
     requires row { ForSome row (λ at. at < length rows.now) }
     requires seen { tracer * length rows.now + length rows.now ≤ length seen.old }
     ensures { seen.new ≡ words_seen rows.now (word_at words.now) tracer row seen.old }
 {
     if let Some(row) = row {
         seen[seen_place(rows, tracer, row)] = words[row as usize];
+    }
+}
+
+/// Reads a row's word.
+fn look_at(rows: &[Row], words: &[Word], row: u32) -> Reply
+    requires { length words.now ≡ length rows.now }
+    ensures { result ≡ look_reply rows.now (sight_by rows.now words.now) row }
+{
+    match words.get(row as usize) {
+        Some(word) => Reply::Word(*word),
+        None => Reply::Refused(Refused::NoRow),
     }
 }

@@ -4,7 +4,6 @@ pub mod Decimals
 pub mod Digits
 pub mod LinesBack
 pub mod LinesRead
-pub mod OneThread
 pub mod ReadBack
 pub mod RosterGrows
 pub mod Runs

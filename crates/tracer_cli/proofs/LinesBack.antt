@@ -7,11 +7,11 @@ use Rattle.trace_record.specs.declared.resume.Kind.{Kind}
 use Rattle.trace_record.specs.declared.resume.Kind.TheVariants as kind
 use Rattle.trace_record.specs.declared.resume.Resume.{Resume}
 use Rattle.trace_record.specs.declared.death.Death.TheVariants as death
-use Rattle.stop_board.specs.declared.roster.Row.{Row}
-use Rattle.stop_board.specs.declared.roster.RosterError.{RosterError}
-use Rattle.stop_board.specs.declared.roster.RosterError.TheVariants as fault
-use Rattle.stop_board.specs.Roster.{family_fault, fault_after, has_ids, is_id, is_root, last_id, parent_in, with_tid}
-use Rattle.stop_board.specs.Sequential.{most_tracers}
+use Rattle.stop_history.specs.declared.roster.Row.{Row}
+use Rattle.stop_history.specs.declared.roster.RosterError.{RosterError}
+use Rattle.stop_history.specs.declared.roster.RosterError.TheVariants as fault
+use Rattle.stop_history.specs.Roster.{family_fault, fault_after, has_ids, is_id, is_root, parent_in, with_tid}
+use Rattle.stop_history.specs.declared.limits.TheConstants.{LAST_ID, TRACERS}
 use Rattle.tracer_cli.specs.declared.command.Command.{Command}
 use Rattle.tracer_cli.specs.declared.command.Command.TheVariants as command
 use Rattle.tracer_cli.specs.declared.grammar.Line.TheVariants as line
@@ -25,23 +25,23 @@ use Rattle.tracer_cli.proofs.Spelled.{AreWords, is_word}
 
 -- ---- ids
 
-id_ends : (n : ℕ) → is_id n ≡ true → (1 ≤ n) × (n ≤ last_id)
-id_ends n id = let ends = and_parts (nat_le 1 n) (nat_le n last_id) id in (leb-true 1 n ends.0, leb-true n last_id ends.1)
+id_ends : (n : ℕ) → is_id n ≡ true → (1 ≤ n) × (n ≤ LAST_ID)
+id_ends n id = let ends = and_parts (nat_le 1 n) (nat_le n LAST_ID) id in (leb-true 1 n ends.0, leb-true n LAST_ID ends.1)
 
-pub ends_id : (n : ℕ) → 1 ≤ n → n ≤ last_id → is_id n ≡ true
-ends_id n least most = and_from (nat_le 1 n) (nat_le n last_id) (le-leb 1 n least) (le-leb n last_id most)
+pub ends_id : (n : ℕ) → 1 ≤ n → n ≤ LAST_ID → is_id n ≡ true
+ends_id n least most = and_from (nat_le 1 n) (nat_le n LAST_ID) (le-leb 1 n least) (le-leb n LAST_ID most)
 
 id_read : (n : ℕ) → is_id n ≡ true → id_of (decimal n) ≡ Ok n
-id_read n id = let ends = id_ends n id in decimal_between 1 last_id n ends.0 ends.1 (lit< tt)
+id_read n id = let ends = id_ends n id in decimal_between 1 LAST_ID n ends.0 ends.1 (lit< tt)
 
-up_to_last : (n : ℕ) → n ≤ last_id → is_word (decimal n) ≡ true
+up_to_last : (n : ℕ) → n ≤ LAST_ID → is_word (decimal n) ≡ true
 up_to_last n most = decimal_is_word n (omega arith)
 
 id_word : (n : ℕ) → is_id n ≡ true → is_word (decimal n) ≡ true
 id_word n id = up_to_last n (id_ends n id).1
 
-tracer_read : (c : ℕ) → c < most_tracers → tracer_of (decimal c) ≡ Ok c
-tracer_read c some = decimal_between 0 (most_tracers - 1) c (omega arith) (omega arith) (lit< tt)
+tracer_read : (c : ℕ) → c < TRACERS → tracer_of (decimal c) ≡ Ok c
+tracer_read c some = decimal_between 0 (TRACERS - 1) c (omega arith) (omega arith) (lit< tt)
 
 -- ---- rows
 
@@ -50,9 +50,9 @@ pub record HasRanges (row : Row) : Type 0 where
   pub tid : is_id row.tid ≡ true
   pub tgid : is_id row.tgid ≡ true
   pub pgid : is_id row.pgid ≡ true
-  pub parent : row.parent ≤ last_id
+  pub parent : row.parent ≤ LAST_ID
 
-parent_range : (n : ℕ) → (eqb n 0 ≡ true) ⊎ (is_id n ≡ true) → n ≤ last_id
+parent_range : (n : ℕ) → (eqb n 0 ≡ true) ⊎ (is_id n ≡ true) → n ≤ LAST_ID
 parent_range n (inl root) = let none : n ≡ 0 = eqb-true n 0 root in omega arith
 parent_range n (inr child) = (id_ends n child).1
 
@@ -77,17 +77,17 @@ pub row_ranges : (before : List Row) (row : Row) → fault_after before row ≡ 
 row_ranges before row h =
     ranges row (not-false (has_ids row) (passed (not (has_ids row)) (fault.Number (length before)) (cond (is_some (with_tid before row.tid)) (Some (fault.Twice (length before))) (family_fault (length before) row (parent_in before row))) h))
 
-row_said : (a b c d : List ℕ) (row : Row) → id_of a ≡ Ok row.tid → id_of b ≡ Ok row.tgid → id_of c ≡ Ok row.pgid → number_between 0 last_id d ≡ Ok row.parent → row_line a b c d ≡ Ok (line.Row row)
+row_said : (a b c d : List ℕ) (row : Row) → id_of a ≡ Ok row.tid → id_of b ≡ Ok row.tgid → id_of c ≡ Ok row.pgid → number_between 0 LAST_ID d ≡ Ok row.parent → row_line a b c d ≡ Ok (line.Row row)
 row_said a b c d row t g p q =
-    ap (λ r. r >>= λ t. id_of b >>= λ g. id_of c >>= λ p. number_between 0 last_id d >>= λ q. Ok (line.Row (record { tid = t; tgid = g; pgid = p; parent = q }))) t
-    ∙ ap (λ r. r >>= λ g. id_of c >>= λ p. number_between 0 last_id d >>= λ q. Ok (line.Row (record { tid = row.tid; tgid = g; pgid = p; parent = q }))) g
-    ∙ ap (λ r. r >>= λ p. number_between 0 last_id d >>= λ q. Ok (line.Row (record { tid = row.tid; tgid = row.tgid; pgid = p; parent = q }))) p
+    ap (λ r. r >>= λ t. id_of b >>= λ g. id_of c >>= λ p. number_between 0 LAST_ID d >>= λ q. Ok (line.Row (record { tid = t; tgid = g; pgid = p; parent = q }))) t
+    ∙ ap (λ r. r >>= λ g. id_of c >>= λ p. number_between 0 LAST_ID d >>= λ q. Ok (line.Row (record { tid = row.tid; tgid = g; pgid = p; parent = q }))) g
+    ∙ ap (λ r. r >>= λ p. number_between 0 LAST_ID d >>= λ q. Ok (line.Row (record { tid = row.tid; tgid = row.tgid; pgid = p; parent = q }))) p
     ∙ ap (λ r. r >>= λ q. Ok (line.Row (record { tid = row.tid; tgid = row.tgid; pgid = row.pgid; parent = q }))) q
 
 pub row_line_read : (row : Row) → HasRanges row → line_of false (row_words row) ≡ Ok (line.Row row)
 row_line_read row has =
     row_said (decimal row.tid) (decimal row.tgid) (decimal row.pgid) (decimal row.parent) row (id_read row.tid has.tid) (id_read row.tgid has.tgid) (id_read row.pgid has.pgid)
-    (decimal_between 0 last_id row.parent (omega arith) has.parent (lit< tt))
+    (decimal_between 0 LAST_ID row.parent (omega arith) has.parent (lit< tt))
 
 pub row_are_words : (row : Row) → HasRanges row → AreWords (row_words row)
 row_are_words row has = (refl, (id_word row.tid has.tid, (id_word row.tgid has.tgid, (id_word row.pgid has.pgid, (up_to_last row.parent has.parent, tt)))))

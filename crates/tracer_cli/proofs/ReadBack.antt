@@ -2,10 +2,11 @@
 use Rattle.std.proofs.Common.{◌≡◌, ◌+◌, ◌<◌, ◌≤◌, ◌++◌, ◌∷◌, [], ℕ, Bool, true, false, None, Some, Option, List, Ok, length, length-append, arith, cond, le-leb, lt-ltb, append_assoc, append-nil, ap, sym, ◌∙◌}
 use Rattle.std.proofs.lemmas.List.Elements.{All-head, All-tail}
 use Rattle.std.specs.List.{All, join_with_byte}
-use Rattle.stop_board.specs.declared.roster.Row.{Row}
-use Rattle.stop_board.specs.declared.roster.RosterError.{RosterError}
-use Rattle.stop_board.specs.Roster.{IsRoster, fault_after, first_fault, most_rows, row_at}
-use Rattle.stop_board.proofs.Rosters.{both_none, few_rows, row_of-tid, tid_in_range}
+use Rattle.stop_history.specs.declared.roster.Row.{Row}
+use Rattle.stop_history.specs.declared.roster.RosterError.{RosterError}
+use Rattle.stop_history.specs.Roster.{IsRoster, fault_after, first_fault, row_at}
+use Rattle.stop_history.specs.declared.limits.TheConstants.{MOST_ROWS}
+use Rattle.stop_history.proofs.Rosters.{both_none, few_rows, row_of-tid, tid_in_range}
 use Rattle.tracer_cli.specs.declared.order.Order.{Order}
 use Rattle.tracer_cli.specs.declared.grammar.Line.{Line}
 use Rattle.tracer_cli.specs.declared.grammar.Line.TheVariants as line
@@ -34,12 +35,12 @@ only_rows rows = record { rows = rows; orders = [] }
 abbrev with_orders : List Row → List Order → Content
 with_orders rows orders = record { rows = rows; orders = orders }
 
-row_takes : (before : List Row) (row : Row) → length before < most_rows → fault_after before row ≡ None → line_added (only_rows before) (line.Row row) ≡ Ok (only_rows (before ++ row ∷ []))
+row_takes : (before : List Row) (row : Row) → length before < MOST_ROWS → fault_after before row ≡ None → line_added (only_rows before) (line.Row row) ≡ Ok (only_rows (before ++ row ∷ []))
 row_takes before row room fits =
-    ap (row_added (only_rows before) row) fits ∙ rw (lt-ltb (length before) most_rows room)
+    ap (row_added (only_rows before) row) fits ∙ rw (lt-ltb (length before) MOST_ROWS room)
 
 -- rows are read behind those before them
-rows_read : (before rows : List Row) (rest : List ℕ) (all : Content) → first_fault before rows ≡ None → length before + length rows ≤ most_rows
+rows_read : (before rows : List Row) (rest : List ℕ) (all : Content) → first_fault before rows ≡ None → length before + length rows ≤ MOST_ROWS
     → ((n : ℕ) → content_after n (only_rows (before ++ rows)) (lines_of rest) ≡ Ok all)
     → (n : ℕ) → content_after n (only_rows before) (lines_of (rows_text rows ++ rest)) ≡ Ok all
 rows_read before [] rest all fine few then n = ap (λ rows. content_after n (only_rows rows) (lines_of rest)) (sym (append-nil before)) ∙ then n
@@ -79,7 +80,7 @@ no_fault false fault many h = cc
 pub read_back : (content : Content) → IsContent content → content_of (spelling content) ≡ Ok content
 read_back content is =
     let small : length (spelling content) ≤ most_bytes = is.size in
-    let few : length content.rows ≤ most_rows = few_rows content.rows is.roster in
+    let few : length content.rows ≤ MOST_ROWS = few_rows content.rows is.roster in
     rw (le-leb (length (spelling content)) most_bytes small)
     (rows_read [] content.rows (orders_text content.rows content.orders) content (no_fault _ _ _ is.roster) (omega arith)
     (orders_read content.rows [] content.orders is.roster is.orders) 1)

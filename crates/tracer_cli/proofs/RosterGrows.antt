@@ -1,9 +1,9 @@
 -- Rows without a fault stay so with one more row that has none behind them.
 use Rattle.std.proofs.Common.{refl, ◌≡◌, ◌++◌, ◌∷◌, [], List, Option, Some, None, append_assoc, append-nil, ap, sym, ◌∙◌}
-use Rattle.stop_board.specs.declared.roster.Row.{Row}
-use Rattle.stop_board.specs.declared.roster.RosterError.{RosterError}
-use Rattle.stop_board.proofs.Rosters.{both_none}
-use Rattle.stop_board.specs.Roster.{fault_after, first_fault, or_later}
+use Rattle.stop_history.specs.declared.roster.Row.{Row}
+use Rattle.stop_history.specs.declared.roster.RosterError.{RosterError}
+use Rattle.stop_history.proofs.Rosters.{both_none}
+use Rattle.stop_history.specs.Roster.{fault_after, first_fault, or_later}
 
 none_both : (first later : Option RosterError) → first ≡ None → later ≡ None → or_later first later ≡ None
 none_both None later first_none later_none = later_none

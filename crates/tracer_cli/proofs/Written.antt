@@ -1,9 +1,9 @@
 -- What was written, said in other words.
 use Rattle.std.proofs.Common.{◌≡◌, ◌++◌, ◌∷◌, [], ℕ, List, OnOk, Result, subst, append_assoc, drop, drop-cons, drop_of_length-le, get_or, length, add-one, append-nil, ◌+◌, ◌<◌, ◌≤◌, ap, sym, ◌∙◌}
-use Rattle.stop_board.specs.Event.{History}
+use Rattle.stop_history.specs.Event.{History}
 use Rattle.stop_board.specs.World.{Contents}
-use Rattle.tracer_cli.specs.OneThread.{HasHistory}
-use Rattle.stop_board.specs.declared.roster.Row.{Row}
+use Rattle.stop_board.specs.OneThread.{HasHistory}
+use Rattle.stop_history.specs.declared.roster.Row.{Row}
 use Rattle.tracer_cli.specs.declared.order.Order.{Order}
 use Rattle.tracer_cli.specs.Replies.{history_with, replies, reply_text}
 

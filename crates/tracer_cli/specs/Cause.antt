@@ -1,7 +1,7 @@
 -- The causes of a refusal: their names, and the cause that a fault of a line or of a roster is told as.
 use Rattle.std.specs.Prelude.{ℕ, List, codes}
-use Rattle.stop_board.specs.declared.roster.RosterError.{RosterError}
-use Rattle.stop_board.specs.declared.roster.RosterError.TheVariants as fault
+use Rattle.stop_history.specs.declared.roster.RosterError.{RosterError}
+use Rattle.stop_history.specs.declared.roster.RosterError.TheVariants as fault
 use Rattle.tracer_cli.specs.declared.cause.Cause.{Cause}
 use Rattle.tracer_cli.specs.declared.cause.Cause.TheVariants as cause
 use Rattle.tracer_cli.specs.declared.cause.LineFault.{LineFault}

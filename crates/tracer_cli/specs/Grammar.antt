@@ -7,8 +7,7 @@ use Rattle.trace_record.specs.declared.resume.Kind.{Kind}
 use Rattle.trace_record.specs.declared.resume.Kind.TheVariants as kind
 use Rattle.trace_record.specs.declared.death.Death.{Death}
 use Rattle.trace_record.specs.declared.death.Death.TheVariants as death
-use Rattle.stop_board.specs.Roster.{last_id}
-use Rattle.stop_board.specs.Sequential.{most_tracers}
+use Rattle.stop_history.specs.declared.limits.TheConstants.{LAST_ID, TRACERS}
 use Rattle.tracer_cli.specs.declared.cause.LineFault.{LineFault}
 use Rattle.tracer_cli.specs.declared.cause.LineFault.TheVariants.{BadNumber, UnknownWord}
 use Rattle.tracer_cli.specs.declared.command.Command.TheVariants as command
@@ -39,11 +38,11 @@ number_between low high word = ranged low high (number_of word)
 
 -- an id of a thread, a thread group or a process group
 abbrev pub id_of : List ℕ → Result ℕ LineFault
-id_of word = number_between 1 last_id word
+id_of word = number_between 1 LAST_ID word
 
 -- one of the board's tracers
 abbrev pub tracer_of : List ℕ → Result ℕ LineFault
-tracer_of word = number_between 0 (most_tracers - 1) word
+tracer_of word = number_between 0 (TRACERS - 1) word
 
 -- ---- words
 
@@ -108,7 +107,7 @@ row_line tid tgid pgid parent = do
   t ← id_of tid
   g ← id_of tgid
   p ← id_of pgid
-  q ← number_between 0 last_id parent
+  q ← number_between 0 LAST_ID parent
   Ok (line.Row (record { tid = t; tgid = g; pgid = p; parent = q }))
 
 -- publish TID STOP, where STOP is one word

@@ -7,7 +7,6 @@ pub mod File
 pub mod Grammar
 pub mod Lines
 pub mod Numbers
-pub mod OneThread
 pub mod Replay
 pub mod Replies
 pub mod Run

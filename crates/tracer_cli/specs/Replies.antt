@@ -1,18 +1,18 @@
 -- The text of a replay: one line for each command, the board's sequential answer.
 use Rattle.std.specs.Prelude.{◌+◌, ◌++◌, ◌^◌, ◌-◌, ◌∷◌, [], ℕ, false, List, Result, Ok, Err, codes, decimal}
 use Rattle.std.specs.Fmt.{digits, format_spec, padded_integral}
-use Rattle.stop_board.specs.declared.board.Got.{Got}
-use Rattle.stop_board.specs.declared.board.Got.TheVariants as got
-use Rattle.stop_board.specs.declared.refused.Refused.{Refused}
-use Rattle.stop_board.specs.declared.refused.Refused.TheVariants as refused
-use Rattle.stop_board.specs.declared.roster.Row.{Row}
-use Rattle.stop_board.specs.declared.state.State.{State}
-use Rattle.stop_board.specs.declared.state.State.TheVariants as state
-use Rattle.stop_board.specs.Event as event
-use Rattle.stop_board.specs.Event.{History}
-use Rattle.stop_board.specs.Roster.{row_at}
-use Rattle.stop_board.specs.Sequential.{claim_answer, exit_answer, goes_on, publish_answer, resume_answer}
-use Rattle.stop_board.specs.State.{last_number, state_after}
+use Rattle.stop_history.specs.declared.got.Got.{Got}
+use Rattle.stop_history.specs.declared.got.Got.TheVariants as got
+use Rattle.stop_history.specs.declared.refused.Refused.{Refused}
+use Rattle.stop_history.specs.declared.refused.Refused.TheVariants as refused
+use Rattle.stop_history.specs.declared.roster.Row.{Row}
+use Rattle.stop_history.specs.declared.state.State.{State}
+use Rattle.stop_history.specs.declared.state.State.TheVariants as state
+use Rattle.stop_history.specs.Event as event
+use Rattle.stop_history.specs.Event.{History}
+use Rattle.stop_history.specs.Roster.{row_at}
+use Rattle.stop_history.specs.Sequential.{claim_answer, exit_answer, goes_on, publish_answer, resume_answer}
+use Rattle.stop_history.specs.State.{last_number, state_after}
 use Rattle.tracer_cli.specs.declared.command.Command.{Command}
 use Rattle.tracer_cli.specs.declared.command.Command.TheVariants as command
 use Rattle.tracer_cli.specs.declared.order.Order.{Order}

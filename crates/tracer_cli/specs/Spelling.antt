@@ -8,9 +8,9 @@ use Rattle.trace_record.specs.declared.resume.Kind.{Kind}
 use Rattle.trace_record.specs.declared.resume.Kind.TheVariants as kind
 use Rattle.trace_record.specs.declared.death.Death.{Death}
 use Rattle.trace_record.specs.declared.death.Death.TheVariants as death
-use Rattle.stop_board.specs.declared.roster.Row.{Row}
-use Rattle.stop_board.specs.Roster.{IsRoster, is_id, row_at}
-use Rattle.stop_board.specs.Sequential.{most_tracers}
+use Rattle.stop_history.specs.declared.roster.Row.{Row}
+use Rattle.stop_history.specs.Roster.{IsRoster, is_id, row_at}
+use Rattle.stop_history.specs.declared.limits.TheConstants.{TRACERS}
 use Rattle.tracer_cli.specs.declared.command.Command.{Command}
 use Rattle.tracer_cli.specs.declared.command.Command.TheVariants as command
 use Rattle.tracer_cli.specs.declared.order.Order.{Order}
@@ -89,8 +89,8 @@ IsSpelledDeath (death.Signaled signal core) = core ≡ false
 -- the ranges of a command that a file can write, beside those of IsCommand
 abbrev pub IsSpelled : Command → Type 0
 IsSpelled (command.Publish stop) = IsSpelledStop stop
-IsSpelled (command.Claim tracer) = tracer < most_tracers
-IsSpelled (command.Resume tracer how) = tracer < most_tracers
+IsSpelled (command.Claim tracer) = tracer < TRACERS
+IsSpelled (command.Resume tracer how) = tracer < TRACERS
 IsSpelled (command.Exit death) = IsSpelledDeath death
 IsSpelled command.State = Unit {0}
 

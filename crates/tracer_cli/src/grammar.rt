@@ -10,7 +10,7 @@ use crate::cause::LineFault;
 use crate::command::Command;
 use crate::lines::first_words;
 use crate::numbers::number;
-use stop_board::{Row, TRACERS};
+use stop_board::{LAST_ID, Row, TRACERS};
 use trace_record::{Death, Kind, Resume, Stop};
 
 /// What a line says.
@@ -133,7 +133,7 @@ fn row_line(tid: &[u8], tgid: &[u8], pgid: &[u8], parent: &[u8]) -> Result<Line,
     let tid = id(tid)?;
     let tgid = id(tgid)?;
     let pgid = id(pgid)?;
-    let parent = number_between(0, u64::from(Row::LAST_ID), parent)? as u32;
+    let parent = number_between(0, u64::from(LAST_ID), parent)? as u32;
     Ok(Line::Row(Row {
         tid,
         tgid,
@@ -232,7 +232,7 @@ fn death_of(how: Ending, number: &[u8]) -> Result<Death, LineFault>
 fn id(word: &[u8]) -> Result<u32, LineFault>
     ensures { result ≡ id_of word.now }
 {
-    Ok(number_between(1, u64::from(Row::LAST_ID), word)? as u32)
+    Ok(number_between(1, u64::from(LAST_ID), word)? as u32)
 }
 
 /// The number of one of the board's tracers.

@@ -10,7 +10,6 @@ mod grammar;
 mod laws;
 mod lines;
 mod numbers;
-mod one_thread;
 mod order;
 mod reading;
 mod replay;

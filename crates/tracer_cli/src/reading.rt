@@ -6,7 +6,8 @@ ghost use Rattle.tracer_cli.specs.Cause.{cause_of};
 ghost use Rattle.tracer_cli.specs.Command.{IsCommand, IsOrder};
 ghost use Rattle.tracer_cli.specs.File.{Refuses, TakesLine, content_after, content_of, line_read, most_bytes, nothing, order_added, row_added};
 ghost use Rattle.tracer_cli.specs.Lines.{lines_of};
-ghost use Rattle.stop_board.specs.Roster.{IsRoster, fault_after, first_fault, most_rows, row_of};
+ghost use Rattle.stop_history.specs.Roster.{IsRoster, fault_after, first_fault, row_of};
+ghost use Rattle.stop_history.specs.declared.limits.TheConstants.{MOST_ROWS};
 
 use crate::cause::{CaseError, Cause};
 use crate::command::Command;
@@ -14,7 +15,7 @@ use crate::grammar::{Line, read_line};
 use crate::lines::cut_line;
 use crate::order::Order;
 use std::alloc::Allocator;
-use stop_board::{Roster, RosterError, Row, fault_after, place_of};
+use stop_board::{MOST_ROWS, RosterError, Row, fault_after, place_of};
 
 /// How many bytes a file has at most.
 pub const MOST_BYTES: usize = 16_777_216;
@@ -36,10 +37,10 @@ fn take_line<A: Allocator>(
     line: &[u8],
     left: usize,
 ) -> Result<(), Cause>
-    requires { vec_len rows.old ≤ most_rows }
+    requires { vec_len rows.old ≤ MOST_ROWS }
     ensures line { TakesLine result (record { rows = rows.new.items; orders = orders.new.items })
         (line_read (record { rows = rows.old.items; orders = orders.old.items }) line.now) }
-    ensures few { vec_len rows.new ≤ most_rows }
+    ensures few { vec_len rows.new ≤ MOST_ROWS }
     ensures roster { first_fault [] rows.old.items ≡ None → first_fault [] rows.new.items ≡ None }
     ensures range { All IsOrder orders.old.items → All IsOrder orders.new.items }
 {
@@ -53,16 +54,16 @@ fn take_line<A: Allocator>(
 /// Takes one more row.
 #[tactic(auto, using(crate::proofs::RosterGrows::still_roster))]
 fn take_row<A: Allocator>(rows: &mut Vec<Row, A>, row: Row) -> Result<(), Cause>
-    requires { vec_len rows.old ≤ most_rows }
+    requires { vec_len rows.old ≤ MOST_ROWS }
     ensures row { (orders : List Order) → TakesLine result (record { rows = rows.new.items; orders = orders })
         (row_added (record { rows = rows.old.items; orders = orders }) row (fault_after rows.old.items row)) }
-    ensures few { vec_len rows.new ≤ most_rows }
+    ensures few { vec_len rows.new ≤ MOST_ROWS }
     ensures roster { first_fault [] rows.old.items ≡ None → first_fault [] rows.new.items ≡ None }
 {
     if let Some(fault) = fault_after(rows.as_slice(), row) {
         return Err(cause_of(fault));
     }
-    if rows.len() >= Roster::MOST_ROWS {
+    if rows.len() >= MOST_ROWS {
         return Err(Cause::TooMany);
     }
     if rows.push(row).is_err() {
@@ -79,7 +80,7 @@ fn take_order<A: Allocator>(
     command: Command,
     left: usize,
 ) -> Result<(), Cause>
-    requires few { length rows.now ≤ most_rows }
+    requires few { length rows.now ≤ MOST_ROWS }
     requires range { IsCommand command }
     ensures order { TakesLine result (record { rows = rows.now; orders = orders.new.items })
         (order_added (record { rows = rows.now; orders = orders.old.items }) command (row_of rows.now tid)) }

@@ -1,7 +1,7 @@
 //! A replay file from bytes to bytes.
 
 ghost use Rattle.std.specs.Prelude.{◌≡◌, ◌<◌, ◌^◌, [], All, IfErr, IfOk, Ok, length, max};
-ghost use Rattle.stop_board.specs.Roster.{IsRoster};
+ghost use Rattle.stop_history.specs.Roster.{IsRoster};
 ghost use Rattle.tracer_cli.specs.Command.{IsOrder};
 ghost use Rattle.tracer_cli.specs.File.{Refuses};
 ghost use Rattle.tracer_cli.specs.Lines.{lines_of};

@@ -3,13 +3,12 @@
 ghost use Rattle.std.specs.Prelude.{◌≡◌, ◌++◌, ◌≤◌, ◌∷◌, [], length, All, OnOk, codes, decimal, string_bytes};
 ghost use Rattle.tracer_cli.specs.Command.{IsOrder};
 ghost use Rattle.tracer_cli.specs.Replies.{done_text, got_text, history_with, published_text, refusal_text, replies, reply_text, state_text};
-ghost use Rattle.stop_board.specs.Roster.{most_rows, row_at};
-ghost use Rattle.stop_board.specs.Sequential.{most_tracers};
+ghost use Rattle.stop_history.specs.Roster.{row_at};
+ghost use Rattle.stop_history.specs.declared.limits.TheConstants.{MOST_ROWS, TRACERS};
 ghost use Rattle.stop_board.specs.World.{Moment, StandsAt};
-ghost use Rattle.tracer_cli.specs.OneThread.{HasHistory};
+ghost use Rattle.stop_board.specs.OneThread.{HasHistory};
 
 use crate::command::Command;
-use crate::one_thread::{claim, exit, publish, resume};
 use crate::order::Order;
 use std::alloc::Allocator;
 use stop_board::{Got, NoMemory, Refused, Row, State, World};
@@ -131,8 +130,8 @@ fn reply<A: Allocator, B: Allocator>(
 ) -> Result<(), NoMemory>
     requires range { IsOrder order }
     requires rows { rows.now ≡ world.old.rows }
-    requires few { length rows.now ≤ most_rows }
-    requires tracers { world.old.tracers ≡ most_tracers }
+    requires few { length rows.now ≤ MOST_ROWS }
+    requires tracers { world.old.tracers ≡ TRACERS }
     ensures text { (m : Moment) → StandsAt world.old m →
         OnOk result (string_bytes out.new ≡ string_bytes out.old ++ (reply_text rows.now m.history order.row order.command ++ 10 ∷ [])) }
     ensures stands { (m : Moment) → StandsAt world.old m → HasHistory world.new (history_with rows.now m.history order.row order.command) }
@@ -141,13 +140,13 @@ fn reply<A: Allocator, B: Allocator>(
 {
     let row = order.row;
     match order.command {
-        Command::Publish(stop) => write_published(out, rows, publish(world, row, stop)),
-        Command::Claim(tracer) => write_got(out, rows, claim(world, rows.len(), row, tracer)),
+        Command::Publish(stop) => write_published(out, rows, world.publish(row, stop)),
+        Command::Claim(tracer) => write_got(out, rows, world.claim(row, tracer)),
         Command::Resume(tracer, how) => {
-            let answer = resume(world, rows.len(), row, tracer, how);
+            let answer = world.resume(row, tracer, how);
             write_done(out, rows, "resumed", answer)
         }
-        Command::Exit(death) => write_done(out, rows, "exited", exit(world, row, death)),
+        Command::Exit(death) => write_done(out, rows, "exited", world.exit(row, death)),
         Command::State => write_state(out, world.state(row)),
     }
 }
@@ -161,8 +160,8 @@ pub fn write_replies<A: Allocator, B: Allocator>(
 ) -> Result<(), NoMemory>
     requires range { All IsOrder orders.now }
     requires rows { rows.now ≡ world.old.rows }
-    requires few { length rows.now ≤ most_rows }
-    requires tracers { world.old.tracers ≡ most_tracers }
+    requires few { length rows.now ≤ MOST_ROWS }
+    requires tracers { world.old.tracers ≡ TRACERS }
     ensures { (m : Moment) → StandsAt world.old m →
         OnOk result (string_bytes out.new ≡ string_bytes out.old ++ replies rows.now m.history orders.now) }
 {

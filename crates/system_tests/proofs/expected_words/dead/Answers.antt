@@ -1,6 +1,6 @@
 use Rattle.std.proofs.Common.{arith}
 use Rattle.trace_record.specs.declared.death.Death.TheVariants as death
-use Rattle.stop_board.proofs.Words.{death_told}
+use Rattle.stop_history.proofs.Words.{death_told}
 use Rattle.system_tests.proofs.expected_words.dead.Goals as goal
 
 pub invariant_of-result : goal.invariant_of-result

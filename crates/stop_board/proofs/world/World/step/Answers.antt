@@ -1,6 +1,6 @@
 use Rattle.std.proofs.Common.{◌≡◌, ◌∙◌, arith, length}
 use Rattle.std.proofs.lemmas.List.{with_items_is}
-use Rattle.stop_board.specs.Actor.{numbered_actor}
+use Rattle.stop_history.specs.Actor.{numbered_actor}
 use Rattle.stop_board.proofs.Worlds.{among_tracers, has_place, replies_at, seen_behind, stands_behind}
 use Rattle.stop_board.proofs.world.World.step.Goals as goal
 

@@ -1,5 +1,0 @@
-use Rattle.stop_board.proofs.Longer.{claimed_before}
-use Rattle.stop_board.proofs.laws.a_claim_is_its_tracers.Goals as goal
-
-pub returns : goal.returns
-returns c = claimed_before

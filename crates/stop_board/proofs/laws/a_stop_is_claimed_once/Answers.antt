@@ -1,6 +1,0 @@
-use Rattle.stop_board.specs.Event.{events_of}
-use Rattle.stop_board.proofs.Claims.{claimed_once, numbered}
-use Rattle.stop_board.proofs.laws.a_stop_is_claimed_once.Goals as goal
-
-pub returns : goal.returns
-returns c = λ rows h legal row number. claimed_once number (events_of row h) (numbered rows h legal row)

@@ -1,5 +1,0 @@
-use Rattle.stop_board.proofs.Longer.{taken_or_same}
-use Rattle.stop_board.proofs.laws.a_waiting_row_is_as_it_was_or_was_claimed.Goals as goal
-
-pub returns : goal.returns
-returns c = taken_or_same

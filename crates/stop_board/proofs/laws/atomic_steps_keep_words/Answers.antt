@@ -1,5 +1,0 @@
-use Rattle.stop_board.proofs.AtomicSteps.{change_stands}
-use Rattle.stop_board.proofs.laws.atomic_steps_keep_words.Goals as goal
-
-pub returns : goal.returns
-returns c = change_stands

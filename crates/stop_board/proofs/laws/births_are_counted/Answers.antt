@@ -1,5 +1,0 @@
-use Rattle.stop_board.proofs.Children.{births_are_born}
-use Rattle.stop_board.proofs.laws.births_are_counted.Goals as goal
-
-pub returns : goal.returns
-returns c = births_are_born

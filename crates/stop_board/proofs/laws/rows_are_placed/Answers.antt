@@ -1,5 +1,0 @@
-use Rattle.stop_board.proofs.Rosters.{placed}
-use Rattle.stop_board.proofs.laws.rows_are_placed.Goals as goal
-
-pub returns-clause-placed : goal.returns-clause-placed
-returns-clause-placed c = placed

@@ -1,9 +1,0 @@
-use Rattle.std.proofs.Common.{◌∙◌, ap, sym}
-use Rattle.stop_board.specs.History.{is_next_child}
-use Rattle.stop_board.proofs.Children.{next_is_few}
-use Rattle.stop_board.proofs.steps.bears_next.Goals as goal
-
-pub returns-in-Some-clause-few : goal.returns-in-Some-clause-few
-returns-in-Some-clause-few c = λ next child.
-    next_is_few c.args.rows.now c.requires.roster c.args.at c.args.births c.requires.row c.in-Some.tid
-    (ap (is_next_child c.args.rows.now c.args.at c.args.births) (sym c.place_of.ensures.place) ∙ sym c.is_next_child.ensures ∙ next)

@@ -1,0 +1,11 @@
+use Rattle.std.proofs.Common.{◌≡◌, ◌-◌, length}
+use Rattle.std.specs.List.{find, range_with_len}
+use Rattle.stop_history.specs.History.{holds_back}
+use Rattle.stop_history.specs.Word.{state_by}
+use Rattle.stop_board.proofs.words.holding_back.Given as goal
+
+-- no row so far holds the leader back
+abbrev pub invariant-loop-other : goal.invariant-loop-other
+invariant-loop-other l =
+    let test = holds_back l.rows (state_by l.rows l.words) l.at in
+    find test (range_with_len 0 (length l.rows)) ≡ find test (range_with_len l.other (length l.rows - l.other))

@@ -1,6 +1,0 @@
--- What the program keeps of a phase, as the layout's definition has it.
-use Rattle.stop_board.specs.declared.parts.Parts.{Parts}
-use Rattle.stop_board.specs.Layout.{Kept, kept}
-
-abbrev pub kept_in : Parts → Kept
-kept_in parts = kept parts.state parts.status parts.kind parts.signal parts.tracer

@@ -1,0 +1,116 @@
+//! The atomic steps of a tracee on the words of all rows.
+
+ghost use Rattle.std.specs.Prelude.{◌≡◌, ℕ, Result, length};
+ghost use Rattle.stop_board.specs.Action.{IsAction, TraceeReplies, restart_in, taken_by, tracee_change};
+ghost use Rattle.stop_history.specs.Change.{taken_up, words_with};
+ghost use Rattle.stop_history.specs.History.{bears_next, holding_back};
+ghost use Rattle.stop_history.specs.Roster.{IsRoster};
+ghost use Rattle.stop_history.specs.Sequential.{and_then, exit_by, publish_by, running_by};
+ghost use Rattle.stop_history.specs.Step.{died, published, with_word};
+ghost use Rattle.stop_history.specs.Word.{state_by, word_at};
+ghost use Rattle.stop_board.specs.World.{is_active, sight_by};
+ghost use Rattle.trace_record.specs.Death.{IsDeath};
+ghost use Rattle.trace_record.specs.Stop.{IsStop};
+
+use super::action::{Action, Reply};
+use super::look_at;
+use crate::words::{exit_at, publish_at, running, state_of};
+use stop_history::{Phase, Refused, Row, Word, taken_up};
+use trace_record::{Death, Kind, Resume, Stop};
+
+/// A step of the tracee of a row.
+pub(crate) fn tracee_step(rows: &[Row], words: &mut [Word], row: u32, action: Action) -> Reply
+    requires words { length words.old ≡ length rows.now }
+    requires roster { IsRoster rows.now }
+    requires action { IsAction action }
+    ensures reply { TraceeReplies rows.now (sight_by rows.now words.old) row action result }
+    ensures words { words.new ≡ words_with (tracee_change row action result) words.old }
+{
+    match action {
+        Action::Look(other) => look_at(rows, words, other),
+        Action::TakeUp => match take_up_at(rows, words, row) {
+            Ok(how) => Reply::Took(how),
+            Err(refusal) => Reply::Refused(refusal),
+        },
+        Action::Publish(stop) => match publish_taken(rows, words, row, stop) {
+            Ok(number) => Reply::Number(number),
+            Err(refusal) => Reply::Refused(refusal),
+        },
+        Action::Exit(death) => match exit_taken(rows, words, row, death) {
+            Ok(()) => Reply::Done,
+            Err(refusal) => Reply::Refused(refusal),
+        },
+        Action::Claim(_) | Action::Resume(..) => Reply::Refused(Refused::NoRow),
+    }
+}
+
+/// Takes a running row up: its tracee runs on by the restart that it is given.
+fn take_up_at(rows: &[Row], words: &mut [Word], row: u32) -> Result<Resume, Refused>
+    requires { length words.old ≡ length rows.now }
+    ensures answer { result ≡ and_then (running_by (state_by rows.now words.old row)) (restart_in (word_at words.old row).phase) }
+    ensures words { words.new ≡ with_word result words.old row (taken_up (word_at words.old row)) }
+{
+    running(state_of(rows, words, row))?;
+    let at = row as usize;
+    let word = words[at];
+    let how = restart_in(word.phase)?;
+    words[at] = taken_up(word);
+    Ok(how)
+}
+
+/// The restart that a row of this phase has to take up.
+fn restart_in(phase: Phase) -> Result<Resume, Refused>
+    ensures { result ≡ restart_in phase }
+{
+    match phase {
+        Phase::Fresh => Ok(Resume {
+            kind: Kind::Cont,
+            signal: 0,
+        }),
+        Phase::Resumed(how) => Ok(how),
+        Phase::Active
+        | Phase::Stopped { .. }
+        | Phase::Claimed { .. }
+        | Phase::Dead { .. }
+        | Phase::Reaped => Err(Refused::NotRunning),
+    }
+}
+
+/// Publishes the next stop of a row that its tracee has taken up.
+fn publish_taken(rows: &[Row], words: &mut [Word], row: u32, stop: Stop) -> Result<u32, Refused>
+    requires words { length words.old ≡ length rows.now }
+    requires stop { IsStop stop }
+    requires roster { IsRoster rows.now }
+    ensures answer { result ≡ and_then (taken_by (state_by rows.now words.old row) (is_active (word_at words.old row).phase))
+        (publish_by (state_by rows.now words.old row) (bears_next rows.now row (word_at words.old row).births stop) (word_at words.old row).number) }
+    ensures words { words.new ≡ with_word result words.old row (published (word_at words.old row) stop) }
+{
+    taken(rows, words, row)?;
+    publish_at(rows, words, row, stop)
+}
+
+/// Lets a row exit that its tracee has taken up.
+fn exit_taken(rows: &[Row], words: &mut [Word], row: u32, death: Death) -> Result<(), Refused>
+    requires words { length words.old ≡ length rows.now }
+    requires roster { IsRoster rows.now }
+    requires death { IsDeath death }
+    ensures answer { result ≡ and_then (taken_by (state_by rows.now words.old row) (is_active (word_at words.old row).phase))
+        (exit_by (holding_back rows.now (state_by rows.now words.old) row) (state_by rows.now words.old row)) }
+    ensures words { words.new ≡ with_word result words.old row (died (word_at words.old row) death) }
+{
+    taken(rows, words, row)?;
+    exit_at(rows, words, row, death)
+}
+
+/// Whether a row runs and its tracee has taken it up, or why not.
+fn taken(rows: &[Row], words: &[Word], row: u32) -> Result<(), Refused>
+    requires { length words.now ≡ length rows.now }
+    ensures { result ≡ taken_by (state_by rows.now words.now row) (is_active (word_at words.now row).phase) }
+{
+    running(state_of(rows, words, row))?;
+    let word = words[row as usize];
+    match word.phase {
+        Phase::Active => Ok(()),
+        _ => Err(Refused::NotTaken),
+    }
+}

@@ -1,0 +1,108 @@
+//! The atomic steps of a tracer on the words of all rows.
+
+ghost use Rattle.std.specs.Prelude.{◌≡◌, ◌+◌, ◌*◌, ◌<◌, ◌≤◌, ℕ, length};
+ghost use Rattle.std.specs.Option.{ForSome};
+ghost use Rattle.stop_board.specs.Action.{ClaimReplies, Exchanges, IsAction, TracerReplies, row_seen, tracer_change, waits};
+ghost use Rattle.stop_board.specs.declared.world.action.Action.TheVariants as action;
+ghost use Rattle.stop_history.specs.Change.{words_with};
+ghost use Rattle.stop_history.specs.declared.limits.TheConstants.{MOST_ROWS, TRACERS};
+ghost use Rattle.stop_history.specs.Word.{state_by, word_at};
+ghost use Rattle.stop_board.specs.World.{last_seen, seen_place, sight_by};
+
+use super::action::{Action, Reply};
+use super::look_at;
+use crate::words::{resume_at, state_of};
+use stop_history::{Phase, Refused, Row, State, Word, claimed};
+
+/// A step of a tracer, by the words that each tracer last saw in each row.
+pub(crate) fn tracer_step(
+    rows: &[Row],
+    words: &mut [Word],
+    seen: &[Word],
+    tracer: u32,
+    action: Action,
+) -> Reply
+    requires words { length words.old ≡ length rows.now }
+    requires few { length rows.now ≤ MOST_ROWS }
+    requires tracer { tracer < TRACERS }
+    requires seen { tracer * length rows.now + length rows.now ≤ length seen.now }
+    requires action { IsAction action }
+    ensures reply { TracerReplies rows.now (sight_by rows.now words.old) (last_seen rows.now seen.now tracer) tracer action result }
+    ensures words { words.new ≡ words_with (tracer_change (word_at words.old) tracer action result) words.old }
+    ensures row { ForSome (row_seen action result) (λ row. row < length rows.now) }
+{
+    match action {
+        Action::Look(row) => look_at(rows, words, row),
+        Action::Claim(row) => claim_seen(rows, words, seen, row, tracer),
+        Action::Resume(row, how) => match resume_at(rows, words, row, tracer, how) {
+            Ok(()) => Reply::Done,
+            Err(refusal) => Reply::Refused(refusal),
+        },
+        Action::TakeUp | Action::Publish(_) | Action::Exit(_) => Reply::Refused(Refused::NoRow),
+    }
+}
+
+/// Claims a row for a tracer, if its word is still the one that the tracer last saw there.
+fn claim_seen(rows: &[Row], words: &mut [Word], seen: &[Word], row: u32, tracer: u32) -> Reply
+    requires words { length words.old ≡ length rows.now }
+    requires few { length rows.now ≤ MOST_ROWS }
+    requires tracer { tracer < TRACERS }
+    requires seen { tracer * length rows.now + length rows.now ≤ length seen.now }
+    ensures reply { ClaimReplies (state_by rows.now words.old row) (last_seen rows.now seen.now tracer row) (word_at words.old row) result }
+    ensures words { words.new ≡ words_with (tracer_change (word_at words.old) tracer (action.Claim row) result) words.old }
+{
+    let at = row as usize;
+    if at >= rows.len() {
+        return Reply::Refused(Refused::NoRow);
+    }
+    if state_of(rows, words, row) == State::Unborn {
+        return Reply::Refused(Refused::Unborn);
+    }
+    let now = words[at];
+    let reply = exchange(seen[seen_place(rows, tracer, row)], now);
+    if let Reply::Got(_) = reply {
+        words[at] = claimed(now, tracer as u8);
+    }
+    reply
+}
+
+/// Where the word stands that a tracer last saw in a row: tracer by tracer, and row by row.
+pub(crate) fn seen_place(rows: &[Row], tracer: u32, row: u32) -> usize
+    requires few { length rows.now ≤ MOST_ROWS }
+    requires tracer { tracer < TRACERS }
+    ensures { result ≡ seen_place rows.now tracer row }
+{
+    tracer as usize * rows.len() + row as usize
+}
+
+/// What a claim that expects the word last seen says where it finds another one, or the same.
+fn exchange(last: Word, now: Word) -> Reply
+    ensures { Exchanges last now result }
+{
+    if !waits(last.phase) {
+        Reply::Refused(Refused::NotWaitable)
+    } else if last == now {
+        Reply::Got(now)
+    } else {
+        Reply::Missed(now)
+    }
+}
+
+/// Whether a row of this phase has a stop or a death to report.
+fn waits(phase: Phase) -> bool
+    ensures { result ≡ waits phase }
+{
+    matches!(phase, Phase::Stopped { .. } | Phase::Dead { .. })
+}
+
+/// The row whose word a tracer has seen by its action and the reply: it looked at it, missed it, or put it there.
+pub(crate) fn row_seen(action: Action, reply: &Reply) -> Option<u32>
+    ensures { result ≡ row_seen action reply.now }
+{
+    match (action, reply) {
+        (Action::Look(row), Reply::Word(_)) => Some(row),
+        (Action::Claim(row), Reply::Got(_) | Reply::Missed(_)) => Some(row),
+        (Action::Resume(row, _), Reply::Done) => Some(row),
+        _ => None,
+    }
+}

@@ -1,0 +1,14 @@
+pub mod AtomicSteps
+pub mod Births
+pub mod Children
+pub mod Claims
+pub mod Events
+pub mod Going
+pub mod LegalWords
+pub mod Longer
+pub mod Places
+pub mod Rosters
+pub mod Settled
+pub mod Standing
+pub mod States
+pub mod Words

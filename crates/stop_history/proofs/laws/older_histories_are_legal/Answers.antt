@@ -1,0 +1,5 @@
+use Rattle.stop_history.proofs.Claims.{legal_end}
+use Rattle.stop_history.proofs.laws.older_histories_are_legal.Goals as goal
+
+pub returns : goal.returns
+returns c = legal_end

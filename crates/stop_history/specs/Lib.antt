@@ -1,0 +1,17 @@
+pub mod Actor
+pub mod Change
+pub mod Event
+pub mod History
+pub mod Layout
+pub mod Parts
+pub mod Ranges
+pub mod Roster
+pub mod Sequential
+pub mod Standing
+pub mod State
+pub mod Step
+pub mod Word
+pub use Rattle.trace_record.specs.Death
+pub use Rattle.trace_record.specs.Resume
+pub use Rattle.trace_record.specs.Stop
+pub use Rattle.trace_status.specs.WaitStatus

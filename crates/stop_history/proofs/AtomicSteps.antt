@@ -1,6 +1,6 @@
 -- One atomic step on words that stand at a history: a change that the history allows keeps each row's word the word of
 -- its state after the longer history.
-use Rattle.std.proofs.Common.{refl, ◌≡◌, ◌≢◌, ◌<◌, ◌∷◌, [], ℕ, Bool, true, false, Some, List, length, set, slice_get, arith, ◌∙◌, sym, ap, inl, inr, eq-eqb, ne_eqb, slice_set, get_or-set_same, get_or-set_other, length-set}
+use Rattle.std.proofs.Common.{refl, ◌≡◌, ◌≢◌, ◌<◌, ◌∷◌, [], ℕ, Bool, true, false, Some, List, length, set, slice_get, ◌≤◌, slice_index, arith, ◌∙◌, sym, ap, inl, inr, eq-eqb, ne_eqb, slice_set, get_or-set_same, get_or-set_other, length-set}
 use Rattle.std.proofs.lemmas.Bool.{cases_Bool, cases_eq}
 use Rattle.std.proofs.lemmas.Option.{slice_get-get_or}
 use Rattle.stop_history.specs.declared.roster.Row.{Row}
@@ -14,7 +14,8 @@ use Rattle.stop_history.specs.State.{is_waitable, state_after}
 use Rattle.stop_history.specs.History.{Fits}
 use Rattle.stop_history.specs.Step.{claimed, claimed_by}
 use Rattle.stop_history.specs.Word.{claimed_phase, phase_in, word_after, word_at, word_in}
-use Rattle.stop_history.specs.Standing.{AreAt}
+use Rattle.stop_history.specs.Layout.{raw_of}
+use Rattle.stop_history.specs.Standing.{AreAt, AreBits, bits_with}
 use Rattle.stop_history.proofs.Events.{own_events, other_events}
 use Rattle.stop_history.proofs.Standing.{held_word}
 use Rattle.stop_history.specs.Change.{Happened, IsAllowed, Nothing, TakenUp, Change, history_with, taken_up, taken_with, word_behind, words_with}
@@ -74,7 +75,7 @@ claimed_left tracer (event.Exit row death ∷ es) = refl
 pub not_running : (rows : List Row) (h : History) (taken : ℕ → Bool) → ((row : ℕ) → taken row ≡ true → state_after rows h row ≡ state.Running) → (row : ℕ) → state_after rows h row ≢ state.Running → taken row ≡ false
 not_running rows h taken up row rests = elim (cases_Bool (taken row)) [ inl is_up ↦ absurd (rests (up row is_up)) | inr low ↦ low ]
 
-lowered : (rows : List Row) (h : History) (taken : ℕ → Bool) → ((row : ℕ) → taken row ≡ true → state_after rows h row ≡ state.Running) → (e : Event) → Fits rows h e → taken_with (Happened e) taken (subject e) ≡ false
+pub lowered : (rows : List Row) (h : History) (taken : ℕ → Bool) → ((row : ℕ) → taken row ≡ true → state_after rows h row ≡ state.Running) → (e : Event) → Fits rows h e → taken_with (Happened e) taken (subject e) ≡ false
 lowered rows h taken up (event.Publish row number stop) fits = rw (eq-eqb row row refl)
 lowered rows h taken up (event.Claim row number tracer) fits =
     not_running rows h taken up row (λ runs. let clash : is_waitable state.Running ≡ true = ap is_waitable (sym runs) ∙ fits.0 in cc)
@@ -82,7 +83,7 @@ lowered rows h taken up (event.Resume row number how tracer) fits =
     not_running rows h taken up row (λ runs. let clash : state.Running ≡ state.Claimed number tracer = sym runs ∙ fits in cc)
 lowered rows h taken up (event.Exit row death) fits = rw (eq-eqb row row refl)
 
-kept : (taken : ℕ → Bool) (e : Event) (row : ℕ) → row ≢ subject e → taken_with (Happened e) taken row ≡ taken row
+pub kept : (taken : ℕ → Bool) (e : Event) (row : ℕ) → row ≢ subject e → taken_with (Happened e) taken row ≡ taken row
 kept taken (event.Publish at number stop) row other = rw (ne_eqb row at other)
 kept taken (event.Claim at number tracer) row other = refl
 kept taken (event.Resume at number how tracer) row other = refl
@@ -142,8 +143,39 @@ change_stands rows words taken h at each (Happened e) fits =
     let within = fits_within rows h e fits in
     let low = lowered rows h taken at.up e fits in
     stands_on rows words taken (taken_with (Happened e) taken) h at each e fits within (word_behind (word_at words (subject e)) e)
-    (ap (λ (w : Word). word_behind w e) (held_word rows words taken h at each (subject e) within)
-    ∙ left_behind rows h taken at.up e fits
-    ∙ ap (word_in false) (sym (own_events (subject e) e h refl))
-    ∙ ap (λ b. word_in b (events_of (subject e) (e ∷ h))) (sym low))
+    (ap (λ (w : Word). word_behind w e) (held_word rows words taken h at each (subject e) within) ∙ sym (own_word rows h taken at.up e fits))
     low (kept taken e)
+
+-- ---- take-ups, and the bits of words
+
+pub taken_own : (taken : ℕ → Bool) (h : History) (row : ℕ) → word_after (taken_with (TakenUp row) taken) h row ≡ taken_up (word_after taken h row)
+taken_own taken h row =
+    let is_up : taken_with (TakenUp row) taken row ≡ true = rw (eq-eqb row row refl) in ap (λ b. word_in b (events_of row h)) is_up
+
+pub taken_other : (taken : ℕ → Bool) (h : History) (at row : ℕ) → row ≢ at → word_after (taken_with (TakenUp at) taken) h row ≡ word_after taken h row
+taken_other taken h at row apart =
+    let still : taken_with (TakenUp at) taken row ≡ taken row = rw (ne_eqb row at apart) in ap (λ b. word_in b (events_of row h)) still
+
+-- the bits of all rows, of which one is replaced
+replaced : (rows : List Row) (bits : List ℕ) (before after : ℕ → Word) (at : ℕ) (word : Word) → at < length rows → length rows ≤ length bits
+    → ((row : ℕ) → row < length rows → slice_index bits row ≡ raw_of (before row)) → word ≡ after at → ((row : ℕ) → row ≢ at → after row ≡ before row)
+    → (row : ℕ) → row < length rows → slice_index (slice_set bits at (raw_of word)) row ≡ raw_of (after row)
+replaced rows bits before after at word there long are own others row within =
+    elim (cases_eq row at) [
+      | inl same ↦
+          ap (slice_index (slice_set bits at (raw_of word))) same ∙ get_or-set_same bits at (raw_of word) 0 (omega arith)
+          ∙ ap raw_of (own ∙ ap after (sym same))
+      | inr other ↦ get_or-set_other bits at row (raw_of word) 0 other ∙ are row within ∙ ap raw_of (sym (others row other))
+    ]
+
+pub bits_stand : (rows : List Row) (bits : List ℕ) (taken : ℕ → Bool) (h : History)
+    → ((row : ℕ) → taken row ≡ true → state_after rows h row ≡ state.Running) → length rows ≤ length bits → AreBits rows bits taken h
+    → (change : Change) → IsAllowed rows h change → AreBits rows (bits_with change (word_after taken h) bits) (taken_with change taken) (history_with change h)
+bits_stand rows bits taken h up long are Nothing allowed = are
+bits_stand rows bits taken h up long are (TakenUp row) runs =
+    replaced rows bits (word_after taken h) (word_after (taken_with (TakenUp row) taken) h) row (taken_up (word_after taken h row))
+    (present rows h row (λ absent. let clash : state.Absent ≡ state.Running = sym absent ∙ runs in cc)) long are
+    (sym (taken_own taken h row)) (taken_other taken h row)
+bits_stand rows bits taken h up long are (Happened e) fits =
+    replaced rows bits (word_after taken h) (word_after (taken_with (Happened e) taken) (e ∷ h)) (subject e) (word_behind (word_after taken h (subject e)) e)
+    (fits_within rows h e fits) long are (sym (own_word rows h taken up e fits)) (other_word taken h e)

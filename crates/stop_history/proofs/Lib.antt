@@ -6,6 +6,7 @@ pub mod Events
 pub mod Going
 pub mod LegalWords
 pub mod Longer
+pub mod Over
 pub mod Places
 pub mod Rosters
 pub mod Settled

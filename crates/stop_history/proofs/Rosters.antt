@@ -1,12 +1,12 @@
 -- What the rows of a roster have to do with each other.
-use Rattle.std.proofs.Common.{refl, ◌≡◌, ◌+◌, ◌<◌, ◌≤◌, ◌++◌, ◌∷◌, [], ℕ, zero, suc, Bool, true, false, not, ◌&&◌, ◌||◌, Some, None, Option, List, length, take, is_some, arith, take-take, get_or-take, length-take, min, ◌∙◌, sym, ap, inl, inr, append_assoc, append-nil, eqb, eqb-true, eq-eqb, nat_le, if◌then◌else◌, leb-true, cond, count_by}
+use Rattle.std.proofs.Common.{refl, ◌≡◌, ◌+◌, ◌<◌, ◌≤◌, ◌++◌, ◌∷◌, [], ℕ, zero, suc, Bool, true, false, not, ◌&&◌, ◌||◌, Some, None, Option, List, length, take, is_some, arith, take-take, get_or-take, length-take, min, ◌∙◌, sym, ap, inl, inr, append_assoc, append-nil, eqb, eqb-true, eq-eqb, nat_le, if◌then◌else◌, leb-true, ltb-true, le-leb, nat_lt, length-append, cond, count_by}
 use Rattle.std.proofs.lemmas.Bool.{and_parts, cases_Bool, cases_order, not-false, or_cases}
 use Rattle.std.proofs.lemmas.List.Quantifiers.{position-Some}
 use Rattle.std.proofs.lemmas.List.Sums.{count_by_more_yes, sum_by-take-le}
 use Rattle.stop_history.specs.declared.roster.Row.{Row}
 use Rattle.stop_history.specs.declared.roster.RosterError.{RosterError}
 use Rattle.stop_history.specs.declared.roster.RosterError.TheVariants as fault
-use Rattle.stop_history.specs.Roster.{IsChild, IsPlaced, is_id, IsRoster, fault_after, family_fault, first_fault, has_ids, is_child_of, is_leader, is_root, nobody, or_later, parent_in, parent_of, rank_of, row_at, row_of, with_tid}
+use Rattle.stop_history.specs.Roster.{IsChild, IsPlaced, is_id, IsRoster, fault_after, family_fault, first_fault, has_ids, is_child_of, is_leader, is_root, nobody, or_later, parent_in, push_fault, parent_of, rank_of, row_at, row_of, with_tid}
 use Rattle.stop_history.specs.declared.limits.TheConstants.{LAST_ID, MOST_ROWS}
 use Rattle.stop_history.proofs.Places.{fails_each, first_place, found_in_front}
 
@@ -180,3 +180,33 @@ placed rows roster row within = record {
       let known = parent_of-Some rows roster row parent within of_parent in
       (known.before, child_of_parent (row_at rows parent) (row_at rows row) (sym known.tid) known.family);
 }
+
+-- ---- one more row
+
+none_both : (first later : Option RosterError) → first ≡ None → later ≡ None → or_later first later ≡ None
+none_both None later first_none later_none = later_none
+none_both (Some fault) later first_none later_none = cc
+
+grows : (before rows : List Row) (row : Row) → first_fault before rows ≡ None → fault_after (before ++ rows) row ≡ None
+    → first_fault before (rows ++ row ∷ []) ≡ None
+grows before [] row fine fits = none_both (fault_after before row) None (ap (λ b. fault_after b row) (sym (append-nil before)) ∙ fits) refl
+grows before (first ∷ rows) row fine fits =
+    let parts = both_none (fault_after before first) (first_fault (before ++ first ∷ []) rows) fine in
+    none_both (fault_after before first) (first_fault (before ++ first ∷ []) (rows ++ row ∷ [])) parts.0
+    (grows (before ++ first ∷ []) rows row parts.1 (ap (λ b. fault_after b row) (append_assoc before (first ∷ []) rows) ∙ fits))
+
+room : (b : Bool) (many : RosterError) → cond b None (Some many) ≡ None → b ≡ true
+room true many h = refl
+room false many h = cc
+
+-- a roster is one still with one more row that has no fault
+pub one_more : (rows : List Row) (row : Row) → IsRoster rows → push_fault rows row ≡ None → IsRoster (rows ++ row ∷ [])
+one_more rows row roster none =
+    let parts = both_none (fault_after rows row) (cond (nat_lt (length rows) MOST_ROWS) None (Some fault.TooMany)) none in
+    let there : length rows < MOST_ROWS = ltb-true _ _ (room (nat_lt (length rows) MOST_ROWS) fault.TooMany parts.1) in
+    let few : length (rows ++ row ∷ []) ≤ MOST_ROWS = omega (arith, length-append rows (row ∷ [])) in
+    rw (le-leb _ _ few) (grows [] rows row (few_or_none _ _ _ roster).1 parts.0)
+
+pub no_fault : (found : Option RosterError) → ((fault : RosterError) → found ≡ Some fault → ⊥) → found ≡ None
+no_fault None none = refl
+no_fault (Some fault) none = absurd (none fault refl)

@@ -73,7 +73,7 @@ claim_is_not_unborn number tracer (event.Resume row n how other ∷ es) h = cc
 claim_is_not_unborn number tracer (event.Exit row death ∷ es) h = cc
 
 -- an unborn row has no event, and its parent has borne nobody of its tid
-unborn_is : (born : Bool) (es : List Event) → state_in born es ≡ state.Unborn → (born ≡ false) × (es ≡ [])
+pub unborn_is : (born : Bool) (es : List Event) → state_in born es ≡ state.Unborn → (born ≡ false) × (es ≡ [])
 unborn_is true [] h = cc
 unborn_is false [] h = (refl, refl)
 unborn_is born (event.Publish row number stop ∷ es) h = cc
@@ -114,7 +114,7 @@ unborn_stays rows h e row parent fits unborn of_parent why =
 
 -- ---- who is settled
 
-settled_rests : (rows : List Row) (beside : Option ℕ) (h : History) (row : ℕ) → IsSettled rows beside h row → state_after rows h row ≢ state.Running
+pub settled_rests : (rows : List Row) (beside : Option ℕ) (h : History) (row : ℕ) → IsSettled rows beside h row → state_after rows h row ≢ state.Running
 settled_rests rows beside h _ (ended row over) runs = let clash : is_ended state.Running ≡ true = ap is_ended (sym runs) ∙ over in cc
 settled_rests rows beside h _ (unborn_beside row parent unborn of_parent is) runs = let clash : state.Unborn ≡ state.Running = sym unborn ∙ runs in cc
 settled_rests rows beside h _ (unborn_below row parent unborn of_parent below) runs = let clash : state.Unborn ≡ state.Running = sym unborn ∙ runs in cc

@@ -3,6 +3,7 @@ pub mod Change
 pub mod Event
 pub mod History
 pub mod Layout
+pub mod Over
 pub mod Parts
 pub mod Ranges
 pub mod Roster

@@ -1,6 +1,6 @@
 -- Rosters: the rows of all tracees. A row has the ids that Linux gives a thread (gettid(2), getpid(2),
 -- getpgid(2)) and its parent's tid, or 0 for a root. Each parent stands before its children.
-use Rattle.std.specs.Prelude.{◌≡◌, ◌⊎◌, ◌<◌, ◌≤◌, ◌==◌, ◌&&◌, ◌||◌, ◌++◌, ◌∷◌, [], ℕ, Bool, not, nat_le, List, length, take, Option, Some, None, is_some, if◌then◌else◌, find, position, count_by, slice_index_or}
+use Rattle.std.specs.Prelude.{◌≡◌, ◌⊎◌, ◌<◌, ◌≤◌, ◌==◌, ◌&&◌, ◌||◌, ◌++◌, ◌∷◌, [], ℕ, Bool, not, nat_le, nat_lt, List, length, take, Option, Some, None, is_some, if◌then◌else◌, find, position, count_by, slice_index_or}
 use Rattle.stop_history.specs.declared.limits.TheConstants.{LAST_ID, MOST_ROWS}
 use Rattle.stop_history.specs.declared.roster.Row.{Row}
 use Rattle.stop_history.specs.declared.roster.RosterError.{RosterError}
@@ -55,6 +55,10 @@ first_fault before (row ∷ rows) = or_later (fault_after before row) (first_fau
 
 abbrev pub roster_fault : List Row → Option RosterError
 roster_fault rows = if nat_le (length rows) MOST_ROWS then first_fault [] rows else Some fault.TooMany
+
+-- the fault of one more row of a roster: its own, otherwise that there is no room for it
+abbrev pub push_fault : List Row → Row → Option RosterError
+push_fault rows row = or_later (fault_after rows row) (if nat_lt (length rows) MOST_ROWS then None else Some fault.TooMany)
 
 abbrev pub IsRoster : List Row → Type 0
 IsRoster rows = roster_fault rows ≡ None

@@ -1,6 +1,6 @@
 //! Laws of the definitions: each function is its contract alone.
 
-ghost use Rattle.std.specs.Prelude.{◌≡◌, ◌≢◌, ◌∷◌, ◌⊎◌, ◌<◌, ◌≤◌, ◌++◌, [], ℕ, Bool, true, false, List, Option, Some, length, count_by, nat_lt};
+ghost use Rattle.std.specs.Prelude.{◌≡◌, ◌==◌, ◌≢◌, ◌∷◌, ◌⊎◌, ◌<◌, ◌≤◌, ◌++◌, [], ℕ, Bool, true, false, List, Option, Some, length, count_by, nat_lt};
 ghost use Rattle.std.specs.List.{range_with_len};
 ghost use Rattle.stop_history.specs.declared.roster.Row.{Row};
 ghost use Rattle.stop_history.specs.declared.actor.Actor.{Actor};
@@ -8,14 +8,16 @@ ghost use Rattle.stop_history.specs.declared.actor.Actor.TheVariants as actor;
 ghost use Rattle.stop_history.specs.declared.phase.Phase.TheVariants as phase;
 ghost use Rattle.stop_history.specs.declared.state.State.TheVariants as state;
 ghost use Rattle.stop_history.specs.Actor.{IsQuiet, actor_of, is_moved_by, mover_of};
-ghost use Rattle.stop_history.specs.Change.{Change, Happened, IsAllowed, history_with, taken_with, word_behind, words_with};
+ghost use Rattle.stop_history.specs.Change.{Change, Happened, IsAllowed, TakenUp, history_with, taken_up, taken_with};
+ghost use Rattle.stop_history.specs.Change.{word_behind, words_with};
 ghost use Rattle.stop_history.specs.Event.{Event, History, events_of, subject};
-ghost use Rattle.stop_history.specs.Roster.{IsPlaced, IsRoster, parent_of, rank_of};
+ghost use Rattle.stop_history.specs.Roster.{IsPlaced, IsRoster, parent_of, rank_of, row_at};
 ghost use Rattle.stop_history.specs.declared.limits.TheConstants.{MOST_ROWS};
 ghost use Rattle.stop_history.specs.State.{is_born, is_waitable, state_after};
 ghost use Rattle.stop_history.specs.Layout.{raw_of};
 ghost use Rattle.stop_history.specs.Ranges.{AreEvents};
-ghost use Rattle.stop_history.specs.Standing.{AreAt};
+ghost use Rattle.stop_history.specs.Over.{IsClosed, IsOver, is_gone};
+ghost use Rattle.stop_history.specs.Standing.{AreAt, AreBits, bits_with};
 ghost use Rattle.stop_history.specs.Word.{IsWord, Word, phase_in, word_after};
 ghost use Rattle.stop_history.specs.History.{Fits, IsLegal, IsSettled, IsSilent, WasClaimed, births_after, is_born_child, stop_claims_in};
 
@@ -113,4 +115,42 @@ pub fn a_stop_is_claimed_once()
 /// Two words in range that have the same 64 bits are one.
 pub fn words_are_one_to_one()
     ensures { (v w : Word) → IsWord v → IsWord w → raw_of v ≡ raw_of w → v ≡ w }
+{}
+
+/// A take-up makes its row's word active, and leaves every other row's word as it was.
+pub fn a_take_up_changes_its_row_alone()
+    ensures own { (taken : ℕ → Bool) (h : History) (row : ℕ) →
+        word_after (taken_with (TakenUp row) taken) h row ≡ taken_up (word_after taken h row) }
+    ensures other { (taken : ℕ → Bool) (h : History) (at row : ℕ) → row ≢ at →
+        word_after (taken_with (TakenUp at) taken) h row ≡ word_after taken h row }
+{}
+
+/// One atomic step on the bits of words, as a table of numbers keeps them: where the history allows the change, each row
+/// has the bits of the word that the longer history leaves. What the table keeps after the rows is left alone.
+pub fn atomic_steps_keep_bits()
+    ensures { (rows : List Row) (bits : List ℕ) (taken : ℕ → Bool) (h : History) →
+        ((row : ℕ) → taken row ≡ true → state_after rows h row ≡ state.Running) →
+        length rows ≤ length bits → AreBits rows bits taken h → (change : Change) → IsAllowed rows h change →
+        AreBits rows (bits_with change (word_after taken h) bits) (taken_with change taken) (history_with change h) }
+{}
+
+/// With each row of a process group its parent is one: a child keeps its parent's process group (fork(2)).
+pub fn process_groups_are_closed()
+    ensures { (rows : List Row) → IsRoster rows → (pgid : ℕ) → IsClosed rows (λ row. (row_at rows row).pgid == pgid) }
+{}
+
+/// A row that is gone is over, where the selected rows before it are and each selected row's parent is selected.
+pub fn closed_rows_are_over_together()
+    ensures { (rows : List Row) → IsRoster rows → (selected : ℕ → Bool) → IsClosed rows selected → (deaths : Bool) (h : History) →
+        (row : ℕ) → row < length rows → selected row ≡ true →
+        ((before : ℕ) → before < row → selected before ≡ true → IsOver rows deaths h before) →
+        is_gone deaths (state_after rows h row) ≡ true → IsOver rows deaths h row }
+{}
+
+/// What is over stays over and is gone, whatever happens: so "no child is left to wait for" is final (waitid(2), ECHILD).
+pub fn over_stays_over()
+    ensures over { (rows : List Row) (deaths : Bool) (more h : History) → IsLegal rows (more ++ h) →
+        (row : ℕ) → IsOver rows deaths h row → IsOver rows deaths (more ++ h) row }
+    ensures gone { (rows : List Row) (deaths : Bool) (h : History) (row : ℕ) → IsOver rows deaths h row →
+        is_gone deaths (state_after rows h row) ≡ true }
 {}

@@ -1,11 +1,15 @@
 //! The roster: the rows of all tracees.
 
-ghost use Rattle.std.specs.Prelude.{◌≡◌, ◌<◌, ◌≤◌, ℕ, List, length, IfOk, IfSome, IsOkUnless, slice_get};
-ghost use Rattle.stop_history.specs.Roster.{family_fault, fault_after, has_ids, is_child_of, is_id, is_leader, is_root, parent_in, parent_of};
-ghost use Rattle.stop_history.specs.Roster.{rank_of, roster_fault, row_of, with_tid};
+ghost use Rattle.std.specs.Prelude.{◌≡◌, ◌<◌, ◌++◌, ◌∷◌, [], ℕ, length, IfOk, IsOkUnless, OnErr, OnOk, slice_get};
 
-use crate::limits::{LAST_ID, MOST_ROWS};
-use std::alloc::{AllocError, Allocator, Global};
+mod families;
+mod faults;
+
+pub use families::{is_leader, parent_place, place_of, rank};
+pub use faults::fault_after;
+
+use faults::{fault_of, push_fault};
+use std::alloc::{AllocError, AllocFailed, Allocator, Global};
 use std::marker::Model;
 use trace_pages::NoMemory;
 
@@ -47,7 +51,17 @@ impl From<AllocError> for RosterError {
     }
 }
 
-/// So that one call may make a roster and what stands on it, as a board, by `?`.
+impl<T: Drop> From<AllocFailed<T>> for RosterError {
+    ghost use Rattle.stop_history.specs.declared.roster.RosterError.TheVariants as fault;
+
+    ghost from_gives = { λ _ e. e ≡ fault.NoMemory };
+
+    fn from(_error: AllocFailed<T>) -> RosterError {
+        RosterError::NoMemory
+    }
+}
+
+/// So that one call may make a roster and a board of it by `?`.
 impl From<NoMemory> for RosterError {
     ghost use Rattle.stop_history.specs.declared.roster.RosterError.TheVariants as fault;
 
@@ -96,7 +110,32 @@ impl<A: Allocator + Copy> Roster<A> {
 }
 
 impl<A: Allocator> Roster<A> {
-    ghost use Rattle.stop_history.specs.Roster.{IsRoster, row_of};
+    ghost use Rattle.stop_history.specs.Roster.{IsRoster, push_fault, row_of};
+    ghost use Rattle.stop_history.specs.declared.roster.RosterError.{RosterError};
+
+    /// A roster of no rows. It takes no memory.
+    pub fn empty(alloc: A) -> Roster<A>
+        ensures { result ≡ [] }
+    {
+        Roster {
+            rows: Vec::new(alloc),
+        }
+    }
+
+    /// Adds a row after the others, or answers its first fault and leaves the roster as it was. The faults of the row
+    /// itself come before `TooMany`; in `new`, which is handed all rows at once, `TooMany` comes first.
+    pub fn push(&mut self, row: Row) -> Result<(), RosterError>
+        ensures ok { OnOk result (self.new ≡ self.old ++ row ∷ []) }
+        ensures fault { (fault : RosterError) → push_fault self.old row ≡ Some fault → result ≡ Err fault }
+        ensures accepted { push_fault self.old row ≡ None → IsOkUnless result RosterError.NoMemory }
+        ensures err { OnErr result (self.new ≡ self.old) }
+    {
+        if let Some(fault) = push_fault(self.rows.as_slice(), row) {
+            return Err(fault);
+        }
+        self.rows.push(row)?;
+        Ok(())
+    }
 
     /// How many rows there are, at most 64.
     pub fn len(&self) -> u32
@@ -127,130 +166,4 @@ impl<A: Allocator> Roster<A> {
     {
         self.rows.as_slice()
     }
-}
-
-/// The first fault of rows that are to be a roster.
-fn fault_of(rows: &[Row]) -> Option<RosterError>
-    ensures { result ≡ roster_fault rows.now }
-{
-    if rows.len() > MOST_ROWS {
-        return Some(RosterError::TooMany);
-    }
-    for (i, row) in rows.iter().enumerate() {
-        let fault = fault_after(&rows[..i], *row);
-        if fault.is_some() {
-            return fault;
-        }
-    }
-    None
-}
-
-/// The fault of a row behind those before it, if it has one. At most 64 rows stand before it.
-pub fn fault_after(before: &[Row], row: Row) -> Option<RosterError>
-    requires { length before.now ≤ MOST_ROWS }
-    ensures { result ≡ fault_after before.now row }
-{
-    let at = before.len() as u32;
-    if !has_ids(row) {
-        return Some(RosterError::Number(at));
-    }
-    if with_tid(before, row.tid).is_some() {
-        return Some(RosterError::Twice(at));
-    }
-    family_fault(at, row, parent_in(before, row))
-}
-
-/// The fault of a row beside its parent, if it has one.
-fn family_fault(at: u32, row: Row, parent: Option<Row>) -> Option<RosterError>
-    ensures { result ≡ family_fault at row parent }
-{
-    match parent {
-        None if !is_root(row) => Some(RosterError::ParentLater(at)),
-        None if is_leader(row) => None,
-        Some(parent) if is_child_of(parent, row) => None,
-        _ => Some(RosterError::GroupMismatch(at)),
-    }
-}
-
-/// The row's parent among those before it.
-fn parent_in(before: &[Row], row: Row) -> Option<Row>
-    ensures { result ≡ parent_in before.now row }
-{
-    if is_root(row) {
-        None
-    } else {
-        with_tid(before, row.parent)
-    }
-}
-
-/// The first row of a thread id.
-fn with_tid(rows: &[Row], tid: u32) -> Option<Row>
-    ensures { result ≡ with_tid rows.now tid }
-{
-    rows.iter().copied().find(|q| q.tid == tid)
-}
-
-/// Whether each id is in range.
-fn has_ids(row: Row) -> bool
-    ensures { result ≡ has_ids row }
-{
-    is_id(row.tid) && is_id(row.tgid) && is_id(row.pgid) && (is_root(row) || is_id(row.parent))
-}
-
-/// Whether a number is an id.
-fn is_id(number: u32) -> bool
-    ensures { result ≡ is_id number }
-{
-    1 <= number && number <= LAST_ID
-}
-
-/// Whether a row has no parent.
-fn is_root(row: Row) -> bool
-    ensures { result ≡ is_root row }
-{
-    row.parent == 0
-}
-
-/// Whether a row leads its thread group.
-pub fn is_leader(row: Row) -> bool
-    ensures { result ≡ is_leader row }
-{
-    row.tgid == row.tid
-}
-
-/// Whether a row's groups are those that a child of this parent has.
-fn is_child_of(parent: Row, row: Row) -> bool
-    ensures { result ≡ is_child_of parent row }
-{
-    (is_leader(row) || row.tgid == parent.tgid) && row.pgid == parent.pgid
-}
-
-/// The place of the first row of a thread id, in rows that may not be a roster yet.
-pub fn place_of(rows: &[Row], tid: u32) -> Option<usize>
-    ensures place { result ≡ row_of rows.now tid }
-    ensures within { IfSome result (λ i. i < length rows.now) }
-{
-    rows.iter().position(|q| q.tid == tid)
-}
-
-/// The place of a row's parent.
-pub fn parent_place(rows: &[Row], at: usize) -> Option<usize>
-    requires { at < length rows.now }
-    ensures { result ≡ parent_of rows.now at }
-{
-    let row = rows[at];
-    if is_root(row) {
-        None
-    } else {
-        place_of(rows, row.parent)
-    }
-}
-
-/// A row's place among the rows of its parent.
-pub fn rank(rows: &[Row], at: usize) -> usize
-    requires { at < length rows.now }
-    ensures { result ≡ rank_of rows.now at }
-{
-    let parent = rows[at].parent;
-    rows[..at].iter().filter(|q| q.parent == parent).count()
 }

@@ -1,6 +1,6 @@
 use Rattle.std.proofs.Common.{◌≡◌, [], take, drop}
 use Rattle.stop_history.specs.Roster.{first_fault}
-use Rattle.stop_history.proofs.roster.fault_of.Given as goal
+use Rattle.stop_history.proofs.roster.faults.fault_of.Given as goal
 
 -- no row so far has a fault
 abbrev pub invariant-loop-i : goal.invariant-loop-i

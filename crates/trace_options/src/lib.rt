@@ -10,7 +10,7 @@ mod options;
 mod signal;
 mod wait_flags;
 
-pub use call_set::CallSet;
+pub use call_set::{CallSet, NAMED_CALLS};
 pub use errno::Errno;
 pub use event::Event;
 pub use filter::Filter;

@@ -6,7 +6,9 @@ use Rattle.trace_options.specs.declared.event.Event.{Event}
 use Rattle.trace_options.specs.declared.signal.TheConstants.{LAST_SIGNAL}
 use Rattle.trace_status.specs.declared.wait_status.TheConstants.{CORE_DUMPED, SIGTRAP, STOPPED, SYSCALL_TRAP}
 use Rattle.trace_status.specs.declared.wait_status.WaitStatus.{WaitStatus}
-use Rattle.trace_status.specs.declared.wait_status.WaitStatus.TheVariants.{Exited, Signaled, Stopped, PtraceEvent, PtraceSyscall, StillAlive}
+use Rattle.trace_status.specs.declared.wait_status.WaitStatus.TheVariants.{Exited, Signaled, Stopped}
+use Rattle.trace_status.specs.declared.wait_status.WaitStatus.TheVariants.{PtraceEvent, PtraceSyscall}
+use Rattle.trace_status.specs.declared.wait_status.WaitStatus.TheVariants.{StillAlive}
 
 -- a signal of Linux on x86-64, the real-time signals among them (signal(7))
 abbrev pub IsSignal : ℕ → Type 0
@@ -21,7 +23,8 @@ abbrev pub Encodes : WaitStatus → ℕ → Type 0
 Encodes (Exited pid code) raw = (code < 256) × (raw ≡ code * 0x100)
 Encodes (Signaled pid signal core) raw = IsSignal signal × (raw ≡ signal + (if core then CORE_DUMPED else 0))
 Encodes (Stopped pid signal) raw = IsSignal signal × (raw ≡ signal * 0x100 + STOPPED)
-Encodes (PtraceEvent pid signal event) raw = (signal ≡ SIGTRAP) × IsEvent event × (raw ≡ event * 0x10000 + (SIGTRAP * 0x100 + STOPPED))
+Encodes (PtraceEvent pid signal event) raw =
+    (signal ≡ SIGTRAP) × IsEvent event × (raw ≡ event * 0x10000 + (SIGTRAP * 0x100 + STOPPED))
 Encodes (PtraceSyscall pid) raw = raw ≡ SYSCALL_TRAP * 0x100 + STOPPED
 Encodes StillAlive raw = ⊥
 

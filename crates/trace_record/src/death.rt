@@ -2,10 +2,7 @@
 
 ghost use Rattle.std.specs.Prelude.{◌≡◌, IfSome, Some};
 
-use trace_status::{WaitStatus, decode};
-
-/// The bit of a core dump beside the signal that killed (wait(2), `WCOREDUMP`).
-const CORE_DUMPED: u8 = 0x80;
+use trace_status::{CORE_DUMPED, WaitStatus, decode};
 
 /// How a tracee ended (wait(2)).
 #[derive(Clone, Copy, Debug, PartialEq, Eq, Hash)]

@@ -18,14 +18,20 @@ IsSignal signal = (1 ≤ signal) × (signal ≤ LAST_SIGNAL)
 abbrev pub IsEvent : ℕ → Type 0
 IsEvent number = (event : Event) × (code_of event ≡ number)
 
+-- the raw value of a stop by a signal, which is in the second byte, and of an event stop, whose event is in the third
+abbrev pub raw_stop : ℕ → ℕ
+raw_stop signal = signal * 0x100 + STOPPED
+
+abbrev pub raw_event : ℕ → ℕ
+raw_event event = event * 0x10000 + raw_stop SIGTRAP
+
 -- wait(2) reports this status by this raw value
 abbrev pub Encodes : WaitStatus → ℕ → Type 0
 Encodes (Exited pid code) raw = (code < 256) × (raw ≡ code * 0x100)
 Encodes (Signaled pid signal core) raw = IsSignal signal × (raw ≡ signal + (if core then CORE_DUMPED else 0))
-Encodes (Stopped pid signal) raw = IsSignal signal × (raw ≡ signal * 0x100 + STOPPED)
-Encodes (PtraceEvent pid signal event) raw =
-    (signal ≡ SIGTRAP) × IsEvent event × (raw ≡ event * 0x10000 + (SIGTRAP * 0x100 + STOPPED))
-Encodes (PtraceSyscall pid) raw = raw ≡ SYSCALL_TRAP * 0x100 + STOPPED
+Encodes (Stopped pid signal) raw = IsSignal signal × (raw ≡ raw_stop signal)
+Encodes (PtraceEvent pid signal event) raw = (signal ≡ SIGTRAP) × IsEvent event × (raw ≡ raw_event event)
+Encodes (PtraceSyscall pid) raw = raw ≡ raw_stop SYSCALL_TRAP
 Encodes StillAlive raw = ⊥
 
 -- the tracee that a status speaks of

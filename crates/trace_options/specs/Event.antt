@@ -1,7 +1,8 @@
 -- The events of ptrace(2), "PTRACE_EVENT stops", and their numbers (<sys/ptrace.h>).
 use Rattle.std.specs.Prelude.{ℕ}
 use Rattle.trace_options.specs.declared.event.Event.{Event}
-use Rattle.trace_options.specs.declared.event.Event.TheVariants.{Fork, Vfork, Clone, Exec, VforkDone, Exit, Seccomp, Stop}
+use Rattle.trace_options.specs.declared.event.Event.TheVariants.{Fork, Vfork, Clone, Exec, VforkDone, Exit}
+use Rattle.trace_options.specs.declared.event.Event.TheVariants.{Seccomp, Stop}
 
 -- the number of an event
 abbrev pub code_of : Event → ℕ

@@ -5,12 +5,15 @@ ghost use Rattle.trace_options.specs.Calls.{has_call};
 
 use std::marker::Model;
 
-/// A set of system calls: any numbers below 128, or every number.
+/// How many system calls a set tells apart: the numbers below this one. All others are in a set, or none of them.
+pub const NAMED_CALLS: u64 = 128;
+
+/// A set of system calls: any numbers below [`NAMED_CALLS`], or every number.
 #[derive(Clone, Copy, Debug, PartialEq, Eq, Hash)]
 pub struct CallSet {
-    /// The numbers below 128, each by its bit.
+    /// The numbers below `NAMED_CALLS`, each by its bit.
     named: u128,
-    /// Whether all numbers from 128 on are in the set.
+    /// Whether all other numbers are in the set.
     others: bool,
 }
 
@@ -25,7 +28,7 @@ impl Model for CallSet {
 }
 
 impl CallSet {
-    /// The set of every number, also of those from 128 on.
+    /// The set of every number, also of those from `NAMED_CALLS` on.
     pub fn all() -> CallSet
         ensures { (nr : ℕ) → has_call result nr ≡ true }
     {
@@ -47,7 +50,7 @@ impl CallSet {
 
     /// Adds the system call `nr` to the set.
     pub fn add(&mut self, nr: u64)
-        requires { nr < 128 }
+        requires { nr < NAMED_CALLS }
         ensures { (other : ℕ) → has_call self.new other ≡ (other == nr || has_call self.old other) }
     {
         self.named |= 1 << nr;
@@ -57,7 +60,7 @@ impl CallSet {
     pub fn contains(&self, nr: u64) -> bool
         ensures { result ≡ has_call self.now nr }
     {
-        if nr < 128 {
+        if nr < NAMED_CALLS {
             self.named >> nr & 1 == 1
         } else {
             self.others

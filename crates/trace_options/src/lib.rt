@@ -7,13 +7,15 @@ mod errno;
 mod event;
 mod filter;
 mod options;
+mod signal;
 mod wait_flags;
 
-pub use call_set::CallSet;
+pub use call_set::{CallSet, NAMED_CALLS};
 pub use errno::Errno;
 pub use event::Event;
 pub use filter::Filter;
 pub use options::{Options, check};
+pub use signal::LAST_SIGNAL;
 pub use wait_flags::WaitFlags;
 
 #[cfg(test)]

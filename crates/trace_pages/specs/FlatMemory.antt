@@ -1,10 +1,15 @@
 -- Flat memory: a finite map from address to byte. An address is a number below 2^64.
 use Rattle.std.specs.Prelude.{◌≡◌, ◌+◌, ◌-◌, ◌%◌, ◌^◌, ℕ, Bool, ◌&&◌, nat_lt, nat_le, if◌then◌else◌, Option, Some, None, List, [], ◌∷◌, zero, suc, length, slice_index, EachIndex}
+use Rattle.std.specs.Coded.{Coded, coded_ℕ}
 use Rattle.std.specs.Ordering.{nat_cmp}
 use Rattle.std.specs.FinMap as finite
 
 abbrev pub FlatMemory : Type 0
 FlatMemory = finite.FinMap nat_cmp ℕ
+
+-- its code, for the Model of what holds one
+abbrev pub flat_code : Coded FlatMemory
+flat_code = finite.code coded_ℕ coded_ℕ
 
 -- the byte at an address, where one is mapped
 abbrev pub byte_at : FlatMemory → ℕ → Option ℕ

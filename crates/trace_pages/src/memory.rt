@@ -23,14 +23,12 @@ pub struct Memory<A: Allocator = Global> {
 }
 
 impl<A: Allocator> Model for Memory<A> {
-    ghost use Rattle.std.specs.Coded.{coded_ℕ};
-    ghost use Rattle.std.specs.FinMap as finite;
-    ghost use Rattle.trace_pages.specs.FlatMemory.{FlatMemory};
+    ghost use Rattle.trace_pages.specs.FlatMemory.{FlatMemory, flat_code};
     ghost use Rattle.trace_pages.specs.Pages.{ArePages, flat_of};
 
     ghost Value = { FlatMemory };
 
-    ghost coded = { finite.code coded_ℕ coded_ℕ };
+    ghost coded = { flat_code };
 
     ghost view = { λ m. flat_of m.pages.items m.bytes.items };
 

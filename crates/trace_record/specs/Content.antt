@@ -12,6 +12,7 @@ use Rattle.trace_status.specs.declared.syscall_info.Part.{Part}
 use Rattle.trace_status.specs.declared.syscall_info.Part.TheVariants as part
 use Rattle.trace_record.specs.declared.stop.Stop.{Stop}
 use Rattle.trace_record.specs.declared.stop.Stop.TheVariants.{Start, Enter, Exit, Seccomp, Fork, Clone, Exec, Signal}
+use Rattle.trace_record.specs.declared.stop_record.TheConstants.{AUDIT_ARCH_X86_64}
 
 -- the content: whose stop it is, its number, the stop, the registers and the flat memory there
 pub record Content : Type 0 where
@@ -22,7 +23,8 @@ pub record Content : Type 0 where
   pub memory : FlatMemory
 
 abbrev pub content_by : ℕ → ℕ → Stop → Regs → FlatMemory → Content
-content_by tid number stop regs memory = record { tid = tid; number = number; stop = stop; regs = regs; memory = memory }
+content_by tid number stop regs memory =
+    record { tid = tid; number = number; stop = stop; regs = regs; memory = memory }
 
 -- registers that are all 0
 abbrev pub zero_regs : Regs
@@ -71,9 +73,9 @@ part_of (Clone child) regs = part.Quiet
 part_of (Exec former) regs = part.Quiet
 part_of (Signal signal) regs = part.Quiet
 
--- the information of a stop; the architecture is x86-64's (<linux/audit.h>, AUDIT_ARCH_X86_64)
+-- the information of a stop
 abbrev pub info_of : Stop → Regs → SyscallInfo
-info_of stop regs = record { arch = 0xC000003E; ip = regs.rip; sp = regs.rsp; part = part_of stop regs }
+info_of stop regs = record { arch = AUDIT_ARCH_X86_64; ip = regs.rip; sp = regs.rsp; part = part_of stop regs }
 
 -- the event message of a stop (ptrace(2), PTRACE_GETEVENTMSG)
 abbrev pub message_of : Stop → ℕ

@@ -1,9 +1,10 @@
 -- The stops of a tracee, and the wait status that tells each (ptrace(2), "Syscall-stops", "PTRACE_EVENT stops",
 -- "Signal-delivery-stop").
-use Rattle.std.specs.Prelude.{◌+◌, ◌*◌, ℕ, Option, Some, None}
+use Rattle.std.specs.Prelude.{ℕ, Option, Some, None}
 use Rattle.trace_options.specs.Event.{code_of}
 use Rattle.trace_options.specs.declared.event.Event.TheVariants as event
-use Rattle.trace_status.specs.WaitStatus.{IsSignal}
+use Rattle.trace_status.specs.WaitStatus.{IsSignal, raw_event, raw_stop}
+use Rattle.trace_status.specs.declared.wait_status.TheConstants.{SIGTRAP, SYSCALL_TRAP}
 use Rattle.trace_status.specs.declared.wait_status.WaitStatus.{WaitStatus}
 use Rattle.trace_status.specs.declared.wait_status.WaitStatus.TheVariants.{Stopped, PtraceEvent, PtraceSyscall}
 use Rattle.trace_record.specs.declared.stop.Stop.{Stop}
@@ -11,25 +12,25 @@ use Rattle.trace_record.specs.declared.stop.Stop.TheVariants.{Start, Enter, Exit
 
 -- the wait status that a wait for the tracee pid answers at a stop
 abbrev pub stop_wait_status : ℕ → Stop → WaitStatus
-stop_wait_status pid Start = PtraceEvent pid 5 (code_of event.Stop)
+stop_wait_status pid Start = PtraceEvent pid SIGTRAP (code_of event.Stop)
 stop_wait_status pid Enter = PtraceSyscall pid
 stop_wait_status pid Exit = PtraceSyscall pid
-stop_wait_status pid (Seccomp ret_data) = PtraceEvent pid 5 (code_of event.Seccomp)
-stop_wait_status pid (Fork child) = PtraceEvent pid 5 (code_of event.Fork)
-stop_wait_status pid (Clone child) = PtraceEvent pid 5 (code_of event.Clone)
-stop_wait_status pid (Exec former) = PtraceEvent pid 5 (code_of event.Exec)
+stop_wait_status pid (Seccomp ret_data) = PtraceEvent pid SIGTRAP (code_of event.Seccomp)
+stop_wait_status pid (Fork child) = PtraceEvent pid SIGTRAP (code_of event.Fork)
+stop_wait_status pid (Clone child) = PtraceEvent pid SIGTRAP (code_of event.Clone)
+stop_wait_status pid (Exec former) = PtraceEvent pid SIGTRAP (code_of event.Exec)
 stop_wait_status pid (Signal signal) = Stopped pid signal
 
 -- its raw value
 abbrev pub stop_status : Stop → ℕ
-stop_status Start = 0x80057f
-stop_status Enter = 0x857f
-stop_status Exit = 0x857f
-stop_status (Seccomp ret_data) = 0x7057f
-stop_status (Fork child) = 0x1057f
-stop_status (Clone child) = 0x3057f
-stop_status (Exec former) = 0x4057f
-stop_status (Signal signal) = signal * 0x100 + 0x7f
+stop_status Start = raw_event (code_of event.Stop)
+stop_status Enter = raw_stop SYSCALL_TRAP
+stop_status Exit = raw_stop SYSCALL_TRAP
+stop_status (Seccomp ret_data) = raw_event (code_of event.Seccomp)
+stop_status (Fork child) = raw_event (code_of event.Fork)
+stop_status (Clone child) = raw_event (code_of event.Clone)
+stop_status (Exec former) = raw_event (code_of event.Exec)
+stop_status (Signal signal) = raw_stop signal
 
 -- a stop that a tracee can make: a signal that arrives is one of Linux's
 abbrev pub IsStop : Stop → Type 0

@@ -1,6 +1,6 @@
 //! Laws of the definitions: each function is its contract alone.
 
-ghost use Rattle.std.specs.Prelude.{ℕ};
+ghost use Rattle.std.specs.Prelude.{◌≡◌, ℕ};
 ghost use Rattle.trace_status.specs.WaitStatus.{Encodes};
 ghost use Rattle.trace_record.specs.Death.{IsDeath, death_status, death_wait_status};
 ghost use Rattle.trace_record.specs.Stop.{IsStop, stop_status, stop_wait_status};
@@ -12,4 +12,9 @@ ghost use Rattle.trace_record.specs.declared.stop.Stop.{Stop};
 pub fn statuses_are_told()
     ensures stops { (pid : ℕ) (stop : Stop) → IsStop stop → Encodes (stop_wait_status pid stop) (stop_status stop) }
     ensures deaths { (pid : ℕ) (death : Death) → IsDeath death → Encodes (death_wait_status pid death) (death_status death) }
+{}
+
+/// No two deaths that a tracee can have are reported by one raw value.
+pub fn a_status_reports_one_death()
+    ensures { (a b : Death) → IsDeath a → IsDeath b → death_status a ≡ death_status b → a ≡ b }
 {}

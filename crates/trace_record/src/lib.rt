@@ -8,10 +8,10 @@ mod stop;
 mod stop_record;
 
 pub use death::Death;
-pub use laws::statuses_are_told;
+pub use laws::{a_status_reports_one_death, statuses_are_told};
 pub use resume::{Kind, Resume};
 pub use stop::Stop;
-pub use stop_record::StopRecord;
+pub use stop_record::{AUDIT_ARCH_X86_64, StopRecord};
 
 #[cfg(test)]
 mod tests;

@@ -1,15 +1,11 @@
 //! The stops of a tracee.
 
-ghost use Rattle.std.specs.Prelude.{◌≡◌, ◌+◌, ◌*◌};
+ghost use Rattle.std.specs.Prelude.{◌≡◌};
 ghost use Rattle.trace_options.specs.Event.{code_of};
+ghost use Rattle.trace_status.specs.WaitStatus.{raw_event, raw_stop};
 
 use trace_options::Event;
-
-/// The bits of a raw wait status that tell a stop by SIGTRAP, without the event in the third byte.
-const EVENT_STOP: u32 = 0x057f;
-
-/// The raw wait status of a syscall-stop, SIGTRAP with the bit of PTRACE_O_TRACESYSGOOD.
-const SYSCALL_STOP: u32 = 0x857f;
+use trace_status::{SIGTRAP, STOPPED, SYSCALL_TRAP};
 
 /// A stop at which a tracee waits for its tracer (ptrace(2), "Stopped states"). A signal is 1 to 64.
 #[derive(Clone, Copy, Debug, PartialEq, Eq, Hash)]
@@ -41,12 +37,12 @@ impl Stop {
     {
         match *self {
             Stop::Start => event_stop(Event::Stop),
-            Stop::Enter | Stop::Exit => SYSCALL_STOP,
+            Stop::Enter | Stop::Exit => signal_stop(SYSCALL_TRAP),
             Stop::Seccomp(_) => event_stop(Event::Seccomp),
             Stop::Fork(_) => event_stop(Event::Fork),
             Stop::Clone(_) => event_stop(Event::Clone),
             Stop::Exec(_) => event_stop(Event::Exec),
-            Stop::Signal(signal) => u32::from(signal) << 8 | 0x7f,
+            Stop::Signal(signal) => signal_stop(signal),
         }
     }
 
@@ -61,9 +57,16 @@ impl Stop {
     }
 }
 
+/// The raw wait status of a stop by a signal.
+fn signal_stop(signal: u8) -> u32
+    ensures { result ≡ raw_stop signal }
+{
+    (u32::from(signal) << 8) + u32::from(STOPPED)
+}
+
 /// The raw wait status of an event stop.
 fn event_stop(event: Event) -> u32
-    ensures { result ≡ code_of event * 0x10000 + 0x057f }
+    ensures { result ≡ raw_event (code_of event) }
 {
-    u32::from(event.code()) << 16 | EVENT_STOP
+    (u32::from(event.code()) << 16) + signal_stop(SIGTRAP)
 }

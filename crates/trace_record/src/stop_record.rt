@@ -1,19 +1,21 @@
 //! The record of a stop: what a tracer that claims the stop is shown.
 //!
-//! A record is moved from the tracee to the tracer and back, never copied: its memory is the tracee's.
+//! A record is moved from the tracee to the tracer and back, never copied: its memory is the tracee's. Contracts see it
+//! as its `Content`.
 
 ghost use Rattle.std.specs.Prelude.{◌≡◌};
-ghost use Rattle.trace_record.specs.Content.{content_by, empty_content, info_of, message_of};
+ghost use Rattle.trace_record.specs.Content.{empty_content, info_of, message_of};
 ghost use Rattle.trace_record.specs.Stop.{stop_status};
 
 use crate::stop::Stop;
 use std::alloc::{Allocator, Global};
+use std::marker::Model;
 use trace_pages::Memory;
 use trace_regs::{Outcome, Regs};
 use trace_status::{Part, SyscallInfo};
 
-/// The architecture of x86-64 (`<linux/audit.h>`, `AUDIT_ARCH_X86_64`).
-const ARCH: u32 = 0xC000003E;
+/// The architecture of x86-64 (`<linux/audit.h>`).
+pub const AUDIT_ARCH_X86_64: u32 = 0xC000003E;
 
 /// A stop of a tracee, with its registers and its memory there.
 #[derive(Drop)]
@@ -27,10 +29,24 @@ pub struct StopRecord<A: Allocator = Global> {
     pub memory: Memory<A>,
 }
 
+impl<A: Allocator> Model for StopRecord<A> {
+    ghost use Rattle.std.specs.Coded.{codes};
+    ghost use Rattle.trace_pages.specs.FlatMemory.{flat_code};
+    ghost use Rattle.trace_record.specs.Content.{Content, content_by};
+
+    ghost Value = { Content };
+
+    ghost coded = { Prim.hlevel (codes, flat_code) };
+
+    ghost view = { λ r. content_by r.tid r.number r.stop r.regs r.memory };
+
+    ghost inverse = { λ c. record { tid = c.tid; number = c.number; stop = c.stop; regs = c.regs; memory = c.memory } };
+}
+
 impl<A: Allocator + Copy> StopRecord<A> {
     /// The record of a tracee that has made no stop: number 0, registers 0, no memory.
     pub fn empty(alloc: A, tid: u32) -> StopRecord<A>
-        ensures { content_by result.tid result.number result.stop result.regs result.memory ≡ empty_content tid }
+        ensures { result ≡ empty_content tid }
     {
         StopRecord {
             tid,
@@ -43,19 +59,19 @@ impl<A: Allocator + Copy> StopRecord<A> {
 }
 
 impl<A: Allocator> StopRecord<A> {
-    /// The raw wait status that tells the stop.
+    /// The raw wait status that reports the stop.
     pub fn status(&self) -> u32
         ensures { result ≡ stop_status self.now.stop }
     {
         self.stop.status()
     }
 
-    /// What `PTRACE_GET_SYSCALL_INFO` tells of the stop (ptrace(2)).
+    /// What `PTRACE_GET_SYSCALL_INFO` reports of the stop (ptrace(2)).
     pub fn info(&self) -> SyscallInfo
         ensures { result ≡ info_of self.now.stop self.now.regs }
     {
         SyscallInfo {
-            arch: ARCH,
+            arch: AUDIT_ARCH_X86_64,
             ip: self.regs.rip,
             sp: self.regs.rsp,
             part: part_at(self.stop, &self.regs),

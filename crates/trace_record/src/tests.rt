@@ -52,7 +52,55 @@ fn a_death_decodes_as_its_name_says(rt: HostRuntime) {
 }
 
 #[test]
-fn the_law_is_there() {
+fn a_death_is_read_from_its_raw_status(rt: HostRuntime) {
+    let killed = Death::Signaled {
+        signal: 15,
+        core: false,
+    };
+    let dumped = Death::Signaled {
+        signal: 11,
+        core: true,
+    };
+    let last = Death::Signaled {
+        signal: 64,
+        core: true,
+    };
+    for (raw, death) in [
+        (0x0000, Some(Death::Exited(0))),
+        (0x0100, Some(Death::Exited(1))),
+        (0xff00, Some(Death::Exited(255))),
+        (0x000f, Some(killed)),
+        (0x008b, Some(dumped)),
+        (0x00c0, Some(last)),
+        // No signal killed, with and without a core dump; signal 65; a byte too many.
+        (0x0080, None),
+        (0x0041, None),
+        (0x00c1, None),
+        (0x10000, None),
+        (0x010f, None),
+        // A stop without a signal, and stops: by SIGTERM, at a system call, at an event.
+        (0x007f, None),
+        (0x0f7f, None),
+        (0x857f, None),
+        (0x80057f, None),
+    ] {
+        assert_eq!(rt; Death::from_status(raw), death, "{raw:#x}");
+    }
+}
+
+#[test]
+fn a_death_out_of_range_has_a_status_that_reports_none(rt: HostRuntime) {
+    let none = Death::Signaled {
+        signal: 255,
+        core: true,
+    };
+    assert_eq!(rt; none.status(), 0x17f);
+    assert_eq!(rt; Death::from_status(0x17f), None);
+}
+
+#[test]
+fn the_laws_are_there() {
+    a_status_reports_one_death();
     statuses_are_told();
 }
 

@@ -1,6 +1,7 @@
 -- What PTRACE_GET_SYSCALL_INFO tells of a stop (ptrace(2), struct ptrace_syscall_info), and its layout.
 use Rattle.std.specs.Int.{bytes_low_first}
-use Rattle.std.specs.Prelude.{◌≡◌, ◌+◌, ◌<◌, ◌^◌, ℕ, FitsSigned, if◌then◌else◌, List, [], ◌∷◌, ◌++◌, All, length, slice_index}
+use Rattle.std.specs.Prelude.{◌≡◌, ◌+◌, ◌<◌, ◌^◌, ℕ, FitsSigned, if◌then◌else◌, List, [], ◌∷◌, ◌++◌, All}
+use Rattle.std.specs.Prelude.{length, slice_index}
 use Rattle.std.specs.Int.{w64, cast_unsigned}
 use Rattle.std.specs.List.{flat_map}
 use Rattle.trace_status.specs.declared.syscall_info.SyscallInfo.{SyscallInfo}
@@ -34,7 +35,8 @@ part_layout (Seccomp nr args ret_data) = call_layout nr args ++ (80, 4, ret_data
 -- the fields of the whole, from the first byte on: op, padding, arch, instruction pointer, stack pointer, the part
 abbrev pub layout : SyscallInfo → List Field
 layout info =
-    (0, 1, op_of info.part) ∷ (1, 3, 0) ∷ (4, 4, info.arch) ∷ (8, 8, info.ip) ∷ (16, 8, info.sp) ∷ part_layout info.part
+    (0, 1, op_of info.part) ∷ (1, 3, 0) ∷ (4, 4, info.arch) ∷ (8, 8, info.ip) ∷ (16, 8, info.sp)
+    ∷ part_layout info.part
 
 -- the bytes of a field, the lowest of its value first
 abbrev pub field_bytes : Field → List ℕ

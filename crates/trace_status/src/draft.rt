@@ -5,24 +5,25 @@ ghost use Rattle.std.specs.Int.{w64, to_le_bytes};
 
 use std::marker::Model;
 
-/// How many bytes the longest layout has.
-const MOST: usize = 84;
+/// How many bytes the longest layout has, that of a seccomp stop.
+pub const LONGEST: usize = 84;
 
-/// The bytes so far, at most 84.
+/// The bytes so far, no more than the longest layout has.
 #[derive(Drop)]
 pub struct Draft {
-    bytes: [u8; 84],
+    bytes: [u8; LONGEST],
     len: usize,
 }
 
 impl Model for Draft {
     ghost use Rattle.std.specs.Prelude.{ℕ, ◌≤◌, List, take};
+    ghost use Rattle.trace_status.specs.declared.draft.TheConstants.{LONGEST};
 
     ghost Value = { List ℕ };
 
     ghost view = { λ d. take d.len d.bytes };
 
-    ghost invariant = { λ d. d.len ≤ 84 };
+    ghost invariant = { λ d. d.len ≤ LONGEST };
 }
 
 impl Draft {
@@ -31,14 +32,14 @@ impl Draft {
         ensures { result ≡ [] }
     {
         Draft {
-            bytes: [0; MOST],
+            bytes: [0; LONGEST],
             len: 0,
         }
     }
 
     /// Puts a piece behind the bytes.
     pub fn push(&mut self, piece: &[u8])
-        requires { length self.old + length piece.now ≤ 84 }
+        requires { length self.old + length piece.now ≤ LONGEST }
         ensures { self.new ≡ self.old ++ piece.now }
     {
         let end = self.len + piece.len();
@@ -48,7 +49,7 @@ impl Draft {
 
     /// Puts the bytes of a word behind the bytes.
     pub fn push_word(&mut self, word: u64)
-        requires { length self.old + 8 ≤ 84 }
+        requires { length self.old + 8 ≤ LONGEST }
         ensures { self.new ≡ self.old ++ to_le_bytes w64 word }
     {
         self.push(&word.to_le_bytes());

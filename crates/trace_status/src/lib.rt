@@ -8,7 +8,7 @@ mod wait_status;
 
 pub use laws::{fields_are_in_place, one_to_one};
 pub use syscall_info::{Part, SyscallInfo};
-pub use wait_status::{WaitStatus, decode, encode};
+pub use wait_status::{CORE_DUMPED, SIGTRAP, STOPPED, SYSCALL_TRAP, WaitStatus, decode, encode};
 
 #[cfg(test)]
 mod tests;

@@ -7,13 +7,14 @@
 //!
 //! Not here: where the numbers come from, and whether `is_error` fits the result.
 
-ghost use Rattle.std.specs.Prelude.{◌≡◌, ◌+◌, ◌<◌, ◌≤◌, ◌^◌, ℕ, List, [], ◌∷◌, ◌++◌, IfSome, Some, All, length, take, drop, slice_range};
+ghost use Rattle.std.specs.Prelude.{◌≡◌, ◌+◌, ◌<◌, ◌≤◌, ◌^◌, ℕ, List, [], ◌∷◌, ◌++◌};
+ghost use Rattle.std.specs.Prelude.{IfSome, Some, All, length, take, drop, slice_range};
 ghost use Rattle.std.specs.Int.{w32, w64, cast_unsigned, to_le_bytes};
 ghost use Rattle.std.specs.List.{flat_map};
 ghost use Rattle.trace_status.specs.SyscallInfo.{AreArguments, IsInfo, IsWord, info_bytes};
 ghost use Rattle.trace_status.specs.declared.syscall_info.SyscallInfo.{SyscallInfo};
 
-use crate::draft::Draft;
+use crate::draft::{Draft, LONGEST};
 
 /// What `PTRACE_GET_SYSCALL_INFO` tells of a stop (ptrace(2), `struct ptrace_syscall_info`).
 #[derive(Clone, Copy, Debug, PartialEq, Eq, Hash)]
@@ -55,7 +56,8 @@ impl SyscallInfo {
     /// Writes the layout, cut to the buffer, and answers its full length. Bytes of the buffer beyond the layout stay.
     pub fn write_to(&self, buffer: &mut [u8]) -> usize
         ensures full { result ≡ length (info_bytes self.now) }
-        ensures written { buffer.new ≡ take (length buffer.old) (info_bytes self.now) ++ drop (length (info_bytes self.now)) buffer.old }
+        ensures written { buffer.new ≡
+            take (length buffer.old) (info_bytes self.now) ++ drop (length (info_bytes self.now)) buffer.old }
     {
         let draft = self.draft();
         let bytes = draft.as_slice();
@@ -137,7 +139,7 @@ fn push_call(draft: &mut Draft, nr: u64, args: &[u64; 6])
 
 /// Puts the result of a system call behind the bytes.
 fn push_result(draft: &mut Draft, rval: &i64)
-    requires { length draft.old + 8 ≤ 84 }
+    requires { length draft.old + 8 ≤ LONGEST }
     ensures { draft.new ≡ draft.old ++ to_le_bytes w64 (cast_unsigned w64 rval.now) }
 {
     draft.push_word(rval.cast_unsigned());
@@ -183,7 +185,8 @@ fn part_at(bytes: &[u8]) -> Option<Part>
 /// The six arguments of a system call.
 fn args_at(bytes: &[u8]) -> [u64; 6]
     requires { 80 ≤ length bytes.now }
-    ensures { (args : List ℕ) → AreArguments args → flat_map (to_le_bytes w64) args ≡ slice_range bytes.now 32 80 → result ≡ args }
+    ensures { (args : List ℕ) → AreArguments args →
+        flat_map (to_le_bytes w64) args ≡ slice_range bytes.now 32 80 → result ≡ args }
 {
     [
         word_at(bytes, 32),

@@ -13,19 +13,19 @@ ghost use Rattle.std.specs.Prelude.{◌≡◌, ◌↔◌, ℕ, IfSome, IsTrue};
 ghost use Rattle.trace_status.specs.WaitStatus.{Encodes, IsEvent, IsSignal, pid_of};
 ghost use Rattle.trace_status.specs.declared.wait_status.WaitStatus.{WaitStatus};
 
-use trace_options::Event;
+use trace_options::{Event, LAST_SIGNAL};
 
-/// SIGTRAP, the signal of an event stop.
-const SIGTRAP: u8 = 5;
+/// SIGTRAP, the signal of an event stop (signal(7)).
+pub const SIGTRAP: u8 = 5;
 
-/// SIGTRAP with the bit that PTRACE_O_TRACESYSGOOD adds: a syscall-stop.
-const SYSCALL_TRAP: u8 = 0x85;
+/// The signal of a syscall-stop: SIGTRAP with the bit that PTRACE_O_TRACESYSGOOD adds (ptrace(2)).
+pub const SYSCALL_TRAP: u8 = SIGTRAP | 0x80;
 
-/// The low byte of a stop's raw value.
-const STOPPED: u8 = 0x7f;
+/// The low byte of a stop's raw value (wait(2), `WIFSTOPPED`).
+pub const STOPPED: u8 = 0x7f;
 
-/// The bit of a core dump beside the signal that killed (`WCOREDUMP`).
-const CORE_DUMPED: u8 = 0x80;
+/// The bit of a core dump beside the signal that killed (wait(2), `WCOREDUMP`).
+pub const CORE_DUMPED: u8 = 0x80;
 
 /// What a wait reports of a tracee; the first number is its pid. The variants are those of nix's
 /// `sys::wait::WaitStatus`.
@@ -92,7 +92,7 @@ pub fn encode(status: &WaitStatus) -> Option<u32>
 fn is_signal(number: u8) -> bool
     ensures { IsTrue result ↔ IsSignal number }
 {
-    (1..=64).contains(&number)
+    (1..=LAST_SIGNAL).contains(&number)
 }
 
 /// Whether a number is an event's (ptrace(2), `PTRACE_EVENT_*`).

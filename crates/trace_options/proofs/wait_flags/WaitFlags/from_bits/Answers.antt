@@ -1,6 +1,0 @@
-use Rattle.bitflags.specs.Sets.{known_from}
-use Rattle.trace_options.proofs.wait_flags.WaitFlags.from_bits.Goals as goal
-
-pub returns-clause-named : goal.returns-clause-named
-unfolding known_from
-returns-clause-named c = c.from_bits.ensures.known tt

@@ -1,4 +1,4 @@
--- One thread on a World: behind a take-up a tracee's call, and behind a look a claim, is answered as on the board.
+-- One thread on a World: a tracee's call after a take-up, and a claim after a look, are answered as on the board.
 use Rattle.std.proofs.Common.{refl, ◌≡◌, ◌≢◌, ◌+◌, ◌-◌, ◌<◌, ◌≤◌, ◌∷◌, ◌&&◌, ◌⊎◌, [], ℕ, Bool, true, false, Some, None, Option, Ok, Err, Result, List, length, arith, ◌∙◌, sym, ap, subst, inl, inr, cond, eqb, eq-eqb, lt-ltb, le-ltb}
 use Rattle.std.proofs.lemmas.Bool.{cases_lt}
 use Rattle.trace_record.specs.declared.stop.Stop.{Stop}
@@ -29,10 +29,10 @@ use Rattle.stop_history.specs.Sequential.{and_then, claim_answer, claim_state, e
 use Rattle.stop_history.specs.declared.limits.TheConstants.{TRACERS}
 use Rattle.stop_history.specs.State.{claimed_state, is_born, last_number, number_in as last_in, state_after, state_in}
 use Rattle.stop_history.specs.Word.{Word, phase_in, raised, shown, word_after}
-use Rattle.stop_board.specs.World.{ActorReplies, Moment, Replies, actor_change, change_of, moment_after, seen_by, seen_with, sight_at}
+use Rattle.stop_board.specs.World.{ActorReplies, Moment, Replies, actor_change, change_of, moment_after_step, seen_by, seen_with, sight_at}
 use Rattle.stop_history.proofs.Going.{publish_fits}
-use Rattle.stop_history.proofs.Standing.{shows_taken}
 use Rattle.stop_history.proofs.States.{past_or_within, present, state_within}
+use Rattle.stop_board.proofs.Worlds.{born_either, shows_after}
 use Rattle.stop_board.specs.OneThread.{done_in, got_in, got_of, published_in}
 
 -- ---- taking up
@@ -52,10 +52,10 @@ restarts born (event.Claim row number tracer ∷ es) runs = absurd (claim_does_n
 restarts born (event.Resume row number how tracer ∷ es) runs = (how, refl)
 restarts born (event.Exit row death ∷ es) runs = cc
 
-up_behind : (row : ℕ) (taken : ℕ → Bool) (was : Bool) → taken row ≡ was → (es : List Event) (how : Restart) → restart_in (phase_in es) ≡ Ok how
+up_later : (row : ℕ) (taken : ℕ → Bool) (was : Bool) → taken row ≡ was → (es : List Event) (how : Restart) → restart_in (phase_in es) ≡ Ok how
     → (r : Reply) → r ≡ took (restart_in (raised was (phase_in es))) → taken_with (tracee_change row action.TakeUp r) taken row ≡ true
-up_behind row taken true is es how has r told = rw told is
-up_behind row taken false is es how has r told = rw (told, has, eq-eqb row row refl) refl
+up_later row taken true is es how has r told = rw told is
+up_later row taken false is es how has r told = rw (told, has, eq-eqb row row refl) refl
 
 same_history : (words : ℕ → Word) (who : Option Actor) (r : Reply) (h : History) → history_with (actor_change words who action.TakeUp r) h ≡ h
 same_history words None r h = refl
@@ -68,13 +68,13 @@ same_history words (Some (Tracee row)) (reply.Got word) h = refl
 same_history words (Some (Tracee row)) (reply.Missed word) h = refl
 same_history words (Some (Tracee row)) reply.Done h = refl
 
--- behind its take-up a running row is taken up, and nothing has happened
-pub record TookUp (rows : List Row) (m behind : Moment) (row : ℕ) : Type 0 where
-  pub history : behind.history ≡ m.history
-  pub up : state_after rows m.history row ≡ state.Running → behind.taken row ≡ true
+-- after its take-up a running row is taken up, and nothing has happened
+pub record TookUp (rows : List Row) (m later : Moment) (row : ℕ) : Type 0 where
+  pub history : later.history ≡ m.history
+  pub up : state_after rows m.history row ≡ state.Running → later.taken row ≡ true
 
 pub took_up : (rows : List Row) (tracers : ℕ) (m : Moment) (row : ℕ) (r : Reply) → Replies rows tracers m row action.TakeUp r
-    → TookUp rows m (moment_after rows tracers m row action.TakeUp r) row
+    → TookUp rows m (moment_after_step rows tracers m row action.TakeUp r) row
 took_up rows tracers m row r is = record {
   history = same_history (word_after m.taken m.history) (numbered_actor (length rows) tracers row) r m.history;
   up = λ runs. elim (past_or_within rows m.history row) [
@@ -83,7 +83,7 @@ took_up rows tracers m row r is = record {
         let told = subst (λ w. ActorReplies rows (sight_at rows m) m.seen w action.TakeUp r) who is in
         let has = restarts (is_born rows m.history row) (events_of row m.history) (sym (state_within rows m.history row within) ∙ runs) in
         ap (λ w. taken_with (actor_change (word_after m.taken m.history) w action.TakeUp r) m.taken row) who
-        ∙ up_behind row m.taken (m.taken row) refl (events_of row m.history) has.0 has.1 r (rw runs at told)
+        ∙ up_later row m.taken (m.taken row) refl (events_of row m.history) has.0 has.1 r (rw runs at told)
     | inr gone ↦ let clash : state.Absent ≡ state.Running = sym gone ∙ runs in cc
   ];
 }
@@ -100,15 +100,10 @@ no_tracee rows tracers row past =
 
 -- a row that is taken up where it runs answers as on the board
 passes : {A : Type 0} (at : State) (taken : Bool) (next : Result A Refused) → (at ≡ state.Running → taken ≡ true)
-    → and_then (taken_by at taken) (and_then (running_by at) next) ≡ and_then (running_by at) next
+    → and_then (taken_by at taken) next ≡ and_then (running_by at) next
 passes state.Running true next up = refl
 passes state.Running false next up = let clash = up refl in cc
-passes state.Absent taken next up = refl
-passes state.Unborn taken next up = refl
-passes (state.Stopped n status) taken next up = refl
-passes (state.Claimed n tracer) taken next up = refl
-passes (state.Dead n status) taken next up = refl
-passes state.Reaped taken next up = refl
+passes at taken next up = refl
 
 number_told : (row : ℕ) (stop : Stop) (h : History) (ans : Result ℕ Refused) → ((n : ℕ) → ans ≡ Ok n → n ≡ last_number h row + 1) → (r : Reply) → r ≡ numbered ans
     → (published_in r ≡ ans) × (history_with (tracee_change row (action.Publish stop) r) h ≡ goes_on ans (event.Publish row (last_number h row + 1) stop) h)
@@ -122,7 +117,7 @@ exit_told_by row death h (Err refusal) r told = rw told (refl, refl)
 
 -- what a call is answered on the board, and the history that it comes to there
 abbrev pub Told : {A : Type 0} → (in_reply : Reply → Result A Refused) → List Row → (tracers : ℕ) → Moment → (actor : ℕ) → Action → Reply → Result A Refused → Event → Type 0
-Told in_reply rows tracers m actor a r answer e = (in_reply r ≡ answer) × ((moment_after rows tracers m actor a r).history ≡ goes_on answer e m.history)
+Told in_reply rows tracers m actor a r answer e = (in_reply r ≡ answer) × ((moment_after_step rows tracers m actor a r).history ≡ goes_on answer e m.history)
 
 -- the same, of an actor that is known
 abbrev ToldBy : {A : Type 0} → (in_reply : Reply → Result A Refused) → Moment → Option Actor → Action → Reply → Result A Refused → Event → Type 0
@@ -185,16 +180,16 @@ exit_told rows tracers m row death up r is =
 -- the actor that a tracer is
 is_tracer : (rows tracers tracer : ℕ) → tracer < tracers → numbered_actor rows tracers (rows + tracer) ≡ Some (Tracer tracer)
 is_tracer rows tracers tracer few =
-    let behind : rows ≤ rows + tracer = omega arith in
+    let above : rows ≤ rows + tracer = omega arith in
     let within : rows + tracer < rows + tracers = omega arith in
     let same : rows + tracer - rows ≡ tracer = omega arith in
-    rw (le-ltb _ _ behind, lt-ltb _ _ within) (ap (λ t. Some (Tracer t)) same)
+    rw (le-ltb _ _ above, lt-ltb _ _ within) (ap (λ t. Some (Tracer t)) same)
 
 is_nobody : (rows tracers tracer : ℕ) → tracers ≤ tracer → numbered_actor rows tracers (rows + tracer) ≡ None
 is_nobody rows tracers tracer many =
-    let behind : rows ≤ rows + tracer = omega arith in
+    let above : rows ≤ rows + tracer = omega arith in
     let past : rows + tracers ≤ rows + tracer = omega arith in
-    rw (le-ltb _ _ behind, le-ltb _ _ past) refl
+    rw (le-ltb _ _ above, le-ltb _ _ past) refl
 
 done_told : (words : ℕ → Word) (tracer row : ℕ) (how : Restart) (h : History) (ans : Result (Unit {0}) Refused) → (r : Reply) → r ≡ done ans
     → (done_in r ≡ ans) × (history_with (tracer_change words tracer (action.Resume row how) r) h ≡ goes_on ans (event.Resume row (words row).number how tracer) h)
@@ -219,13 +214,13 @@ resume_told rows m row tracer how r is =
           subst (λ w. ToldBy done_in m w a r answer e) (sym who) (none_told done_in m None a r answer e refl refl (told _ who) refusal)
     ]
 
--- ---- a claim behind a look
+-- ---- a claim after a look
 
--- behind its look a tracer has seen the row's word, and nothing has happened
-pub record Looked (rows : List Row) (m behind : Moment) (tracer row : ℕ) : Type 0 where
-  pub history : behind.history ≡ m.history
-  pub taken : behind.taken ≡ m.taken
-  pub saw : tracer < TRACERS → row < length rows → behind.seen tracer row ≡ word_after m.taken m.history row
+-- after its look a tracer has seen the row's word, and nothing has happened
+pub record Looked (rows : List Row) (m later : Moment) (tracer row : ℕ) : Type 0 where
+  pub history : later.history ≡ m.history
+  pub taken : later.taken ≡ m.taken
+  pub saw : tracer < TRACERS → row < length rows → later.seen tracer row ≡ word_after m.taken m.history row
 
 nothing_looked : (words : ℕ → Word) (who : Option Actor) (row : ℕ) (r : Reply) (m : Moment)
     → (history_with (actor_change words who (action.Look row) r) m.history ≡ m.history) × (taken_with (actor_change words who (action.Look row) r) m.taken ≡ m.taken)
@@ -240,7 +235,7 @@ saw_own words tracer row word r seen told =
     ∙ ap (λ b. cond b (words row) (seen tracer row)) (let same : (eqb tracer tracer && eqb row row) ≡ true = rw (eq-eqb tracer tracer refl, eq-eqb row row refl) refl in same)
 
 pub looked : (rows : List Row) (m : Moment) (row tracer : ℕ) (r : Reply) → Replies rows TRACERS m (length rows + tracer) (action.Look row) r
-    → Looked rows m (moment_after rows TRACERS m (length rows + tracer) (action.Look row) r) tracer row
+    → Looked rows m (moment_after_step rows TRACERS m (length rows + tracer) (action.Look row) r) tracer row
 looked rows m row tracer r is =
     let a : Action = action.Look row in
     let change = change_of rows TRACERS m (length rows + tracer) a r in
@@ -258,25 +253,18 @@ looked rows m row tracer r is =
           ∙ (λ i. word_after (nothing.1 i) (nothing.0 i) row);
     }
 
--- what a word that waits shows is what a claim gets on the board
-got_shown : (born : Bool) (number : ℕ) (at : Phase) → waits at ≡ true → (got : Got) × (got_of number at ≡ Ok got) × (claim_state (shown born number at) ≡ Ok got)
-got_shown born number (phase.Stopped status) waiting = (got.Stop number status, refl, refl)
-got_shown born number (phase.Dead status) waiting = (got.Ended number status, refl, refl)
-got_shown born number phase.Fresh waiting = cc
-got_shown born number (phase.Resumed how) waiting = cc
-got_shown born number phase.Active waiting = cc
-got_shown born number (phase.Claimed tracer) waiting = cc
-got_shown born number phase.Reaped waiting = cc
+-- a claim of a word that waits gets something
+got_shown : (number : ℕ) (at : Phase) → waits at ≡ true → (got : Got) × (got_of number at ≡ Ok got)
+got_shown number (phase.Stopped status) waiting = (got.Stop number status, refl)
+got_shown number (phase.Dead status) waiting = (got.Ended number status, refl)
+got_shown number at waiting = cc
 
 none_shown : (born : Bool) (number : ℕ) (at : Phase) → waits at ≡ false → shown born number at ≢ state.Unborn → claim_state (shown born number at) ≡ Err refused.NotWaitable
 none_shown born number (phase.Stopped status) rests there = cc
 none_shown born number (phase.Dead status) rests there = cc
-none_shown true number phase.Fresh rests there = refl
 none_shown false number phase.Fresh rests there = absurd (there refl)
-none_shown born number (phase.Resumed how) rests there = refl
-none_shown born number phase.Active rests there = refl
-none_shown born number (phase.Claimed tracer) rests there = refl
-none_shown born number phase.Reaped rests there = refl
+none_shown true number phase.Fresh rests there = refl
+none_shown born number at rests there = refl
 
 -- what a claim of a word that has not changed is answered
 record Claimable (at : State) (now : Word) : Type 0 where
@@ -295,31 +283,24 @@ claim_by_exchange words tracer row h at last now same may (reply.Missed word) is
 claim_by_exchange words tracer row h at last now same may (reply.Refused refusal) is =
     let none = may.none (ap (λ (w : Word). waits w.phase) (sym same) ∙ is.0) in
     (ap (λ e. Err e) is.1 ∙ sym none, sym (ap (λ a. goes_on a (event.Claim row now.number tracer) h) none))
-claim_by_exchange words tracer row h at last now same may (reply.Word word) is = absurd is
-claim_by_exchange words tracer row h at last now same may (reply.Took how) is = absurd is
-claim_by_exchange words tracer row h at last now same may (reply.Number number) is = absurd is
-claim_by_exchange words tracer row h at last now same may reply.Done is = absurd is
+claim_by_exchange words tracer row h at last now same may r is = absurd is
 
 claim_by_state : (words : ℕ → Word) (tracer row : ℕ) (h : History) (at : State) (last now : Word) → (at ≢ state.Absent → last ≡ now) → (at ≢ state.Absent → at ≢ state.Unborn → Claimable at now)
     → (r : Reply) → ClaimReplies at last now r
     → (got_in r ≡ claim_state at) × (history_with (tracer_change words tracer (action.Claim row) r) h ≡ goes_on (claim_state at) (event.Claim row now.number tracer) h)
 claim_by_state words tracer row h state.Absent last now same may r is = rw is (refl, refl)
 claim_by_state words tracer row h state.Unborn last now same may r is = rw is (refl, refl)
-claim_by_state words tracer row h state.Running last now same may r is = claim_by_exchange words tracer row h state.Running last now (same (λ e. cc)) (may (λ e. cc) (λ e. cc)) r is
-claim_by_state words tracer row h (state.Stopped n status) last now same may r is = claim_by_exchange words tracer row h (state.Stopped n status) last now (same (λ e. cc)) (may (λ e. cc) (λ e. cc)) r is
-claim_by_state words tracer row h (state.Claimed n holder) last now same may r is = claim_by_exchange words tracer row h (state.Claimed n holder) last now (same (λ e. cc)) (may (λ e. cc) (λ e. cc)) r is
-claim_by_state words tracer row h (state.Dead n status) last now same may r is = claim_by_exchange words tracer row h (state.Dead n status) last now (same (λ e. cc)) (may (λ e. cc) (λ e. cc)) r is
-claim_by_state words tracer row h state.Reaped last now same may r is = claim_by_exchange words tracer row h state.Reaped last now (same (λ e. cc)) (may (λ e. cc) (λ e. cc)) r is
+claim_by_state words tracer row h at last now same may r is = claim_by_exchange words tracer row h at last now (same (λ e. cc)) (may (λ e. cc) (λ e. cc)) r is
 
 claimable : (rows : List Row) (m : Moment) → ((row : ℕ) → m.taken row ≡ true → state_after rows m.history row ≡ state.Running)
     → (row : ℕ) → row < length rows → state_after rows m.history row ≢ state.Unborn → Claimable (state_after rows m.history row) (word_after m.taken m.history row)
 claimable rows m up row within there =
-    let now = state_within rows m.history row within in
     let born = is_born rows m.history row in
     let word = word_after m.taken m.history row in
-    let shows : shown born word.number word.phase ≡ state_after rows m.history row = shows_taken (m.taken row) born (events_of row m.history) (λ is_up. sym now ∙ up row is_up) ∙ sym now in
+    let shows = shows_after rows m.taken m.history up row within in
     subst (λ at. Claimable at word) shows (record {
-      got = got_shown born word.number word.phase;
+      got = λ waiting. let g = got_shown word.number word.phase waiting in
+          (g.0, g.1, ap claim_state (born_either born word.number word.phase waiting) ∙ g.1);
       none = λ rests. none_shown born word.number word.phase rests (λ unborn. there (sym shows ∙ unborn));
     })
 
@@ -353,42 +334,42 @@ claim_told rows m up row tracer saw r is =
 -- ---- two steps, one after the other
 
 pub publish_done : (rows : List Row) (tracers : ℕ) (m : Moment) (row : ℕ) (stop : Stop) (first r : Reply) → Replies rows tracers m row action.TakeUp first
-    → Replies rows tracers (moment_after rows tracers m row action.TakeUp first) row (action.Publish stop) r
+    → Replies rows tracers (moment_after_step rows tracers m row action.TakeUp first) row (action.Publish stop) r
     → (published_in r ≡ publish_answer rows m.history row stop)
-    × ((moment_after rows tracers (moment_after rows tracers m row action.TakeUp first) row (action.Publish stop) r).history
+    × ((moment_after_step rows tracers (moment_after_step rows tracers m row action.TakeUp first) row (action.Publish stop) r).history
     ≡ goes_on (publish_answer rows m.history row stop) (event.Publish row (last_number m.history row + 1) stop) m.history)
 publish_done rows tracers m row stop first r took is =
     let up = took_up rows tracers m row first took in
-    let behind = moment_after rows tracers m row action.TakeUp first in
-    let told = publish_told rows tracers behind row stop (λ runs. up.up (ap (λ h. state_after rows h row) (sym up.history) ∙ runs)) r is in (
+    let later = moment_after_step rows tracers m row action.TakeUp first in
+    let told = publish_told rows tracers later row stop (λ runs. up.up (ap (λ h. state_after rows h row) (sym up.history) ∙ runs)) r is in (
       told.0 ∙ ap (λ h. publish_answer rows h row stop) up.history,
       told.1 ∙ ap (λ h. goes_on (publish_answer rows h row stop) (event.Publish row (last_number h row + 1) stop) h) up.history,
     )
 
 pub exit_done : (rows : List Row) (tracers : ℕ) (m : Moment) (row : ℕ) (death : Death) (first r : Reply) → Replies rows tracers m row action.TakeUp first
-    → Replies rows tracers (moment_after rows tracers m row action.TakeUp first) row (action.Exit death) r
+    → Replies rows tracers (moment_after_step rows tracers m row action.TakeUp first) row (action.Exit death) r
     → (done_in r ≡ exit_answer rows m.history row)
-    × ((moment_after rows tracers (moment_after rows tracers m row action.TakeUp first) row (action.Exit death) r).history
+    × ((moment_after_step rows tracers (moment_after_step rows tracers m row action.TakeUp first) row (action.Exit death) r).history
     ≡ goes_on (exit_answer rows m.history row) (event.Exit row death) m.history)
 exit_done rows tracers m row death first r took is =
     let up = took_up rows tracers m row first took in
-    let behind = moment_after rows tracers m row action.TakeUp first in
-    let told = exit_told rows tracers behind row death (λ runs. up.up (ap (λ h. state_after rows h row) (sym up.history) ∙ runs)) r is in (
+    let later = moment_after_step rows tracers m row action.TakeUp first in
+    let told = exit_told rows tracers later row death (λ runs. up.up (ap (λ h. state_after rows h row) (sym up.history) ∙ runs)) r is in (
       told.0 ∙ ap (λ h. exit_answer rows h row) up.history,
       told.1 ∙ ap (λ h. goes_on (exit_answer rows h row) (event.Exit row death) h) up.history,
     )
 
 pub claim_done : (rows : List Row) (m : Moment) → ((row : ℕ) → m.taken row ≡ true → state_after rows m.history row ≡ state.Running)
     → (row tracer : ℕ) (first r : Reply) → Replies rows TRACERS m (length rows + tracer) (action.Look row) first
-    → Replies rows TRACERS (moment_after rows TRACERS m (length rows + tracer) (action.Look row) first) (length rows + tracer) (action.Claim row) r
+    → Replies rows TRACERS (moment_after_step rows TRACERS m (length rows + tracer) (action.Look row) first) (length rows + tracer) (action.Claim row) r
     → (got_in r ≡ claim_answer rows m.history row tracer)
-    × ((moment_after rows TRACERS (moment_after rows TRACERS m (length rows + tracer) (action.Look row) first) (length rows + tracer) (action.Claim row) r).history
+    × ((moment_after_step rows TRACERS (moment_after_step rows TRACERS m (length rows + tracer) (action.Look row) first) (length rows + tracer) (action.Claim row) r).history
     ≡ goes_on (claim_answer rows m.history row tracer) (event.Claim row (last_number m.history row) tracer) m.history)
 claim_done rows m up row tracer first r look is =
     let see = looked rows m row tracer first look in
-    let behind = moment_after rows TRACERS m (length rows + tracer) (action.Look row) first in
-    let now : word_after m.taken m.history row ≡ word_after behind.taken behind.history row = λ i. word_after (sym see.taken i) (sym see.history i) row in
-    let told = claim_told rows behind
+    let later = moment_after_step rows TRACERS m (length rows + tracer) (action.Look row) first in
+    let now : word_after m.taken m.history row ≡ word_after later.taken later.history row = λ i. word_after (sym see.taken i) (sym see.history i) row in
+    let told = claim_told rows later
     (λ at is_up. ap (λ h. state_after rows h at) see.history ∙ up at (ap (λ (taken : ℕ → Bool). taken at) (sym see.taken) ∙ is_up))
     row tracer (λ few within. see.saw few within ∙ now) r is in (
       told.0 ∙ ap (λ h. claim_answer rows h row tracer) see.history,

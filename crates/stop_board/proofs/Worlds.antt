@@ -25,12 +25,12 @@ use Rattle.stop_history.specs.Actor.{numbered_actor}
 use Rattle.stop_history.specs.Change.{Change, IsAllowed, history_with, taken_with, words_with}
 use Rattle.stop_history.specs.Event as event
 use Rattle.stop_history.specs.Event.{Event, History, events_of, subject}
-use Rattle.stop_history.specs.History.{Fits, IsLegal}
+use Rattle.stop_history.specs.History.{Fits, IsLegal, births_after, creates_next, holding_back}
 use Rattle.stop_history.specs.Roster.{IsRoster}
-use Rattle.stop_history.specs.Sequential.{and_then, claim_answer, claim_state, exit_answer, publish_answer, resume_answer, running_by}
+use Rattle.stop_history.specs.Sequential.{and_then, claim_answer, claim_state, next_number, resume_answer, running_by, unless_held}
 use Rattle.stop_history.specs.declared.limits.TheConstants.{TRACERS}
 use Rattle.stop_history.specs.Standing.{AreAt}
-use Rattle.stop_history.specs.State.{is_born, is_waitable, number_in, state_after}
+use Rattle.stop_history.specs.State.{is_born, is_waitable, last_number, state_after}
 use Rattle.stop_history.specs.Word.{Word, claimed_phase, opening, phase_in, raised, shown, state_by, word_after, word_at, word_in}
 use Rattle.stop_board.specs.World.{ActorReplies, IsActor, Moment, Replies, actor_change, is_active, last_seen, seen_by, sight_at, sight_by, words_seen, words_seen_by, seen_with, seen_place}
 use Rattle.stop_history.proofs.AtomicSteps.{change_stands, not_running}
@@ -106,41 +106,53 @@ took_allowed rows h row (state.Claimed n tracer) next (Ok how) is answered = cc
 took_allowed rows h row (state.Dead n status) next (Ok how) is answered = cc
 took_allowed rows h row state.Reaped next (Ok how) is answered = cc
 
--- an answer behind a test is the answer itself
-answered_behind : {A : Type 0} (test : Result (Unit {0}) Refused) (next : Result A Refused) (answer : A) → and_then test next ≡ Ok answer → next ≡ Ok answer
-answered_behind (Ok done) next answer is = is
-answered_behind (Err refusal) next answer is = cc
+-- a row that is taken up runs
+pub taken_runs : {A : Type 0} (at : State) (taken : Bool) (next : Result A Refused) (answer : A)
+    → and_then (taken_by at taken) next ≡ Ok answer → and_then (running_by at) next ≡ Ok answer
+taken_runs state.Running true next answer is = is
+taken_runs at taken next answer is = cc
 
-number_allowed : (rows : List Row) (h : History) (row : ℕ) (stop : Stop) (answer : Result ℕ Refused) (test : Result (Unit {0}) Refused)
-    → and_then test (publish_answer rows h row stop) ≡ answer → IsAllowed rows h (tracee_change row (action.Publish stop) (numbered answer))
-number_allowed rows h row stop (Err refusal) test answered = tt
-number_allowed rows h row stop (Ok number) test answered =
-    let fits = publish_fits rows h row stop number (answered_behind test (publish_answer rows h row stop) number answered) in
+number_allowed : (rows : List Row) (h : History) (row : ℕ) (stop : Stop) (taken : Bool) (answer : Result ℕ Refused)
+    → and_then (taken_by (state_after rows h row) taken) (next_number (creates_next rows row (births_after h row) stop) (last_number h row)) ≡ answer
+    → IsAllowed rows h (tracee_change row (action.Publish stop) (numbered answer))
+number_allowed rows h row stop taken (Err refusal) answered = tt
+number_allowed rows h row stop taken (Ok number) answered =
+    let fits = publish_fits rows h row stop number (taken_runs (state_after rows h row) taken _ number answered) in
     subst (λ n. Fits rows h (event.Publish row n stop)) (sym fits.1) fits.0
 
-exit_allowed : (rows : List Row) (h : History) (row : ℕ) (death : Death) (answer : Result (Unit {0}) Refused) (test : Result (Unit {0}) Refused)
-    → and_then test (exit_answer rows h row) ≡ answer → IsAllowed rows h (tracee_change row (action.Exit death) (done answer))
-exit_allowed rows h row death (Err refusal) test answered = tt
-exit_allowed rows h row death (Ok tt) test answered = exit_fits rows h row death (answered_behind test (exit_answer rows h row) tt answered)
+exit_allowed : (rows : List Row) (h : History) (row : ℕ) (death : Death) (taken : Bool) (answer : Result (Unit {0}) Refused)
+    → and_then (taken_by (state_after rows h row) taken) (unless_held (holding_back rows (state_after rows h) row)) ≡ answer
+    → IsAllowed rows h (tracee_change row (action.Exit death) (done answer))
+exit_allowed rows h row death taken (Err refusal) answered = tt
+exit_allowed rows h row death taken (Ok tt) answered = exit_fits rows h row death (taken_runs (state_after rows h row) taken _ tt answered)
 
 tracee_allowed : (rows : List Row) (m : Moment) (row : ℕ) (a : Action) (r : Reply) → TraceeReplies rows (sight_at rows m) row a r → IsAllowed rows m.history (tracee_change row a r)
 tracee_allowed rows m row (action.Look other) r is = tt
 tracee_allowed rows m row action.TakeUp r is =
     rw is (took_allowed rows m.history row (state_after rows m.history row) (restart_in (word_after m.taken m.history row).phase) _ refl refl)
-tracee_allowed rows m row (action.Publish stop) r is = rw is (number_allowed rows m.history row stop _ (taken_by (state_after rows m.history row) (m.taken row)) refl)
-tracee_allowed rows m row (action.Exit death) r is = rw is (exit_allowed rows m.history row death _ (taken_by (state_after rows m.history row) (m.taken row)) refl)
+tracee_allowed rows m row (action.Publish stop) r is = rw is (number_allowed rows m.history row stop (m.taken row) _ refl)
+tracee_allowed rows m row (action.Exit death) r is = rw is (exit_allowed rows m.history row death (m.taken row) _ refl)
 tracee_allowed rows m row (action.Claim other) r is = tt
 tracee_allowed rows m row (action.Resume other how) r is = tt
 
--- a word that waits shows a state that does
+-- a word that waits shows the same whether its row is born or not, and a state that waits
+pub born_either : (born : Bool) (number : ℕ) (at : Phase) → waits at ≡ true → shown born number at ≡ shown true number at
+born_either born number (phase.Stopped status) waiting = refl
+born_either born number (phase.Dead status) waiting = refl
+born_either born number at waiting = cc
+
 waits_shown : (born : Bool) (number : ℕ) (at : Phase) → waits at ≡ true → is_waitable (shown born number at) ≡ true
 waits_shown born number (phase.Stopped status) waiting = refl
 waits_shown born number (phase.Dead status) waiting = refl
-waits_shown born number phase.Fresh waiting = cc
-waits_shown born number (phase.Resumed how) waiting = cc
-waits_shown born number phase.Active waiting = cc
-waits_shown born number (phase.Claimed tracer) waiting = cc
-waits_shown born number phase.Reaped waiting = cc
+waits_shown born number at waiting = cc
+
+-- the word of a row shows its state
+pub shows_after : (rows : List Row) (taken : ℕ → Bool) (h : History) → ((row : ℕ) → taken row ≡ true → state_after rows h row ≡ state.Running)
+    → (row : ℕ) → row < length rows
+    → shown (is_born rows h row) (word_after taken h row).number (word_after taken h row).phase ≡ state_after rows h row
+shows_after rows taken h up row within =
+    let now = state_within rows h row within in
+    shows_taken (taken row) (is_born rows h row) (events_of row h) (λ is_up. sym now ∙ up row is_up) ∙ sym now
 
 -- a claim that got a word found the one last seen, which waits, in a row that is there
 record HasGot (at : State) (now word : Word) : Type 0 where
@@ -154,32 +166,16 @@ exchanged at last now word there is = record { there = there; waiting = ap (λ (
 has_got : (at : State) (last now word : Word) → ClaimReplies at last now (reply.Got word) → HasGot at now word
 has_got state.Absent last now word is = cc
 has_got state.Unborn last now word is = cc
-has_got state.Running last now word is = exchanged state.Running last now word (λ gone. cc) is
-has_got (state.Stopped n status) last now word is = exchanged (state.Stopped n status) last now word (λ gone. cc) is
-has_got (state.Claimed n tracer) last now word is = exchanged (state.Claimed n tracer) last now word (λ gone. cc) is
-has_got (state.Dead n status) last now word is = exchanged (state.Dead n status) last now word (λ gone. cc) is
-has_got state.Reaped last now word is = exchanged state.Reaped last now word (λ gone. cc) is
+has_got at last now word is = exchanged at last now word (λ gone. cc) is
 
 claim_allowed : (rows : List Row) (taken : ℕ → Bool) (h : History) → ((row : ℕ) → taken row ≡ true → state_after rows h row ≡ state.Running)
     → (row tracer : ℕ) (last word : Word) → ClaimReplies (state_after rows h row) last (word_after taken h row) (reply.Got word) → Fits rows h (event.Claim row word.number tracer)
 claim_allowed rows taken h up row tracer last word is =
     let got = has_got (state_after rows h row) last (word_after taken h row) word is in
-    let within = present rows h row got.there in
-    let now = state_within rows h row within in
-    let shows = shows_taken (taken row) (is_born rows h row) (events_of row h) (λ is_up. sym now ∙ up row is_up) in (
-      ap is_waitable (now ∙ sym shows) ∙ waits_shown (is_born rows h row) (number_in (events_of row h)) (raised (taken row) (phase_in (events_of row h))) got.waiting,
+    let shows = shows_after rows taken h up row (present rows h row got.there) in (
+      ap is_waitable (sym shows) ∙ waits_shown (is_born rows h row) (word_after taken h row).number (word_after taken h row).phase got.waiting,
       ap (λ (w : Word). w.number) got.same,
     )
-
--- a word that waits shows the same whether its row is born or not
-born_either : (born : Bool) (number : ℕ) (at : Phase) → waits at ≡ true → shown born number at ≡ shown true number at
-born_either born number (phase.Stopped status) waiting = refl
-born_either born number (phase.Dead status) waiting = refl
-born_either born number phase.Fresh waiting = cc
-born_either born number (phase.Resumed how) waiting = cc
-born_either born number phase.Active waiting = cc
-born_either born number (phase.Claimed tracer) waiting = cc
-born_either born number phase.Reaped waiting = cc
 
 -- what a claim got is what one thread alone would be answered
 pub got_is_sequential : (rows : List Row) (tracers : ℕ) (m : Moment) → ((row : ℕ) → m.taken row ≡ true → state_after rows m.history row ≡ state.Running)
@@ -188,12 +184,9 @@ pub got_is_sequential : (rows : List Row) (tracers : ℕ) (m : Moment) → ((row
 got_is_sequential rows tracers m up actor tracer row word few who is =
     let reply = subst (λ w. ActorReplies rows (sight_at rows m) m.seen w (action.Claim row) (reply.Got word)) who is in
     let got = has_got (state_after rows m.history row) (m.seen tracer row) (word_after m.taken m.history row) word reply in
-    let within = present rows m.history row got.there in
-    let now = state_within rows m.history row within in
+    let shows = shows_after rows m.taken m.history up row (present rows m.history row got.there) in
     let born = is_born rows m.history row in
     let word_now = word_after m.taken m.history row in
-    let shows : shown born word_now.number word_now.phase ≡ state_after rows m.history row =
-    shows_taken (m.taken row) born (events_of row m.history) (λ is_up. sym now ∙ up row is_up) ∙ sym now in
     let answered : claim_answer rows m.history row tracer ≡ claim_state (state_after rows m.history row) = rw (lt-ltb _ _ few) refl in
     answered ∙ ap claim_state (sym shows ∙ born_either born word_now.number word_now.phase got.waiting)
     ∙ ap (λ (w : Word). claim_state (shown true w.number w.phase)) (sym got.same)
@@ -285,18 +278,18 @@ replies_at rows words seen tracers m at each roster saw (Some (Tracer tracer)) a
     same_last rows m (last_seen rows seen tracer) (m.seen tracer) (λ row. saw tracer row (among tracer refl)) tracer a r
     (subst (λ sight. TracerReplies rows sight (last_seen rows seen tracer) tracer a r) (same_sight rows words m at each roster) is)
 
-pub stands_behind : (rows : List Row) (words new : List Word) (m : Moment) → AreAt rows words m.taken m.history → length words ≡ length rows
+pub stands_after_step : (rows : List Row) (words new : List Word) (m : Moment) → AreAt rows words m.taken m.history → length words ≡ length rows
     → (who : Option Actor) (a : Action) (r : Reply) → ActorReplies rows (sight_at rows m) m.seen who a r
     → new ≡ words_with (actor_change (word_at words) who a r) words
     → AreAt rows new (taken_with (actor_change (word_after m.taken m.history) who a r) m.taken) (history_with (actor_change (word_after m.taken m.history) who a r) m.history)
-stands_behind rows words new m at each who a r is changed =
+stands_after_step rows words new m at each who a r is changed =
     let of_rows : word_at words ≡ word_after m.taken m.history = λ i row. each_word rows words m.taken m.history at each row i in
     let change : Change = actor_change (word_after m.taken m.history) who a r in
     let known : new ≡ words_with change words = changed ∙ ap (λ (ws : ℕ → Word). words_with (actor_change ws who a r) words) of_rows in
     subst (λ ws. AreAt rows ws (taken_with change m.taken) (history_with change m.history)) (sym known)
     (change_stands rows words m.taken m.history at each change (actor_allowed rows m at.up who a r is))
 
--- the words last seen behind a step, as they are kept and as the moment has them
+-- the words last seen after a step, as they are kept and as the moment has them
 record IsNoted (rows : List Row) (tracers : ℕ) (seen : List Word) (before : ℕ → ℕ → Word) : Type 0 where
   each : length seen ≡ tracers * length rows
   saw : (tracer row : ℕ) → tracer < tracers → row < length rows → last_seen rows seen tracer row ≡ before tracer row
@@ -328,15 +321,15 @@ noted rows tracers seen left before is words tracer few (Some at) there set t ro
           ∙ sym (ap (λ b. cond b (words at) (before t row)) other)
     ]
 
-pub seen_behind : (rows : List Row) (tracers : ℕ) (new seen left : List Word) (taken : ℕ → Bool) (h : History) → AreAt rows new taken h → length new ≡ length rows
+pub seen_after_step : (rows : List Row) (tracers : ℕ) (new seen left : List Word) (taken : ℕ → Bool) (h : History) → AreAt rows new taken h → length new ≡ length rows
     → (before : ℕ → ℕ → Word) → length seen ≡ tracers * length rows
     → ((tracer row : ℕ) → tracer < tracers → row < length rows → last_seen rows seen tracer row ≡ before tracer row)
     → (who : Option Actor) → AmongTracers tracers who → (a : Action) (r : Reply) → ForSome (row_seen a r) (λ at. at < length rows)
     → left ≡ words_seen_by rows (word_at new) who a r seen
     → (t row : ℕ) → t < tracers → row < length rows → last_seen rows left t row ≡ seen_by (word_after taken h) who a r before t row
-seen_behind rows tracers new seen left taken h at each before long saw None among a r there is t row few within = ap (λ ws. last_seen rows ws t row) is ∙ saw t row few within
-seen_behind rows tracers new seen left taken h at each before long saw (Some (Tracee own)) among a r there is t row few within = ap (λ ws. last_seen rows ws t row) is ∙ saw t row few within
-seen_behind rows tracers new seen left taken h at each before long saw (Some (Tracer tracer)) among a r there is t row few within =
+seen_after_step rows tracers new seen left taken h at each before long saw None among a r there is t row few within = ap (λ ws. last_seen rows ws t row) is ∙ saw t row few within
+seen_after_step rows tracers new seen left taken h at each before long saw (Some (Tracee own)) among a r there is t row few within = ap (λ ws. last_seen rows ws t row) is ∙ saw t row few within
+seen_after_step rows tracers new seen left taken h at each before long saw (Some (Tracer tracer)) among a r there is t row few within =
     let of_rows : word_at new ≡ word_after taken h = λ i at_row. each_word rows new taken h at each at_row i in
     noted rows tracers seen left before (record { each = long; saw = saw }) (word_after taken h) tracer (among tracer refl) (row_seen a r) there
     (is ∙ ap (λ (ws : ℕ → Word). words_seen rows ws tracer (row_seen a r) seen) of_rows) t row few within

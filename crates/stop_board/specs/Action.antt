@@ -1,6 +1,6 @@
--- What an actor asks of the cells in one atomic step, and the reply (ptrace(2), PTRACE_SYSCALL and PTRACE_CONT; waitid(2)). The replies are the sequential answers and two
--- more: a row that its tracee has not taken up is refused to publish and to exit, and a claim that finds another word
--- than the one last seen misses.
+-- What an actor asks of the cells in one atomic step, and the reply (ptrace(2), PTRACE_SYSCALL and PTRACE_CONT;
+-- waitid(2)). The replies are the sequential answers and two more: a row that its tracee has not taken up is refused to
+-- publish and to exit, and a claim that finds another word than the one last seen misses.
 use Rattle.std.specs.Prelude.{◌≡◌, ◌≢◌, ℕ, Bool, true, false, nat_lt, List, length, Option, Some, None, Result, Ok, Err, if◌then◌else◌}
 use Rattle.trace_record.specs.Death.{IsDeath}
 use Rattle.trace_record.specs.Resume.{IsResume}
@@ -20,8 +20,8 @@ use Rattle.stop_history.specs.declared.state.State.{State}
 use Rattle.stop_history.specs.declared.state.State.TheVariants as state
 use Rattle.stop_history.specs.Change.{Change, Happened, Nothing, TakenUp}
 use Rattle.stop_history.specs.Event as event
-use Rattle.stop_history.specs.History.{bears_next, holding_back}
-use Rattle.stop_history.specs.Sequential.{and_then, exit_by, publish_by, resume_by, running_by}
+use Rattle.stop_history.specs.History.{creates_next, holding_back}
+use Rattle.stop_history.specs.Sequential.{and_then, next_number, resume_by, running_by, unless_held}
 use Rattle.stop_history.specs.State.{is_waitable}
 use Rattle.stop_history.specs.Word.{Word, shown}
 
@@ -30,9 +30,7 @@ abbrev pub IsAction : Action → Type 0
 IsAction (action.Publish stop) = IsStop stop
 IsAction (action.Resume row how) = IsResume how
 IsAction (action.Exit death) = IsDeath death
-IsAction (action.Look row) = Unit {0}
-IsAction action.TakeUp = Unit {0}
-IsAction (action.Claim row) = Unit {0}
+IsAction other = Unit {0}
 
 -- what a reply depends on: of each row its state, its word, and whether it is taken up
 pub record Sight : Type 0 where
@@ -62,11 +60,7 @@ look_reply rows sight row = if nat_lt row (length rows) then reply.Word (sight.w
 abbrev pub restart_in : Phase → Result Resume Refused
 restart_in phase.Fresh = Ok (record { kind = Cont; signal = 0 })
 restart_in (phase.Resumed how) = Ok how
-restart_in phase.Active = Err refused.NotRunning
-restart_in (phase.Stopped status) = Err refused.NotRunning
-restart_in (phase.Claimed tracer) = Err refused.NotRunning
-restart_in (phase.Dead status) = Err refused.NotRunning
-restart_in phase.Reaped = Err refused.NotRunning
+restart_in other = Err refused.NotRunning
 
 -- a row that is to publish or to exit runs, and its tracee has taken it up
 abbrev pub taken_by : State → Bool → Result (Unit {0}) Refused
@@ -77,11 +71,10 @@ TraceeReplies rows sight row (action.Look other) r = r ≡ look_reply rows sight
 TraceeReplies rows sight row action.TakeUp r = r ≡ took (and_then (running_by (sight.states row)) (restart_in (sight.words row).phase))
 TraceeReplies rows sight row (action.Publish stop) r =
     r ≡ numbered (and_then (taken_by (sight.states row) (sight.taken row))
-    (publish_by (sight.states row) (bears_next rows row (sight.words row).births stop) (sight.words row).number))
+    (next_number (creates_next rows row (sight.words row).births stop) (sight.words row).number))
 TraceeReplies rows sight row (action.Exit death) r =
-    r ≡ done (and_then (taken_by (sight.states row) (sight.taken row)) (exit_by (holding_back rows sight.states row) (sight.states row)))
-TraceeReplies rows sight row (action.Claim other) r = r ≡ reply.Refused refused.NoRow
-TraceeReplies rows sight row (action.Resume other how) r = r ≡ reply.Refused refused.NoRow
+    r ≡ done (and_then (taken_by (sight.states row) (sight.taken row)) (unless_held (holding_back rows sight.states row)))
+TraceeReplies rows sight row a r = r ≡ reply.Refused refused.NoRow
 
 -- whether a word of this phase shows a stop or a death to report (waitid(2)), which neither its number nor whether
 -- its row is born decides
@@ -93,28 +86,19 @@ abbrev pub Exchanges : (last now : Word) → Reply → Type 0
 Exchanges last now (reply.Got word) = (waits last.phase ≡ true) × (last ≡ now) × (word ≡ now)
 Exchanges last now (reply.Missed word) = (waits last.phase ≡ true) × (last ≢ now) × (word ≡ now)
 Exchanges last now (reply.Refused refusal) = (waits last.phase ≡ false) × (refusal ≡ refused.NotWaitable)
-Exchanges last now (reply.Word word) = ⊥
-Exchanges last now (reply.Took how) = ⊥
-Exchanges last now (reply.Number number) = ⊥
-Exchanges last now reply.Done = ⊥
+Exchanges last now other = ⊥
 
 abbrev pub ClaimReplies : State → (last now : Word) → Reply → Type 0
 ClaimReplies state.Absent last now r = r ≡ reply.Refused refused.NoRow
 ClaimReplies state.Unborn last now r = r ≡ reply.Refused refused.Unborn
-ClaimReplies state.Running last now r = Exchanges last now r
-ClaimReplies (state.Stopped number status) last now r = Exchanges last now r
-ClaimReplies (state.Claimed number tracer) last now r = Exchanges last now r
-ClaimReplies (state.Dead number status) last now r = Exchanges last now r
-ClaimReplies state.Reaped last now r = Exchanges last now r
+ClaimReplies at last now r = Exchanges last now r
 
 -- `last` is the word that the tracer last saw in each row
 abbrev pub TracerReplies : List Row → Sight → (last : ℕ → Word) → ℕ → Action → Reply → Type 0
 TracerReplies rows sight last tracer (action.Look row) r = r ≡ look_reply rows sight row
 TracerReplies rows sight last tracer (action.Claim row) r = ClaimReplies (sight.states row) (last row) (sight.words row) r
 TracerReplies rows sight last tracer (action.Resume row how) r = r ≡ done (resume_by tracer (sight.states row))
-TracerReplies rows sight last tracer action.TakeUp r = r ≡ reply.Refused refused.NoRow
-TracerReplies rows sight last tracer (action.Publish stop) r = r ≡ reply.Refused refused.NoRow
-TracerReplies rows sight last tracer (action.Exit death) r = r ≡ reply.Refused refused.NoRow
+TracerReplies rows sight last tracer a r = r ≡ reply.Refused refused.NoRow
 
 -- ---- what a reply tells of the step
 

@@ -19,21 +19,13 @@ HasHistory world h = (m : Moment) × StandsAt world m × (m.history ≡ h)
 abbrev pub published_in : Reply → Result ℕ Refused
 published_in (reply.Number number) = Ok number
 published_in (reply.Refused refusal) = Err refusal
-published_in (reply.Word word) = Err refused.NotRunning
-published_in (reply.Took how) = Err refused.NotRunning
-published_in (reply.Got word) = Err refused.NotRunning
-published_in (reply.Missed word) = Err refused.NotRunning
-published_in reply.Done = Err refused.NotRunning
+published_in other = Err refused.NotRunning
 
 -- what is done, or the refusal
 abbrev pub done_in : Reply → Result (Unit {0}) Refused
 done_in reply.Done = Ok tt
 done_in (reply.Refused refusal) = Err refusal
-done_in (reply.Word word) = Err refused.NotRunning
-done_in (reply.Took how) = Err refused.NotRunning
-done_in (reply.Number number) = Err refused.NotRunning
-done_in (reply.Got word) = Err refused.NotRunning
-done_in (reply.Missed word) = Err refused.NotRunning
+done_in other = Err refused.NotRunning
 
 -- the stop or the death that a claimed word showed
 abbrev pub got_of : ℕ → Phase → Result Got Refused
@@ -42,8 +34,4 @@ got_of number at = claim_state (shown true number at)
 abbrev pub got_in : Reply → Result Got Refused
 got_in (reply.Got word) = got_of word.number word.phase
 got_in (reply.Refused refusal) = Err refusal
-got_in (reply.Word word) = Err refused.NotWaitable
-got_in (reply.Took how) = Err refused.NotWaitable
-got_in (reply.Number number) = Err refused.NotWaitable
-got_in (reply.Missed word) = Err refused.NotWaitable
-got_in reply.Done = Err refused.NotWaitable
+got_in other = Err refused.NotWaitable

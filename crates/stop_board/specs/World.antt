@@ -78,7 +78,7 @@ actor_change words (Some (Tracer tracer)) action r = tracer_change words tracer 
 abbrev pub change_of : List Row → (tracers : ℕ) → Moment → (actor : ℕ) → Action → Reply → Change
 change_of rows tracers m actor action r = actor_change (word_after m.taken m.history) (numbered_actor (length rows) tracers actor) action r
 
--- a tracer has seen the word that the row has right behind the step
+-- a tracer has seen the word that the row has directly after the step
 abbrev pub seen_with : (ℕ → Word) → (tracer : ℕ) → Option ℕ → (ℕ → ℕ → Word) → ℕ → ℕ → Word
 seen_with words tracer None seen t r = seen t r
 seen_with words tracer (Some row) seen t r = if t == tracer && r == row then words row else seen t r
@@ -88,7 +88,7 @@ seen_by words None action r seen = seen
 seen_by words (Some (Tracee row)) action r seen = seen
 seen_by words (Some (Tracer tracer)) action r seen = seen_with words tracer (row_seen action r) seen
 
--- the moment behind a change, of which an actor has seen its part
+-- the moment after a change, of which an actor has seen its part
 abbrev pub moment_with : Option Actor → Action → Reply → Change → Moment → Moment
 moment_with who action r change m = record {
   history = history_with change m.history;
@@ -96,8 +96,8 @@ moment_with who action r change m = record {
   seen = seen_by (word_after (taken_with change m.taken) (history_with change m.history)) who action r m.seen;
 }
 
-abbrev pub moment_after : List Row → (tracers : ℕ) → Moment → (actor : ℕ) → Action → Reply → Moment
-moment_after rows tracers m actor action r =
+abbrev pub moment_after_step : List Row → (tracers : ℕ) → Moment → (actor : ℕ) → Action → Reply → Moment
+moment_after_step rows tracers m actor action r =
     moment_with (numbered_actor (length rows) tracers actor) action r (change_of rows tracers m actor action r) m
 
 -- ---- the same, of words that stand at no moment yet
@@ -105,12 +105,7 @@ moment_after rows tracers m actor action r =
 -- a row that its tracee has taken up
 abbrev pub is_active : Phase → Bool
 is_active phase.Active = true
-is_active phase.Fresh = false
-is_active (phase.Resumed how) = false
-is_active (phase.Stopped status) = false
-is_active (phase.Claimed tracer) = false
-is_active (phase.Dead status) = false
-is_active phase.Reaped = false
+is_active other = false
 
 -- an actor of these rows, with a place for what it last saw in each row
 abbrev pub IsActor : (rows places : ℕ) → Option Actor → Type 0
@@ -137,12 +132,12 @@ words_seen_by rows words (Some (Tracer tracer)) action r seen = words_seen rows 
 unfoldable pub AreReplies : List Row → (tracers : ℕ) → Moment → List (ℕ × Action) → List Reply → Type 0
 AreReplies rows tracers m [] [] = Unit {0}
 AreReplies rows tracers m (turn ∷ turns) (r ∷ rs) =
-    Replies rows tracers m turn.0 turn.1 r × AreReplies rows tracers (moment_after rows tracers m turn.0 turn.1 r) turns rs
+    Replies rows tracers m turn.0 turn.1 r × AreReplies rows tracers (moment_after_step rows tracers m turn.0 turn.1 r) turns rs
 AreReplies rows tracers m [] (r ∷ rs) = ⊥
 AreReplies rows tracers m (turn ∷ turns) [] = ⊥
 
 -- the moment that a whole run comes to
-unfoldable pub moment_behind : List Row → (tracers : ℕ) → Moment → List (ℕ × Action) → List Reply → Moment
-moment_behind rows tracers m [] rs = m
-moment_behind rows tracers m (turn ∷ turns) [] = m
-moment_behind rows tracers m (turn ∷ turns) (r ∷ rs) = moment_behind rows tracers (moment_after rows tracers m turn.0 turn.1 r) turns rs
+unfoldable pub moment_after_run : List Row → (tracers : ℕ) → Moment → List (ℕ × Action) → List Reply → Moment
+moment_after_run rows tracers m [] rs = m
+moment_after_run rows tracers m (turn ∷ turns) [] = m
+moment_after_run rows tracers m (turn ∷ turns) (r ∷ rs) = moment_after_run rows tracers (moment_after_step rows tracers m turn.0 turn.1 r) turns rs

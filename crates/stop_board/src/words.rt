@@ -1,12 +1,13 @@
-//! The events of a row, on the words of all rows. Board and model alike are made of these.
+//! The words of all rows: what they show, and what each call makes of them. The board and the interleaving model are
+//! both made of these functions.
 
 ghost use Rattle.std.specs.Prelude.{◌≡◌, ◌+◌, ◌<◌, ◌≤◌, ℕ, true, length, IfOk, IsSome, replicate};
 ghost use Rattle.stop_history.specs.Roster.{IsRoster, parent_of};
 ghost use Rattle.stop_history.specs.declared.limits.TheConstants.{MOST_ROWS};
-ghost use Rattle.stop_history.specs.History.{bears_next, holding_back, holds_back, is_next_child};
+ghost use Rattle.stop_history.specs.History.{creates_next, holding_back, holds_back, is_next_child};
 ghost use Rattle.stop_history.specs.State.{is_alive};
-ghost use Rattle.stop_history.specs.Sequential.{claim_by, claim_state, exit_by, publish_by, resume_by, resume_state, running_by};
-ghost use Rattle.stop_history.specs.Word.{is_borne_by, opening, state_by, word_at};
+ghost use Rattle.stop_history.specs.Sequential.{claim_by, claim_state, exit_by, next_number, publish_by, resume_by, resume_state, running_by, unless_held};
+ghost use Rattle.stop_history.specs.Word.{shows_created, opening, state_by, word_at};
 ghost use Rattle.stop_history.specs.Step.{claimed, died, published, restarted, with_word};
 ghost use Rattle.std.specs.Option.{ForSome};
 ghost use Rattle.trace_record.specs.Stop.{IsStop, child_of};
@@ -20,7 +21,7 @@ use stop_history::{
 };
 use trace_record::{Death, Resume, Stop};
 
-/// The words of so many rows before any event.
+/// The words of this many rows before any event.
 pub(crate) fn opening_words<A: Allocator>(alloc: A, count: usize) -> Result<Vec<Word, A>, NoMemory>
     ensures { IfOk result (λ words. words.items ≡ replicate count opening) }
 {
@@ -33,11 +34,11 @@ pub(crate) fn opening_words<A: Allocator>(alloc: A, count: usize) -> Result<Vec<
     Ok(words)
 }
 
-/// Whether a row is a root, or its parent has borne it.
-fn is_borne(rows: &[Row], words: &[Word], at: usize) -> bool
+/// Whether a row is a root, or its parent has created it.
+fn was_created(rows: &[Row], words: &[Word], at: usize) -> bool
     requires row { at < length rows.now }
     requires words { length words.now ≡ length rows.now }
-    ensures { result ≡ is_borne_by rows.now words.now at (parent_of rows.now at) }
+    ensures { result ≡ shows_created rows.now words.now at (parent_of rows.now at) }
 {
     match parent_place(rows, at) {
         None => true,
@@ -60,7 +61,7 @@ pub(crate) fn state_of(rows: &[Row], words: &[Word], row: u32) -> State
     let word = words[at];
     let number = word.number;
     match word.phase {
-        Phase::Fresh if is_borne(rows, words, at) => State::Running,
+        Phase::Fresh if was_created(rows, words, at) => State::Running,
         Phase::Fresh => State::Unborn,
         Phase::Resumed(_) | Phase::Active => State::Running,
         Phase::Stopped { status } => State::Stopped(number, status),
@@ -70,11 +71,11 @@ pub(crate) fn state_of(rows: &[Row], words: &[Word], row: u32) -> State
     }
 }
 
-/// Whether a stop bears nobody, or the next child of a parent that has borne so many.
-fn bears_next(rows: &[Row], at: usize, births: u8, stop: Stop) -> bool
+/// Whether a stop creates no child, or the next one of a parent that has this many.
+fn creates_next(rows: &[Row], at: usize, births: u8, stop: Stop) -> bool
     requires row { at < length rows.now }
     requires roster { IsRoster rows.now }
-    ensures next { result ≡ bears_next rows.now at births stop }
+    ensures next { result ≡ creates_next rows.now at births stop }
     ensures few { result ≡ true → IsSome (child_of stop) → births + 1 < MOST_ROWS }
 {
     match stop.child() {
@@ -83,7 +84,7 @@ fn bears_next(rows: &[Row], at: usize, births: u8, stop: Stop) -> bool
     }
 }
 
-/// Whether the row at a place, if there is one, is the next child of a parent that has borne so many.
+/// Whether the row at a place, if there is one, is the next child of a parent that has this many.
 fn is_next_child(rows: &[Row], at: usize, births: u8, child: Option<usize>) -> bool
     requires row { at < length rows.now }
     requires child { ForSome child (λ i. i < length rows.now) }
@@ -149,13 +150,30 @@ pub(crate) fn publish_at(
     requires words { length words.old ≡ length rows.now }
     requires stop { IsStop stop }
     requires roster { IsRoster rows.now }
-    ensures answer { result ≡ publish_by (state_by rows.now words.old row) (bears_next rows.now row (word_at words.old row).births stop) (word_at words.old row).number }
+    ensures answer { result ≡ publish_by (state_by rows.now words.old row) (creates_next rows.now row (word_at words.old row).births stop) (word_at words.old row).number }
     ensures words { words.new ≡ with_word result words.old row (published (word_at words.old row) stop) }
 {
     running(state_of(rows, words, row))?;
+    publish_running(rows, words, row, stop)
+}
+
+/// Publishes the next stop of a row that runs: its number, or why not.
+pub(crate) fn publish_running(
+    rows: &[Row],
+    words: &mut [Word],
+    row: u32,
+    stop: Stop,
+) -> Result<u32, Refused>
+    requires row { row < length rows.now }
+    requires words { length words.old ≡ length rows.now }
+    requires stop { IsStop stop }
+    requires roster { IsRoster rows.now }
+    ensures answer { result ≡ next_number (creates_next rows.now row (word_at words.old row).births stop) (word_at words.old row).number }
+    ensures words { words.new ≡ with_word result words.old row (published (word_at words.old row) stop) }
+{
     let at = row as usize;
     let word = words[at];
-    if !bears_next(rows, at, word.births, stop) {
+    if !creates_next(rows, at, word.births, stop) {
         return Err(Refused::NotNext);
     }
     if word.number >= LAST_NUMBER {
@@ -249,6 +267,23 @@ pub(crate) fn exit_at(
     ensures words { words.new ≡ with_word result words.old row (died (word_at words.old row) death) }
 {
     running(state_of(rows, words, row))?;
+    exit_running(rows, words, row, death)
+}
+
+/// Lets a row that runs exit, or says which row holds it back.
+pub(crate) fn exit_running(
+    rows: &[Row],
+    words: &mut [Word],
+    row: u32,
+    death: Death,
+) -> Result<(), Refused>
+    requires row { row < length rows.now }
+    requires words { length words.old ≡ length rows.now }
+    requires roster { IsRoster rows.now }
+    requires death { IsDeath death }
+    ensures answer { result ≡ unless_held (holding_back rows.now (state_by rows.now words.old) row) }
+    ensures words { words.new ≡ with_word result words.old row (died (word_at words.old row) death) }
+{
     let at = row as usize;
     if let Some(other) = holding_back(rows, words, at) {
         return Err(Refused::GroupAlive(other));

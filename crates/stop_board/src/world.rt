@@ -49,7 +49,7 @@ impl<A: Allocator> Model for World<A> {
 impl<A: Allocator + Copy> World<A> {
     ghost use Rattle.stop_board.specs.World.{StandsAt, first_moment};
 
-    /// A World of so many tracers, at most 16, before any event. Nobody has looked yet: what each tracer last saw in
+    /// A World of this many tracers, at most 16, before any event. No tracer has looked yet: what each last saw in
     /// each row is the opening word.
     pub fn new<B: Allocator>(
         alloc: A,
@@ -76,7 +76,8 @@ impl<A: Allocator + Copy> World<A> {
 impl<A: Allocator> World<A> {
     ghost use Rattle.stop_history.specs.Standing.{AreAt};
     ghost use Rattle.stop_history.specs.State.{state_after};
-    ghost use Rattle.stop_board.specs.World.{HasSeen, Moment, Replies, StandsAt, moment_after};
+    ghost use Rattle.stop_history.specs.declared.refused.Refused.{Refused};
+    ghost use Rattle.stop_board.specs.World.{HasSeen, Moment, Replies, StandsAt, moment_after_step};
 
     /// The state of a row, `Absent` out of range.
     pub fn state(&self, row: u32) -> State
@@ -92,10 +93,11 @@ impl<A: Allocator> World<A> {
         requires { IsAction action }
         ensures reply { (m : Moment) → StandsAt self.old m → Replies self.old.rows self.old.tracers m actor action result }
         ensures stands { (m : Moment) → StandsAt self.old m →
-            AreAt self.new.rows self.new.words (moment_after self.old.rows self.old.tracers m actor action result).taken
-            (moment_after self.old.rows self.old.tracers m actor action result).history }
+            AreAt self.new.rows self.new.words (moment_after_step self.old.rows self.old.tracers m actor action result).taken
+            (moment_after_step self.old.rows self.old.tracers m actor action result).history }
         ensures seen { (m : Moment) → StandsAt self.old m →
-            HasSeen self.new (moment_after self.old.rows self.old.tracers m actor action result).seen }
+            HasSeen self.new (moment_after_step self.old.rows self.old.tracers m actor action result).seen }
+        ensures refused { (refusal : Refused) → result ≡ Reply.Refused refusal → self.new ≡ self.old }
         ensures rows { self.new.rows ≡ self.old.rows }
         ensures tracers { self.new.tracers ≡ self.old.tracers }
     {
@@ -112,7 +114,7 @@ impl<A: Allocator> World<A> {
 }
 
 impl<A: Allocator + Copy> World<A> {
-    ghost use Rattle.stop_board.specs.World.{AreReplies, Moment, StandsAt, moment_behind};
+    ghost use Rattle.stop_board.specs.World.{AreReplies, Moment, StandsAt, moment_after_run};
 
     /// The replies to turns of actors, in order. Room for them is made first, so a run that is refused for want of
     /// memory has done nothing.
@@ -121,7 +123,7 @@ impl<A: Allocator + Copy> World<A> {
         ensures replies { (m : Moment) → StandsAt self.old m →
             IfOk result (λ replies. AreReplies self.old.rows self.old.tracers m turns.now replies.items) }
         ensures stands { (m : Moment) → StandsAt self.old m →
-            IfOk result (λ replies. StandsAt self.new (moment_behind self.old.rows self.old.tracers m turns.now replies.items)) }
+            IfOk result (λ replies. StandsAt self.new (moment_after_run self.old.rows self.old.tracers m turns.now replies.items)) }
         ensures refused { OnErr result (self.new ≡ self.old) }
         ensures rows { self.new.rows ≡ self.old.rows }
         ensures tracers { self.new.tracers ≡ self.old.tracers }

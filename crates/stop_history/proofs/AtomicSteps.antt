@@ -18,7 +18,7 @@ use Rattle.stop_history.specs.Layout.{raw_of}
 use Rattle.stop_history.specs.Standing.{AreAt, AreBits, bits_with}
 use Rattle.stop_history.proofs.Events.{own_events, other_events}
 use Rattle.stop_history.proofs.Standing.{held_word}
-use Rattle.stop_history.specs.Change.{Happened, IsAllowed, Nothing, TakenUp, Change, history_with, taken_up, taken_with, word_behind, words_with}
+use Rattle.stop_history.specs.Change.{Happened, IsAllowed, Nothing, TakenUp, Change, history_with, taken_up, taken_with, word_after_event, words_with}
 use Rattle.stop_history.proofs.States.{fits_within, present, runs_on}
 
 -- ---- one event
@@ -93,20 +93,20 @@ claim_left : (taken : Bool) (tracer row number : ℕ) (es : List Event) → take
 claim_left true tracer row number es low = cc
 claim_left false tracer row number es low = ap (λ (p : Phase). record (word_in false es) { phase = p }) (claimed_left tracer es)
 
-left_behind : (rows : List Row) (h : History) (taken : ℕ → Bool) → ((row : ℕ) → taken row ≡ true → state_after rows h row ≡ state.Running) → (e : Event) → Fits rows h e
-    → word_behind (word_after taken h (subject e)) e ≡ word_in false (e ∷ events_of (subject e) h)
-left_behind rows h taken up (event.Publish row number stop) fits = ap (λ n. record (word_in false (event.Publish row n stop ∷ events_of row h)) { number = n }) (sym fits.1)
-left_behind rows h taken up (event.Claim row number tracer) fits =
+word_left : (rows : List Row) (h : History) (taken : ℕ → Bool) → ((row : ℕ) → taken row ≡ true → state_after rows h row ≡ state.Running) → (e : Event) → Fits rows h e
+    → word_after_event (word_after taken h (subject e)) e ≡ word_in false (e ∷ events_of (subject e) h)
+word_left rows h taken up (event.Publish row number stop) fits = ap (λ n. record (word_in false (event.Publish row n stop ∷ events_of row h)) { number = n }) (sym fits.1)
+word_left rows h taken up (event.Claim row number tracer) fits =
     claim_left (taken row) tracer row number (events_of row h) (lowered rows h taken up (event.Claim row number tracer) fits)
-left_behind rows h taken up (event.Resume row number how tracer) fits = refl
-left_behind rows h taken up (event.Exit row death) fits = refl
+word_left rows h taken up (event.Resume row number how tracer) fits = refl
+word_left rows h taken up (event.Exit row death) fits = refl
 
 -- an event leaves in its row the word that it makes of the row's word, and in every other row the word as it was
 pub own_word : (rows : List Row) (h : History) (taken : ℕ → Bool) → ((row : ℕ) → taken row ≡ true → state_after rows h row ≡ state.Running) → (e : Event) → Fits rows h e
-    → word_after (taken_with (Happened e) taken) (e ∷ h) (subject e) ≡ word_behind (word_after taken h (subject e)) e
+    → word_after (taken_with (Happened e) taken) (e ∷ h) (subject e) ≡ word_after_event (word_after taken h (subject e)) e
 own_word rows h taken up e fits =
     ap (word_in (taken_with (Happened e) taken (subject e))) (own_events (subject e) e h refl)
-    ∙ ap (λ b. word_in b (e ∷ events_of (subject e) h)) (lowered rows h taken up e fits) ∙ sym (left_behind rows h taken up e fits)
+    ∙ ap (λ b. word_in b (e ∷ events_of (subject e) h)) (lowered rows h taken up e fits) ∙ sym (word_left rows h taken up e fits)
 
 pub other_word : (taken : ℕ → Bool) (h : History) (e : Event) (row : ℕ) → row ≢ subject e → word_after (taken_with (Happened e) taken) (e ∷ h) row ≡ word_after taken h row
 other_word taken h e row apart =
@@ -142,8 +142,8 @@ change_stands rows words taken h at each (TakenUp row) runs =
 change_stands rows words taken h at each (Happened e) fits =
     let within = fits_within rows h e fits in
     let low = lowered rows h taken at.up e fits in
-    stands_on rows words taken (taken_with (Happened e) taken) h at each e fits within (word_behind (word_at words (subject e)) e)
-    (ap (λ (w : Word). word_behind w e) (held_word rows words taken h at each (subject e) within) ∙ sym (own_word rows h taken at.up e fits))
+    stands_on rows words taken (taken_with (Happened e) taken) h at each e fits within (word_after_event (word_at words (subject e)) e)
+    (ap (λ (w : Word). word_after_event w e) (held_word rows words taken h at each (subject e) within) ∙ sym (own_word rows h taken at.up e fits))
     low (kept taken e)
 
 -- ---- take-ups, and the bits of words
@@ -177,5 +177,5 @@ bits_stand rows bits taken h up long are (TakenUp row) runs =
     (present rows h row (λ absent. let clash : state.Absent ≡ state.Running = sym absent ∙ runs in cc)) long are
     (sym (taken_own taken h row)) (taken_other taken h row)
 bits_stand rows bits taken h up long are (Happened e) fits =
-    replaced rows bits (word_after taken h) (word_after (taken_with (Happened e) taken) (e ∷ h)) (subject e) (word_behind (word_after taken h (subject e)) e)
+    replaced rows bits (word_after taken h) (word_after (taken_with (Happened e) taken) (e ∷ h)) (subject e) (word_after_event (word_after taken h (subject e)) e)
     (fits_within rows h e fits) long are (sym (own_word rows h taken up e fits)) (other_word taken h e)

@@ -11,7 +11,7 @@ use Rattle.stop_history.specs.Event as event
 use Rattle.stop_history.specs.Event.{Event, History, events_of, subject}
 use Rattle.stop_history.specs.Roster.{IsRoster, nobody, parent_of, rank_of, row_at, row_of}
 use Rattle.stop_history.specs.declared.limits.TheConstants.{MOST_ROWS}
-use Rattle.stop_history.specs.State.{is_born, is_borne}
+use Rattle.stop_history.specs.State.{is_born, was_created}
 use Rattle.stop_history.specs.History.{IsLegal, births_after, is_born_child, is_of_parent, is_next_child, names_next}
 use Rattle.stop_history.proofs.Births.{born_by_rank}
 use Rattle.stop_history.proofs.Events.{claim_births, exit_births, resume_births}
@@ -106,7 +106,7 @@ few_children rows roster row within =
     let all : children (row_at rows row).tid rows ≤ last = rw whole at counted in
     omega arith
 
--- a row that bears its next child has borne less than 63
+-- a row that creates its next child has fewer than 63
 pub next_is_few : (rows : List Row) → IsRoster rows → (parent births : ℕ) → parent < length rows → (tid : ℕ) → is_next_child rows parent births (row_of rows tid) ≡ true
     → births + 1 < MOST_ROWS
 next_is_few rows roster parent births within tid next =
@@ -121,7 +121,7 @@ born_at : (rows : List Row) → IsRoster rows → (h : History) → IsLegal rows
     → (o : Option ℕ) → parent_of rows row ≡ o → is_of_parent parent o ≡ true → is_born rows h row ≡ nat_lt (rank_of rows row) (births_after h parent)
 born_at rows roster h legal parent row within None none is = cc
 born_at rows roster h legal parent row within (Some other) found is =
-    ap (λ o. is_borne o (row_at rows row).tid h) found ∙ born_by_rank rows roster h legal row other within found
+    ap (λ o. was_created o (row_at rows row).tid h) found ∙ born_by_rank rows roster h legal row other within found
     ∙ ap (λ p. nat_lt (rank_of rows row) (births_after h p)) (eqb-true other parent is)
 
 -- one more row is counted on both sides, or on neither

@@ -16,7 +16,7 @@ either_way : (b : Bool) (e : Event) (es : List Event) → births_in (e ∷ es) �
 either_way true e es h = h
 either_way false e es h = refl
 
--- claims, resumes and exits bear nobody
+-- claims, resumes and exits create no child
 pub claim_births : (row number tracer parent : ℕ) (h : History) → births_after (event.Claim row number tracer ∷ h) parent ≡ births_after h parent
 claim_births row number tracer parent h = either_way (eqb row parent) (event.Claim row number tracer) (events_of parent h) refl
 

@@ -16,13 +16,13 @@ use Rattle.stop_history.specs.Event as event
 use Rattle.stop_history.specs.Event.{Event, History, events_of, subject}
 use Rattle.stop_history.specs.Roster.{IsRoster}
 use Rattle.stop_history.specs.State.{claimed_state, is_born, is_waitable, state_after, state_in, last_number, number_in}
-use Rattle.stop_history.specs.History.{Fits, births_after, bears_next, holding_back}
+use Rattle.stop_history.specs.History.{Fits, births_after, creates_next, holding_back}
 use Rattle.stop_history.specs.declared.limits.TheConstants.{LAST_NUMBER, TRACERS}
 use Rattle.stop_history.specs.Sequential.{and_then, claim_answer, claim_by, claim_state, exit_answer, exit_by, goes_on, publish_answer, publish_by, resume_answer, resume_by, resume_state, running_by, unless_held}
 use Rattle.stop_history.specs.Step.{claimed, died, published, restarted, with_word}
 use Rattle.stop_history.specs.Word.{state_by, word_at}
 use Rattle.stop_history.specs.Standing.{AreAt, none_taken}
-use Rattle.stop_history.specs.Change.{Happened, ends_run, taken_with, word_behind}
+use Rattle.stop_history.specs.Change.{Happened, ends_run, taken_with, word_after_event}
 use Rattle.stop_history.proofs.Standing.{held_state, held_word}
 use Rattle.stop_history.proofs.AtomicSteps.{change_stands}
 use Rattle.stop_history.proofs.States.{past_or_within, present}
@@ -31,11 +31,11 @@ use Rattle.stop_history.proofs.States.{past_or_within, present}
 
 pub publish_held : (rows : List Row) (words : List Word) (taken : ℕ → Bool) (h : History) → AreAt rows words taken h → length words ≡ length rows → IsRoster rows
     → (row : ℕ) (stop : Stop)
-    → publish_by (state_by rows words row) (bears_next rows row (word_at words row).births stop) (word_at words row).number ≡ publish_answer rows h row stop
+    → publish_by (state_by rows words row) (creates_next rows row (word_at words row).births stop) (word_at words row).number ≡ publish_answer rows h row stop
 publish_held rows words taken h at each roster row stop =
-    ap (λ s. publish_by s (bears_next rows row (word_at words row).births stop) (word_at words row).number) (held_state rows words taken h at each roster row)
+    ap (λ s. publish_by s (creates_next rows row (word_at words row).births stop) (word_at words row).number) (held_state rows words taken h at each roster row)
     ∙ elim (past_or_within rows h row) [
-      | inl within ↦ ap (λ (w : Word). publish_by (state_after rows h row) (bears_next rows row w.births stop) w.number) (held_word rows words taken h at each row within)
+      | inl within ↦ ap (λ (w : Word). publish_by (state_after rows h row) (creates_next rows row w.births stop) w.number) (held_word rows words taken h at each row within)
       | inr past ↦ rw past
     ]
 
@@ -73,7 +73,7 @@ pub publish_fits : (rows : List Row) (h : History) (row : ℕ) (stop : Stop) (nu
     → Fits rows h (event.Publish row (last_number h row + 1) stop) × (number ≡ last_number h row + 1)
 publish_fits rows h row stop number answered =
     let ran = running_Ok (state_after rows h row) _ number answered in
-    let told = next_Ok (bears_next rows row (births_after h row) stop) (nat_lt (last_number h row) LAST_NUMBER) (last_number h row) number ran.1 in
+    let told = next_Ok (creates_next rows row (births_after h row) stop) (nat_lt (last_number h row) LAST_NUMBER) (last_number h row) number ran.1 in
     ((ran.0, refl, (let room = ltb-true (last_number h row) LAST_NUMBER told.1 in omega arith), told.0), told.2)
 
 in_range : (there : Bool) (at : State) (got : Got) → (if there then claim_state at else Err refused.NoRow) ≡ Ok got → is_waitable at ≡ true
@@ -146,13 +146,13 @@ none_taken_still : (e : Event) → taken_with (Happened e) none_taken ≡ none_t
 none_taken_still e = λ i row. and-false (not (ends_run e row)) i
 
 goes : {A : Type 0} (rows : List Row) (words new : List Word) (h : History) → AreAt rows words none_taken h → length words ≡ length rows
-    → (result : Result A Refused) (e : Event) → new ≡ with_word result words (subject e) (word_behind (word_at words (subject e)) e)
+    → (result : Result A Refused) (e : Event) → new ≡ with_word result words (subject e) (word_after_event (word_at words (subject e)) e)
     → ((answer : A) → result ≡ Ok answer → Fits rows h e)
     → AreAt rows new none_taken (goes_on result e h)
 goes rows words new h at each (Err refusal) e is fits = rw is at
 goes rows words new h at each (Ok answer) e is fits =
     rw is (
-    subst (λ (taken : ℕ → Bool). AreAt rows (slice_set words (subject e) (word_behind (word_at words (subject e)) e)) taken (e ∷ h)) (none_taken_still e)
+    subst (λ (taken : ℕ → Bool). AreAt rows (slice_set words (subject e) (word_after_event (word_at words (subject e)) e)) taken (e ∷ h)) (none_taken_still e)
     (change_stands rows words none_taken h at each (Happened e) (fits answer refl)))
 
 pub publish_goes : (rows : List Row) (words new : List Word) (h : History) → AreAt rows words none_taken h → length words ≡ length rows

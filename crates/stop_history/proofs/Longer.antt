@@ -15,7 +15,7 @@ use Rattle.stop_history.specs.Event as event
 use Rattle.stop_history.specs.Event.{Event, History, events_of, subject}
 use Rattle.stop_history.specs.History.{Fits, IsLegal, WasClaimed, births_after, births_in}
 use Rattle.stop_history.specs.Roster.{parent_of, row_at}
-use Rattle.stop_history.specs.State.{is_birth, is_born, is_borne, is_waitable, number_in, state_after, state_in}
+use Rattle.stop_history.specs.State.{is_birth, is_born, was_created, is_waitable, number_in, state_after, state_in}
 use Rattle.stop_history.specs.Word.{claimed_phase, phase_in, shown, word_after, word_in}
 use Rattle.stop_history.proofs.Events.{other_events, own_events}
 use Rattle.stop_history.proofs.Settled.{no_event}
@@ -144,7 +144,7 @@ births_grow (e ∷ more) front row =
     let one = one_more_birth (eqb (subject e) row) e (events_of row (more ++ front)) in
     omega arith
 
-borne_stays : (parent : Option ℕ) (tid : ℕ) (more front : History) → is_borne parent tid front ≡ true → is_borne parent tid (more ++ front) ≡ true
+borne_stays : (parent : Option ℕ) (tid : ℕ) (more front : History) → was_created parent tid front ≡ true → was_created parent tid (more ++ front) ≡ true
 borne_stays None tid more front is = refl
 borne_stays (Some parent) tid [] front is = is
 borne_stays (Some parent) tid (e ∷ more) front is =

@@ -1,4 +1,4 @@
--- Rows that are over stay so: the laws behind "no child is left to wait for". A settled row makes no event but the claim
+-- Rows that are over stay so, on which "no child is left to wait for" rests. A settled row makes no event but the claim
 -- of its own death, so it never dies again; a row that is gone is settled where its parent is.
 use Rattle.std.proofs.Common.{refl, ◌≡◌, ◌≢◌, ◌<◌, ◌∷◌, ◌++◌, [], ℕ, Bool, true, false, not, List, Option, Some, None, length, ◌∙◌, sym, ap, subst, eqb, arith, inl, inr}
 use Rattle.std.proofs.lemmas.Bool.{cases_eq}
@@ -7,7 +7,7 @@ use Rattle.stop_history.specs.Event.{Event, History, events_of, subject}
 use Rattle.stop_history.specs.History.{Fits, IsLegal, IsSettled, IsSilent, ended, unborn_below, unborn_beside}
 use Rattle.stop_history.specs.Over.{IsClosed, IsOver, is_dead, is_gone}
 use Rattle.stop_history.specs.Roster.{IsRoster, parent_of, row_at}
-use Rattle.stop_history.specs.State.{claimed_state, is_borne, is_born, is_ended, number_in, state_after, state_in}
+use Rattle.stop_history.specs.State.{claimed_state, was_created, is_born, is_ended, number_in, state_after, state_in}
 use Rattle.stop_history.specs.declared.roster.Row.{Row}
 use Rattle.stop_history.specs.declared.state.State.{State}
 use Rattle.stop_history.specs.declared.state.State.TheVariants as state
@@ -30,7 +30,7 @@ unborn_has_parent : (rows : List Row) (h : History) (row : ℕ) → row < length
     → (parent : Option ℕ) → parent_of rows row ≡ parent → (p : ℕ) × (parent ≡ Some p)
 unborn_has_parent rows h row within unborn (Some parent) is = (parent, refl)
 unborn_has_parent rows h row within unborn None is =
-    let born : is_born rows h row ≡ true = ap (λ o. is_borne o (row_at rows row).tid h) is in
+    let born : is_born rows h row ≡ true = ap (λ o. was_created o (row_at rows row).tid h) is in
     let not_born : is_born rows h row ≡ false = (unborn_is (is_born rows h row) (events_of row h) (sym (state_within rows h row within) ∙ unborn)).0 in
     let clash : true ≡ false = sym born ∙ not_born in cc
 

@@ -50,7 +50,7 @@ fitted before row h =
     let second = passed (is_some (with_tid before row.tid)) (fault.Twice (length before)) (family_fault (length before) row (parent_in before row)) first.1 in
     record { ids = not-false (has_ids row) first.0; new = nobody_found (with_tid before row.tid) second.0; family = second.1 }
 
--- each row of a roster is fitted behind those before it
+-- each row of a roster is fitted after those before it
 fits : (rows : List Row) → IsRoster rows → (i : ℕ) → i < length rows → IsFitted (take i rows) (row_at rows i)
 fits rows roster i within = fitted _ _ (fits_at [] rows i within (few_or_none _ _ _ roster).1)
 

@@ -7,7 +7,7 @@ use Rattle.stop_history.specs.declared.state.State.TheVariants as state
 use Rattle.stop_history.specs.Event as event
 use Rattle.stop_history.specs.Event.{Event, History, events_of, subject}
 use Rattle.stop_history.specs.Roster.{parent_of, row_at}
-use Rattle.stop_history.specs.State.{claimed_state, is_birth, is_borne, is_born, is_ended, is_waitable, number_in, state_after, state_in}
+use Rattle.stop_history.specs.State.{claimed_state, is_birth, was_created, is_born, is_ended, is_waitable, number_in, state_after, state_in}
 use Rattle.stop_history.specs.History.{Fits, IsLegal, IsSettled, IsSilent, ended, unborn_below, unborn_beside}
 use Rattle.stop_history.proofs.Events.{own_events, other_events}
 use Rattle.stop_history.proofs.States.{present, state_within}
@@ -72,7 +72,7 @@ claim_is_not_unborn number tracer (event.Claim row n other ∷ es) h = cc
 claim_is_not_unborn number tracer (event.Resume row n how other ∷ es) h = cc
 claim_is_not_unborn number tracer (event.Exit row death ∷ es) h = cc
 
--- an unborn row has no event, and its parent has borne nobody of its tid
+-- an unborn row has no event, and its parent has created no child of its tid
 pub unborn_is : (born : Bool) (es : List Event) → state_in born es ≡ state.Unborn → (born ≡ false) × (es ≡ [])
 unborn_is true [] h = cc
 unborn_is false [] h = (refl, refl)
@@ -88,14 +88,14 @@ no_event rows h (event.Claim at number tracer) fits unborn = let clash : false �
 no_event rows h (event.Resume at number how tracer) fits unborn = let clash : state.Unborn ≡ state.Claimed number tracer = sym unborn ∙ fits in cc
 no_event rows h (event.Exit at death) fits unborn = let clash : state.Unborn ≡ state.Running = sym unborn ∙ fits.0 in cc
 
--- a publish alone bears, and only its own row's children
-bears_none : (rows : List Row) (h : History) (e : Event) (parent tid : ℕ) → Fits rows h e → (subject e ≢ parent) ⊎ (state_after rows h parent ≢ state.Running) → is_birth parent tid e ≡ false
-bears_none rows h (event.Publish at number stop) parent tid fits (inl apart) = rw (ne_eqb at parent apart)
-bears_none rows h (event.Publish at number stop) parent tid fits (inr resting) =
+-- only a publish creates a child, and only one of its own row
+creates_none : (rows : List Row) (h : History) (e : Event) (parent tid : ℕ) → Fits rows h e → (subject e ≢ parent) ⊎ (state_after rows h parent ≢ state.Running) → is_birth parent tid e ≡ false
+creates_none rows h (event.Publish at number stop) parent tid fits (inl apart) = rw (ne_eqb at parent apart)
+creates_none rows h (event.Publish at number stop) parent tid fits (inr resting) =
     let apart : at ≢ parent = λ same. resting (ap (state_after rows h) (sym same) ∙ fits.0) in rw (ne_eqb at parent apart)
-bears_none rows h (event.Claim at number tracer) parent tid fits why = refl
-bears_none rows h (event.Resume at number how tracer) parent tid fits why = refl
-bears_none rows h (event.Exit at death) parent tid fits why = refl
+creates_none rows h (event.Claim at number tracer) parent tid fits why = refl
+creates_none rows h (event.Resume at number how tracer) parent tid fits why = refl
+creates_none rows h (event.Exit at death) parent tid fits why = refl
 
 -- who is unborn stays so as long as its parent does not publish
 pub unborn_stays : (rows : List Row) (h : History) (e : Event) (row parent : ℕ) → Fits rows h e → state_after rows h row ≡ state.Unborn → parent_of rows row ≡ Some parent
@@ -104,10 +104,10 @@ unborn_stays rows h e row parent fits unborn of_parent why =
     let within : row < length rows = present rows h row (λ absent. let clash : state.Absent ≡ state.Unborn = sym absent ∙ unborn in cc) in
     let apart : subject e ≢ row = λ same. no_event rows h e fits (ap (state_after rows h) same ∙ unborn) in
     let was = unborn_is (is_born rows h row) (events_of row h) (sym (state_within rows h row within) ∙ unborn) in
-    let unborne : list_any (is_birth parent (row_at rows row).tid) h ≡ false = sym (ap (λ o. is_borne o (row_at rows row).tid h) of_parent) ∙ was.0 in
+    let not_created : list_any (is_birth parent (row_at rows row).tid) h ≡ false = sym (ap (λ o. was_created o (row_at rows row).tid h) of_parent) ∙ was.0 in
     let still : is_born rows (e ∷ h) row ≡ false =
-    ap (λ o. is_borne o (row_at rows row).tid (e ∷ h)) of_parent
-    ∙ ap (λ b. b || list_any (is_birth parent (row_at rows row).tid) h) (bears_none rows h e parent (row_at rows row).tid fits why) ∙ unborne in
+    ap (λ o. was_created o (row_at rows row).tid (e ∷ h)) of_parent
+    ∙ ap (λ b. b || list_any (is_birth parent (row_at rows row).tid) h) (creates_none rows h e parent (row_at rows row).tid fits why) ∙ not_created in
     state_within rows (e ∷ h) row within
     ∙ ap (state_in (is_born rows (e ∷ h) row)) (other_events row e h apart ∙ was.1)
     ∙ ap (λ b. state_in b []) still

@@ -8,9 +8,9 @@ use Rattle.stop_history.specs.Word.{Word}
 use Rattle.stop_history.specs.Event as event
 use Rattle.stop_history.specs.Event.{Event, History, events_of, subject}
 use Rattle.stop_history.specs.Roster.{IsRoster, parent_of, rank_of, row_at}
-use Rattle.stop_history.specs.State.{is_borne, is_born, state_after, state_in, claimed_state, number_in}
+use Rattle.stop_history.specs.State.{was_created, is_born, state_after, state_in, claimed_state, number_in}
 use Rattle.stop_history.specs.History.{births_after}
-use Rattle.stop_history.specs.Word.{is_borne_by, opening, phase_in, claimed_phase, raised, shown, state_by, word_after, word_at}
+use Rattle.stop_history.specs.Word.{shows_created, opening, phase_in, claimed_phase, raised, shown, state_by, word_after, word_at}
 use Rattle.stop_history.specs.Standing.{AreAt}
 use Rattle.stop_history.proofs.Births.{born_by_rank}
 use Rattle.stop_history.proofs.Rosters.{parent_of-Some}
@@ -36,10 +36,10 @@ pub held_word : (rows : List Row) (words : List Word) (taken : ℕ → Bool) (h 
 held_word rows words taken h at each row within = get_or_from_slice_get words row _ opening (at.held row (omega arith))
 
 -- whether a row is born, by the words and by the history
-pub held_borne : (rows : List Row) (words : List Word) (taken : ℕ → Bool) (h : History) → AreAt rows words taken h → length words ≡ length rows → IsRoster rows
-    → (row : ℕ) → row < length rows → (parent : Option ℕ) → parent_of rows row ≡ parent → is_borne_by rows words row parent ≡ is_borne parent (row_at rows row).tid h
-held_borne rows words taken h at each roster row within None of_parent = refl
-held_borne rows words taken h at each roster row within (Some parent) of_parent =
+pub held_created : (rows : List Row) (words : List Word) (taken : ℕ → Bool) (h : History) → AreAt rows words taken h → length words ≡ length rows → IsRoster rows
+    → (row : ℕ) → row < length rows → (parent : Option ℕ) → parent_of rows row ≡ parent → shows_created rows words row parent ≡ was_created parent (row_at rows row).tid h
+held_created rows words taken h at each roster row within None of_parent = refl
+held_created rows words taken h at each roster row within (Some parent) of_parent =
     let known = parent_of-Some rows roster row parent within of_parent in
     let births : (word_at words parent).births ≡ births_after h parent = ap (λ (w : Word). w.births) (held_word rows words taken h at each parent (omega arith)) in
     ap (nat_lt (rank_of rows row)) births ∙ sym (born_by_rank rows roster h at.legal row parent within of_parent)
@@ -56,9 +56,9 @@ held_state rows words taken h at each roster row =
       | inl within ↦
           let inside : nat_lt row (length rows) ≡ true = lt-ltb _ _ within in
           let word = held_word rows words taken h at each row within in
-          let born = held_borne rows words taken h at each roster row within (parent_of rows row) refl in
+          let born = held_created rows words taken h at each roster row within (parent_of rows row) refl in
           rw inside (
-          ap (λ (w : Word). shown (is_borne_by rows words row (parent_of rows row)) w.number w.phase) word
+          ap (λ (w : Word). shown (shows_created rows words row (parent_of rows row)) w.number w.phase) word
           ∙ ap (λ b. shown b (number_in (events_of row h)) (raised (taken row) (phase_in (events_of row h)))) born
           ∙ shows_taken (taken row) (is_born rows h row) (events_of row h)
           (λ up. sym (ap (λ b. cond b (state_in (is_born rows h row) (events_of row h)) state.Absent) inside) ∙ at.up row up))

@@ -7,7 +7,7 @@ use Rattle.stop_history.specs.declared.state.State.TheVariants as state
 use Rattle.stop_history.specs.Event as event
 use Rattle.stop_history.specs.Event.{Event, History, events_of, subject}
 use Rattle.stop_history.specs.Roster.{parent_of, row_at}
-use Rattle.stop_history.specs.State.{is_birth, is_borne, is_born, is_waitable, state_after, state_in}
+use Rattle.stop_history.specs.State.{is_birth, was_created, is_born, is_waitable, state_after, state_in}
 use Rattle.stop_history.specs.History.{Fits}
 use Rattle.stop_history.proofs.Events.{other_events}
 
@@ -42,7 +42,7 @@ runs_if_born born more (event.Claim row number tracer ∷ es) h = h
 runs_if_born born more (event.Resume row number how tracer ∷ es) h = h
 runs_if_born born more (event.Exit row death ∷ es) h = h
 
-still_runs : (parent : Option ℕ) (tid : ℕ) (e : Event) (h : History) (es : List Event) → state_in (is_borne parent tid h) es ≡ state.Running → state_in (is_borne parent tid (e ∷ h)) es ≡ state.Running
+still_runs : (parent : Option ℕ) (tid : ℕ) (e : Event) (h : History) (es : List Event) → state_in (was_created parent tid h) es ≡ state.Running → state_in (was_created parent tid (e ∷ h)) es ≡ state.Running
 still_runs None tid e h es runs = runs
 still_runs (Some parent) tid e h es runs = runs_if_born (list_any (is_birth parent tid) h) (is_birth parent tid e) es runs
 

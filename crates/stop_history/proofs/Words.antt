@@ -4,6 +4,7 @@ use Rattle.std.proofs.lemmas.Nat.{same_from_place}
 use Rattle.trace_options.specs.Event.{code_of}
 use Rattle.trace_options.specs.declared.event.Event.{Event as PtraceEvent}
 use Rattle.trace_options.specs.declared.event.Event.TheVariants as ptrace_event
+use Rattle.trace_status.specs.declared.wait_status.TheConstants.{STOPPED}
 use Rattle.trace_status.specs.declared.wait_status.WaitStatus.TheVariants as status
 use Rattle.trace_record.specs.declared.stop.Stop.{Stop}
 use Rattle.trace_record.specs.declared.stop.Stop.TheVariants as stop
@@ -17,23 +18,23 @@ use Rattle.stop_history.specs.declared.phase.Phase.{Phase}
 use Rattle.stop_history.specs.declared.phase.Phase.TheVariants as phase
 use Rattle.stop_history.specs.Layout.{Kept, kept_of, kind_number, raw_of}
 use Rattle.stop_history.specs.declared.word.layout.TheConstants.{BIRTHS_BITS, KIND_BITS, NUMBER_BITS, SIGNAL_BITS, STATE_BITS, STATUS_BITS}
-use Rattle.stop_history.specs.Word.{IsPhase, IsWord, Tells, Word, tells_death, tells_stop}
+use Rattle.stop_history.specs.Word.{IsPhase, IsWord, Reports, Word, reports_death, reports_stop}
 
 -- each stop's status tells a stop
-pub stop_told : (stop : Stop) → IsStop stop → Tells tells_stop (stop_status stop)
-stop_told stop.Start is = (stop_wait_status 0 stop.Start, refl, (refl, (ptrace_event.Stop, refl), refl), refl)
-stop_told stop.Enter is = (stop_wait_status 0 stop.Enter, refl, refl, refl)
-stop_told stop.Exit is = (stop_wait_status 0 stop.Exit, refl, refl, refl)
-stop_told (stop.Seccomp ret_data) is = (stop_wait_status 0 (stop.Seccomp ret_data), refl, (refl, (ptrace_event.Seccomp, refl), refl), refl)
-stop_told (stop.Fork child) is = (stop_wait_status 0 (stop.Fork child), refl, (refl, (ptrace_event.Fork, refl), refl), refl)
-stop_told (stop.Clone child) is = (stop_wait_status 0 (stop.Clone child), refl, (refl, (ptrace_event.Clone, refl), refl), refl)
-stop_told (stop.Exec former) is = (stop_wait_status 0 (stop.Exec former), refl, (refl, (ptrace_event.Exec, refl), refl), refl)
-stop_told (stop.Signal signal) is = (stop_wait_status 0 (stop.Signal signal), refl, (is, refl), refl)
+pub stop_reported : (stop : Stop) → IsStop stop → Reports reports_stop (stop_status stop)
+stop_reported stop.Start is = (stop_wait_status 0 stop.Start, refl, (refl, (ptrace_event.Stop, refl), refl), refl)
+stop_reported stop.Enter is = (stop_wait_status 0 stop.Enter, refl, refl, refl)
+stop_reported stop.Exit is = (stop_wait_status 0 stop.Exit, refl, refl, refl)
+stop_reported (stop.Seccomp ret_data) is = (stop_wait_status 0 (stop.Seccomp ret_data), refl, (refl, (ptrace_event.Seccomp, refl), refl), refl)
+stop_reported (stop.Fork child) is = (stop_wait_status 0 (stop.Fork child), refl, (refl, (ptrace_event.Fork, refl), refl), refl)
+stop_reported (stop.Clone child) is = (stop_wait_status 0 (stop.Clone child), refl, (refl, (ptrace_event.Clone, refl), refl), refl)
+stop_reported (stop.Exec former) is = (stop_wait_status 0 (stop.Exec former), refl, (refl, (ptrace_event.Exec, refl), refl), refl)
+stop_reported (stop.Signal signal) is = (stop_wait_status 0 (stop.Signal signal), refl, (is, refl), refl)
 
 -- each death's status tells a death
-pub death_told : (death : Death) → IsDeath death → Tells tells_death (death_status death)
-death_told (death.Exited code) is = (death_wait_status 0 (death.Exited code), refl, (is, refl), refl)
-death_told (death.Signaled signal core) is = (death_wait_status 0 (death.Signaled signal core), refl, (is, refl), refl)
+pub death_reported : (death : Death) → IsDeath death → Reports reports_death (death_status death)
+death_reported (death.Exited code) is = (death_wait_status 0 (death.Exited code), refl, (is, refl), refl)
+death_reported (death.Signaled signal core) is = (death_wait_status 0 (death.Signaled signal core), refl, (is, refl), refl)
 
 -- ---- words are one to one
 
@@ -48,7 +49,7 @@ few_codes ptrace_event.Seccomp = omega arith
 few_codes ptrace_event.Stop = omega arith
 
 -- a stop's status is kept without its low byte
-stop_kept : (raw : ℕ) → Tells tells_stop raw → (raw / 0x100 * 0x100 + 0x7f ≡ raw) × (raw / 0x100 < 2 ^ STATUS_BITS)
+stop_kept : (raw : ℕ) → Reports reports_stop raw → (raw / 0x100 * 0x100 + STOPPED ≡ raw) × (raw / 0x100 < 2 ^ STATUS_BITS)
 stop_kept raw (status.Stopped pid signal, of, is, tells) = let value = is.1 in let range = is.0 in (omega arith, omega arith)
 stop_kept raw (status.PtraceEvent pid signal number, of, is, tells) =
     let value = is.2 in
@@ -59,7 +60,7 @@ stop_kept raw (status.Exited pid code, of, is, tells) = cc
 stop_kept raw (status.Signaled pid signal core, of, is, tells) = cc
 stop_kept raw (status.StillAlive, of, is, tells) = cc
 
-death_small : (raw : ℕ) → Tells tells_death raw → raw < 2 ^ STATUS_BITS
+death_small : (raw : ℕ) → Reports reports_death raw → raw < 2 ^ STATUS_BITS
 death_small raw (status.Exited pid code, of, is, tells) = let value = is.1 in let range = is.0 in omega arith
 death_small raw (status.Signaled pid signal true, of, is, tells) = let value : raw ≡ signal + 0x80 = is.1 in let range = is.0.1 in omega arith
 death_small raw (status.Signaled pid signal false, of, is, tells) = let value : raw ≡ signal + 0 = is.1 in let range = is.0.1 in omega arith
@@ -94,7 +95,7 @@ phase_at p =
     if p.state == 0 then Some phase.Fresh
     else if p.state == 1 then Some (phase.Resumed (record { kind = if p.kind == 0 then kind.Syscall else kind.Cont; signal = p.signal }))
     else if p.state == 2 then Some phase.Active
-    else if p.state == 3 then Some (phase.Stopped (p.status * 0x100 + 0x7f))
+    else if p.state == 3 then Some (phase.Stopped (p.status * 0x100 + STOPPED))
     else if p.state == 4 then Some (phase.Claimed p.tracer)
     else if p.state == 5 then Some (phase.Dead p.status)
     else Some phase.Reaped

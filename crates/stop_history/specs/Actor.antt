@@ -14,7 +14,7 @@ actor_of (event.Claim row number tracer) = Tracer tracer
 actor_of (event.Resume row number how tracer) = Tracer tracer
 actor_of (event.Exit row death) = Tracee row
 
--- the actor of a number: so many tracees by their rows, then so many tracers
+-- the actor of a number: first the tracees by their rows, then the tracers
 abbrev pub numbered_actor : (rows tracers number : ℕ) → Option Actor
 numbered_actor rows tracers number =
     if nat_lt number rows then Some (Tracee number)
@@ -33,9 +33,7 @@ mover_of row phase.Fresh = Some (Tracee row)
 mover_of row (phase.Resumed how) = Some (Tracee row)
 mover_of row phase.Active = Some (Tracee row)
 mover_of row (phase.Claimed tracer) = Some (Tracer tracer)
-mover_of row (phase.Stopped status) = None
-mover_of row (phase.Dead status) = None
-mover_of row phase.Reaped = None
+mover_of row other = None
 
 -- only an actor of the set can make the next event of a row of this phase
 abbrev pub is_moved_by : (Actor → Bool) → Option Actor → Bool

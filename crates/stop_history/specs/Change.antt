@@ -16,12 +16,12 @@ pub data Change : Type 0 where
   TakenUp : (row : ℕ) → Change
   Happened : (e : Event) → Change
 
--- the word behind an event of its row
-abbrev pub word_behind : Word → Event → Word
-word_behind word (event.Publish row number stop) = published word stop
-word_behind word (event.Claim row number tracer) = claimed word tracer
-word_behind word (event.Resume row number how tracer) = restarted word how
-word_behind word (event.Exit row death) = died word death
+-- the word after an event of its row
+abbrev pub word_after_event : Word → Event → Word
+word_after_event word (event.Publish row number stop) = published word stop
+word_after_event word (event.Claim row number tracer) = claimed word tracer
+word_after_event word (event.Resume row number how tracer) = restarted word how
+word_after_event word (event.Exit row death) = died word death
 
 -- the word of a row that its tracee has taken up
 abbrev pub taken_up : Word → Word
@@ -30,7 +30,7 @@ taken_up word = record { phase = phase.Active; births = word.births; number = wo
 abbrev pub words_with : Change → List Word → List Word
 words_with Nothing words = words
 words_with (TakenUp row) words = slice_set words row (taken_up (word_at words row))
-words_with (Happened e) words = slice_set words (subject e) (word_behind (word_at words (subject e)) e)
+words_with (Happened e) words = slice_set words (subject e) (word_after_event (word_at words (subject e)) e)
 
 abbrev pub history_with : Change → History → History
 history_with Nothing h = h
@@ -41,8 +41,7 @@ history_with (Happened e) h = e ∷ h
 abbrev pub ends_run : Event → ℕ → Bool
 ends_run (event.Publish row number stop) other = other == row
 ends_run (event.Exit row death) other = other == row
-ends_run (event.Claim row number tracer) other = false
-ends_run (event.Resume row number how tracer) other = false
+ends_run e other = false
 
 -- a row is taken up from its take-up to its next publish or exit
 abbrev pub taken_with : Change → (ℕ → Bool) → ℕ → Bool

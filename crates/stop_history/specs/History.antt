@@ -1,4 +1,4 @@
--- Legal histories: each event fits the state after those before it (ptrace(2), "Attaching and detaching",
+-- Legal histories: no event comes in a state that does not allow it (ptrace(2), "Attaching and detaching",
 -- "Restarting"; waitid(2)). And what a history says of births and of rows that have come to rest.
 use Rattle.std.specs.Prelude.{◌≡◌, ◌≢◌, ◌==◌, ◌&&◌, ◌+◌, ◌≤◌, ◌∷◌, ◌++◌, [], ℕ, Bool, true, false, not, List, length, Option, Some, None, is_some, if◌then◌else◌, find}
 use Rattle.std.specs.List.{range_with_len}
@@ -13,35 +13,34 @@ use Rattle.stop_history.specs.Event.{Event, History, events_of, subject}
 use Rattle.stop_history.specs.Roster.{row_at, row_of, rank_of, parent_of, is_leader}
 use Rattle.stop_history.specs.State.{state_after, last_number, is_born, is_alive, is_ended, is_waitable}
 
--- of one row's events: how many children its forks and clones bore
+-- of one row's events: how many children its forks and clones created
 abbrev pub births_in : List Event → ℕ
 births_in [] = 0
 births_in (event.Publish row number stop ∷ es) = if is_some (child_of stop) then births_in es + 1 else births_in es
-births_in (event.Claim row number tracer ∷ es) = births_in es
-births_in (event.Resume row number how tracer ∷ es) = births_in es
-births_in (event.Exit row death ∷ es) = births_in es
+births_in (e ∷ es) = births_in es
 
 abbrev pub births_after : History → ℕ → ℕ
 births_after h row = births_in (events_of row h)
 
--- whether the row of a tid, if there is one, is the child that a parent of so many births bears next
+-- whether the row of a tid, if there is one, is the child that a parent of this many children creates next
 abbrev pub is_next_child : List Row → (parent births : ℕ) → Option ℕ → Bool
 is_next_child rows parent births None = false
 is_next_child rows parent births (Some row) = (row_at rows row).parent == (row_at rows parent).tid && rank_of rows row == births
 
--- whether a stop bears nobody, or its parent's next child
+-- whether a stop creates no child, or its parent's next one
 abbrev pub names_next : List Row → (parent births : ℕ) → Option ℕ → Bool
 names_next rows parent births None = true
 names_next rows parent births (Some tid) = is_next_child rows parent births (row_of rows tid)
 
-abbrev pub bears_next : List Row → (parent births : ℕ) → Stop → Bool
-bears_next rows parent births stop = names_next rows parent births (child_of stop)
+abbrev pub creates_next : List Row → (parent births : ℕ) → Stop → Bool
+creates_next rows parent births stop = names_next rows parent births (child_of stop)
 
 -- an alive row of the thread group of `row`, other than it
 abbrev pub holds_back : List Row → (ℕ → State) → (row other : ℕ) → Bool
 holds_back rows states row other = not (other == row) && ((row_at rows other).tgid == (row_at rows row).tgid && is_alive (states other))
 
--- the first other row of a leader's thread group that is alive: its leader's exit waits for it
+-- the first alive row of a leader's thread group beside the leader, which cannot exit before it (ptrace(2), "Death
+-- under ptrace")
 abbrev pub holding_back : List Row → (ℕ → State) → ℕ → Option ℕ
 holding_back rows states row =
     if is_leader (row_at rows row) then find (holds_back rows states row) (range_with_len 0 (length rows)) else None
@@ -50,7 +49,7 @@ holding_back rows states row =
 abbrev pub Fits : List Row → History → Event → Type 0
 Fits rows h (event.Publish row number stop) =
     (state_after rows h row ≡ state.Running) × (number ≡ last_number h row + 1) × (number ≤ LAST_NUMBER)
-    × (bears_next rows row (births_after h row) stop ≡ true)
+    × (creates_next rows row (births_after h row) stop ≡ true)
 Fits rows h (event.Claim row number tracer) = (is_waitable (state_after rows h row) ≡ true) × (number ≡ last_number h row)
 Fits rows h (event.Resume row number how tracer) = state_after rows h row ≡ state.Claimed number tracer
 Fits rows h (event.Exit row death) =
@@ -82,19 +81,14 @@ is_born_child rows h parent row = is_of_parent parent (parent_of rows row) && is
 
 -- of one row's events: whether the newest is the publish of this number
 abbrev pub is_just_published : ℕ → List Event → Bool
-is_just_published number [] = false
 is_just_published number (event.Publish row n stop ∷ es) = n == number
-is_just_published number (event.Claim row n tracer ∷ es) = false
-is_just_published number (event.Resume row n how tracer ∷ es) = false
-is_just_published number (event.Exit row death ∷ es) = false
+is_just_published number es = false
 
--- of one row's events: how many claims claim the stop of this number, each right behind its publish
+-- of one row's events: how many claims claim the stop of this number, each directly after its publish
 abbrev pub stop_claims_in : ℕ → List Event → ℕ
 stop_claims_in number [] = 0
-stop_claims_in number (event.Publish row n stop ∷ es) = stop_claims_in number es
 stop_claims_in number (event.Claim row n tracer ∷ es) = (if is_just_published number es then 1 else 0) + stop_claims_in number es
-stop_claims_in number (event.Resume row n how tracer ∷ es) = stop_claims_in number es
-stop_claims_in number (event.Exit row death ∷ es) = stop_claims_in number es
+stop_claims_in number (e ∷ es) = stop_claims_in number es
 
 -- of a history that has gone on: the row was claimed, and nothing had happened to it before that
 pub record WasClaimed (row : ℕ) (more h : History) : Type 0 where

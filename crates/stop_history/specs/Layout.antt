@@ -1,4 +1,4 @@
--- The 64 bits of a word: this project's own, but for the statuses (wait(2)).
+-- The 64 bits of a word: this project's own, except the statuses (wait(2)).
 use Rattle.std.specs.Prelude.{◌+◌, ◌*◌, ◌^◌, ◌/◌, ◌∷◌, [], ℕ, List}
 use Rattle.trace_record.specs.declared.resume.Kind.{Kind}
 use Rattle.trace_record.specs.declared.resume.Kind.TheVariants.{Syscall, Cont}
@@ -22,7 +22,7 @@ abbrev pub kind_number : Kind → ℕ
 kind_number Syscall = 0
 kind_number Cont = 1
 
--- the low byte of a stop's status is 0x7f (wait(2), WIFSTOPPED), and not kept
+-- the low byte is the same in each stop's status (wait(2), WIFSTOPPED), and not kept
 abbrev pub kept_of : Phase → Kept
 kept_of Fresh = kept 0 0 0 0 0
 kept_of (Resumed how) = kept 1 0 (kind_number how.kind) how.signal 0

@@ -8,12 +8,12 @@ use Rattle.stop_history.specs.Event as event
 use Rattle.stop_history.specs.Event.{Event, History}
 use Rattle.stop_history.specs.declared.limits.TheConstants.{TRACERS}
 
-abbrev pub IsEvent : Event → Type 0
-IsEvent (event.Publish row number stop) = IsStop stop
-IsEvent (event.Claim row number tracer) = tracer < TRACERS
-IsEvent (event.Resume row number how tracer) = IsResume how × (tracer < TRACERS)
-IsEvent (event.Exit row death) = IsDeath death
+abbrev pub IsInRange : Event → Type 0
+IsInRange (event.Publish row number stop) = IsStop stop
+IsInRange (event.Claim row number tracer) = tracer < TRACERS
+IsInRange (event.Resume row number how tracer) = IsResume how × (tracer < TRACERS)
+IsInRange (event.Exit row death) = IsDeath death
 
-abbrev pub AreEvents : History → Type 0
-AreEvents [] = Unit {0}
-AreEvents (e ∷ h) = IsEvent e × AreEvents h
+abbrev pub AreInRange : History → Type 0
+AreInRange [] = Unit {0}
+AreInRange (e ∷ h) = IsInRange e × AreInRange h

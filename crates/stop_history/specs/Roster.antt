@@ -37,7 +37,7 @@ family_fault at row (Some parent) = if is_child_of parent row then None else Som
 abbrev pub parent_in : List Row → Row → Option Row
 parent_in before row = if is_root row then None else with_tid before row.parent
 
--- the first fault of a row behind the rows before it, by the order of the refusals
+-- the first fault of a row after the rows before it, by the order of the refusals
 abbrev pub fault_after : List Row → Row → Option RosterError
 fault_after before row =
     if not (has_ids row) then Some (fault.Number (length before))
@@ -78,7 +78,7 @@ row_of rows tid = position (λ q. q.tid == tid) rows
 abbrev pub parent_of : List Row → ℕ → Option ℕ
 parent_of rows row = if is_root (row_at rows row) then None else row_of rows (row_at rows row).parent
 
--- a row's place among the rows of its parent, from 0
+-- how many rows before it have the same parent
 abbrev pub rank_of : List Row → ℕ → ℕ
 rank_of rows row = count_by (λ q. q.parent == (row_at rows row).parent) (take row rows)
 

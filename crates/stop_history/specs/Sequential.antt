@@ -11,7 +11,7 @@ use Rattle.stop_history.specs.declared.got.Got.{Got}
 use Rattle.stop_history.specs.declared.got.Got.TheVariants as got
 use Rattle.stop_history.specs.Event.{Event, History}
 use Rattle.stop_history.specs.State.{state_after, last_number}
-use Rattle.stop_history.specs.History.{bears_next, births_after, holding_back}
+use Rattle.stop_history.specs.History.{creates_next, births_after, holding_back}
 use Rattle.stop_history.specs.declared.limits.TheConstants.{LAST_NUMBER, TRACERS}
 
 -- a row that is to publish or to exit runs
@@ -19,19 +19,20 @@ abbrev pub running_by : State → Result (Unit {0}) Refused
 running_by state.Absent = Err refused.NoRow
 running_by state.Unborn = Err refused.Unborn
 running_by state.Running = Ok tt
-running_by (state.Stopped number status) = Err refused.NotRunning
-running_by (state.Claimed number tracer) = Err refused.NotRunning
-running_by (state.Dead number status) = Err refused.NotRunning
-running_by state.Reaped = Err refused.NotRunning
+running_by other = Err refused.NotRunning
 
 abbrev pub and_then : {A : Type 0} → Result (Unit {0}) Refused → Result A Refused → Result A Refused
 and_then (Ok done) next = next
 and_then (Err refusal) next = Err refusal
 
--- publish: by the row's state, whether a child that the stop names is the next one, and the last number
+-- the number of a running row's next stop: by whether a child that the stop names is the next one, and the last number
+abbrev pub next_number : Bool → ℕ → Result ℕ Refused
+next_number next number =
+    if not next then Err refused.NotNext else if nat_lt number LAST_NUMBER then Ok (number + 1) else Err refused.Full
+
+-- publish: by the row's state, and as above
 abbrev pub publish_by : State → Bool → ℕ → Result ℕ Refused
-publish_by at next number =
-    and_then (running_by at) (if not next then Err refused.NotNext else if nat_lt number LAST_NUMBER then Ok (number + 1) else Err refused.Full)
+publish_by at next number = and_then (running_by at) (next_number next number)
 
 -- claim: by the row's state
 abbrev pub claim_state : State → Result Got Refused
@@ -39,9 +40,7 @@ claim_state state.Absent = Err refused.NoRow
 claim_state state.Unborn = Err refused.Unborn
 claim_state (state.Stopped number status) = Ok (got.Stop number status)
 claim_state (state.Dead number status) = Ok (got.Ended number status)
-claim_state state.Running = Err refused.NotWaitable
-claim_state (state.Claimed number tracer) = Err refused.NotWaitable
-claim_state state.Reaped = Err refused.NotWaitable
+claim_state other = Err refused.NotWaitable
 
 abbrev pub claim_by : ℕ → State → Result Got Refused
 claim_by tracer at = if nat_lt tracer TRACERS then claim_state at else Err refused.NoRow
@@ -51,10 +50,7 @@ abbrev pub resume_state : ℕ → State → Result (Unit {0}) Refused
 resume_state tracer state.Absent = Err refused.NoRow
 resume_state tracer state.Unborn = Err refused.Unborn
 resume_state tracer (state.Claimed number holder) = if holder == tracer then Ok tt else Err refused.NotHolder
-resume_state tracer state.Running = Err refused.NotClaimed
-resume_state tracer (state.Stopped number status) = Err refused.NotClaimed
-resume_state tracer (state.Dead number status) = Err refused.NotClaimed
-resume_state tracer state.Reaped = Err refused.NotClaimed
+resume_state tracer other = Err refused.NotClaimed
 
 abbrev pub resume_by : ℕ → State → Result (Unit {0}) Refused
 resume_by tracer at = if nat_lt tracer TRACERS then resume_state tracer at else Err refused.NoRow
@@ -68,7 +64,7 @@ abbrev pub exit_by : Option ℕ → State → Result (Unit {0}) Refused
 exit_by holding at = and_then (running_by at) (unless_held holding)
 
 abbrev pub publish_answer : List Row → History → ℕ → Stop → Result ℕ Refused
-publish_answer rows h row stop = publish_by (state_after rows h row) (bears_next rows row (births_after h row) stop) (last_number h row)
+publish_answer rows h row stop = publish_by (state_after rows h row) (creates_next rows row (births_after h row) stop) (last_number h row)
 
 abbrev pub claim_answer : List Row → History → (row tracer : ℕ) → Result Got Refused
 claim_answer rows h row tracer = claim_by tracer (state_after rows h row)

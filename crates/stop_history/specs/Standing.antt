@@ -3,7 +3,7 @@ use Rattle.std.specs.Prelude.{◌≡◌, ℕ, Bool, true, false, List, length, S
 use Rattle.stop_history.specs.declared.roster.Row.{Row}
 use Rattle.stop_history.specs.Word.{Word}
 use Rattle.stop_history.specs.declared.state.State.TheVariants as state
-use Rattle.stop_history.specs.Change.{Change, Happened, Nothing, TakenUp, taken_up, word_behind}
+use Rattle.stop_history.specs.Change.{Change, Happened, Nothing, TakenUp, taken_up, word_after_event}
 use Rattle.stop_history.specs.Event.{History, subject}
 use Rattle.stop_history.specs.Layout.{raw_of}
 use Rattle.stop_history.specs.Roster.{IsRoster}
@@ -25,7 +25,7 @@ AreBits rows bits taken h = (row : ℕ) → row < length rows → slice_index bi
 abbrev pub bits_with : Change → (ℕ → Word) → List ℕ → List ℕ
 bits_with Nothing words bits = bits
 bits_with (TakenUp row) words bits = slice_set bits row (raw_of (taken_up (words row)))
-bits_with (Happened e) words bits = slice_set bits (subject e) (raw_of (word_behind (words (subject e)) e))
+bits_with (Happened e) words bits = slice_set bits (subject e) (raw_of (word_after_event (words (subject e)) e))
 
 -- no row
 abbrev pub none_taken : ℕ → Bool

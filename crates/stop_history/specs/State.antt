@@ -10,7 +10,7 @@ use Rattle.stop_history.specs.Event as event
 use Rattle.stop_history.specs.Event.{Event, History, events_of}
 use Rattle.stop_history.specs.Roster.{row_at, parent_of}
 
--- whether a stop bears the tracee of a tid
+-- whether a stop creates the tracee of a tid
 abbrev pub names : ℕ → Option ℕ → Bool
 names tid None = false
 names tid (Some child) = child == tid
@@ -18,33 +18,26 @@ names tid (Some child) = child == tid
 -- whether an event is a publish of the parent whose fork or clone names the tid
 abbrev pub is_birth : (parent tid : ℕ) → Event → Bool
 is_birth parent tid (event.Publish row number stop) = row == parent && names tid (child_of stop)
-is_birth parent tid (event.Claim row number tracer) = false
-is_birth parent tid (event.Resume row number how tracer) = false
-is_birth parent tid (event.Exit row death) = false
+is_birth parent tid other = false
 
--- a root is born, and who was borne by its parent
-abbrev pub is_borne : Option ℕ → ℕ → History → Bool
-is_borne None tid h = true
-is_borne (Some parent) tid h = list_any (is_birth parent tid) h
+-- a root is born from the start, another row when its parent has created it
+abbrev pub was_created : Option ℕ → ℕ → History → Bool
+was_created None tid h = true
+was_created (Some parent) tid h = list_any (is_birth parent tid) h
 
 abbrev pub is_born : List Row → History → ℕ → Bool
-is_born rows h row = is_borne (parent_of rows row) (row_at rows row).tid h
+is_born rows h row = was_created (parent_of rows row) (row_at rows row).tid h
 
 -- of one row's events: the number of its last stop, 0 before any
 abbrev pub number_in : List Event → ℕ
 number_in [] = 0
 number_in (event.Publish row number stop ∷ es) = number
-number_in (event.Claim row number tracer ∷ es) = number_in es
-number_in (event.Resume row number how tracer ∷ es) = number_in es
-number_in (event.Exit row death ∷ es) = number_in es
+number_in (e ∷ es) = number_in es
 
 -- what a claim leaves, by the event before it: a stop is claimed, a death is reaped
 abbrev pub claimed_state : (number tracer : ℕ) → List Event → State
-claimed_state number tracer [] = state.Claimed number tracer
-claimed_state number tracer (event.Publish row n stop ∷ es) = state.Claimed number tracer
-claimed_state number tracer (event.Claim row n other ∷ es) = state.Claimed number tracer
-claimed_state number tracer (event.Resume row n how other ∷ es) = state.Claimed number tracer
 claimed_state number tracer (event.Exit row death ∷ es) = state.Reaped
+claimed_state number tracer es = state.Claimed number tracer
 
 -- of one row's events: its state, by the last of them
 abbrev pub state_in : Bool → List Event → State
@@ -66,27 +59,16 @@ abbrev pub is_alive : State → Bool
 is_alive state.Running = true
 is_alive (state.Stopped number status) = true
 is_alive (state.Claimed number tracer) = true
-is_alive state.Absent = false
-is_alive state.Unborn = false
-is_alive (state.Dead number status) = false
-is_alive state.Reaped = false
+is_alive other = false
 
 -- a row that has ended
 abbrev pub is_ended : State → Bool
 is_ended (state.Dead number status) = true
 is_ended state.Reaped = true
-is_ended state.Absent = false
-is_ended state.Unborn = false
-is_ended state.Running = false
-is_ended (state.Stopped number status) = false
-is_ended (state.Claimed number tracer) = false
+is_ended other = false
 
 -- a row that has a stop or a death to report (waitid(2))
 abbrev pub is_waitable : State → Bool
 is_waitable (state.Stopped number status) = true
 is_waitable (state.Dead number status) = true
-is_waitable state.Absent = false
-is_waitable state.Unborn = false
-is_waitable state.Running = false
-is_waitable (state.Claimed number tracer) = false
-is_waitable state.Reaped = false
+is_waitable other = false

@@ -17,12 +17,7 @@ published word stop = record { phase = phase.Stopped (stop_status stop); births 
 -- a stop is claimed, a death is reaped
 abbrev pub claimed_by : ℕ → Phase → Phase
 claimed_by tracer (phase.Dead status) = phase.Reaped
-claimed_by tracer (phase.Stopped status) = phase.Claimed tracer
-claimed_by tracer phase.Fresh = phase.Claimed tracer
-claimed_by tracer (phase.Resumed how) = phase.Claimed tracer
-claimed_by tracer phase.Active = phase.Claimed tracer
-claimed_by tracer (phase.Claimed other) = phase.Claimed tracer
-claimed_by tracer phase.Reaped = phase.Claimed tracer
+claimed_by tracer other = phase.Claimed tracer
 
 abbrev pub claimed : Word → ℕ → Word
 claimed word tracer = record { phase = claimed_by tracer word.phase; births = word.births; number = word.number }

@@ -18,7 +18,7 @@ use Rattle.stop_history.specs.declared.limits.TheConstants.{LAST_NUMBER, MOST_RO
 use Rattle.stop_history.specs.State.{number_in}
 use Rattle.stop_history.specs.History.{births_in}
 
--- a row's phase, how many children it has borne, and the number of its last stop, 0 before any
+-- a row's phase, how many of its children are born, and the number of its last stop, 0 before any
 pub record Word : Type 0 where
   pub phase : Phase
   pub births : ℕ
@@ -26,35 +26,28 @@ pub record Word : Type 0 where
 
 -- ---- the ranges of a word
 
--- whether a wait status tells a stop (wait(2), WIFSTOPPED), and whether it tells a death (WIFEXITED, WIFSIGNALED)
-abbrev pub tells_stop : WaitStatus → Bool
-tells_stop (status.Stopped pid signal) = true
-tells_stop (status.PtraceEvent pid signal event) = true
-tells_stop (status.PtraceSyscall pid) = true
-tells_stop (status.Exited pid code) = false
-tells_stop (status.Signaled pid signal core) = false
-tells_stop status.StillAlive = false
+-- whether a wait status reports a stop (wait(2), WIFSTOPPED), and whether a death (WIFEXITED, WIFSIGNALED)
+abbrev pub reports_stop : WaitStatus → Bool
+reports_stop (status.Stopped pid signal) = true
+reports_stop (status.PtraceEvent pid signal event) = true
+reports_stop (status.PtraceSyscall pid) = true
+reports_stop other = false
 
-abbrev pub tells_death : WaitStatus → Bool
-tells_death (status.Exited pid code) = true
-tells_death (status.Signaled pid signal core) = true
-tells_death (status.Stopped pid signal) = false
-tells_death (status.PtraceEvent pid signal event) = false
-tells_death (status.PtraceSyscall pid) = false
-tells_death status.StillAlive = false
+abbrev pub reports_death : WaitStatus → Bool
+reports_death (status.Exited pid code) = true
+reports_death (status.Signaled pid signal core) = true
+reports_death other = false
 
 -- a raw value of such a status; it does not say whose, so the pid may as well be 0
-abbrev pub Tells : (WaitStatus → Bool) → ℕ → Type 0
-Tells test raw = (told : WaitStatus) × (pid_of told ≡ Some 0) × Encodes told raw × (test told ≡ true)
+abbrev pub Reports : (WaitStatus → Bool) → ℕ → Type 0
+Reports test raw = (told : WaitStatus) × (pid_of told ≡ Some 0) × Encodes told raw × (test told ≡ true)
 
 abbrev pub IsPhase : Phase → Type 0
 IsPhase (phase.Resumed how) = IsResume how
-IsPhase (phase.Stopped status) = Tells tells_stop status
+IsPhase (phase.Stopped status) = Reports reports_stop status
 IsPhase (phase.Claimed tracer) = tracer < TRACERS
-IsPhase (phase.Dead status) = Tells tells_death status
-IsPhase phase.Fresh = Unit {0}
-IsPhase phase.Active = Unit {0}
-IsPhase phase.Reaped = Unit {0}
+IsPhase (phase.Dead status) = Reports reports_death status
+IsPhase other = Unit {0}
 
 -- a word that a row can have; only the opening word is fresh
 pub record IsWord (word : Word) : Type 0 where
@@ -83,26 +76,23 @@ shown born number (phase.Dead status) = state.Dead number status
 shown born number phase.Reaped = state.Reaped
 
 -- a row is born by the words where it has no parent, or one whose births are above the row's rank
-abbrev pub is_borne_by : List Row → List Word → ℕ → Option ℕ → Bool
-is_borne_by rows words row None = true
-is_borne_by rows words row (Some parent) = nat_lt (rank_of rows row) (word_at words parent).births
+abbrev pub shows_created : List Row → List Word → ℕ → Option ℕ → Bool
+shows_created rows words row None = true
+shows_created rows words row (Some parent) = nat_lt (rank_of rows row) (word_at words parent).births
 
 -- the meaning of a row's word, among the words of all rows
 abbrev pub state_by : List Row → List Word → ℕ → State
 state_by rows words row =
     if nat_lt row (length rows)
-    then shown (is_borne_by rows words row (parent_of rows row)) (word_at words row).number (word_at words row).phase
+    then shown (shows_created rows words row (parent_of rows row)) (word_at words row).number (word_at words row).phase
     else state.Absent
 
 -- ---- the word that a history leaves
 
 -- what a claim leaves, by the events before it: a stop is claimed, a death is reaped
 abbrev pub claimed_phase : ℕ → List Event → Phase
-claimed_phase tracer [] = phase.Claimed tracer
-claimed_phase tracer (event.Publish row number stop ∷ es) = phase.Claimed tracer
-claimed_phase tracer (event.Claim row number other ∷ es) = phase.Claimed tracer
-claimed_phase tracer (event.Resume row number how other ∷ es) = phase.Claimed tracer
 claimed_phase tracer (event.Exit row death ∷ es) = phase.Reaped
+claimed_phase tracer es = phase.Claimed tracer
 
 -- of one row's events, newest first: the phase that they leave where the row is not taken up
 abbrev pub phase_in : List Event → Phase

@@ -9,19 +9,19 @@ ghost use Rattle.stop_history.specs.declared.phase.Phase.TheVariants as phase;
 ghost use Rattle.stop_history.specs.declared.state.State.TheVariants as state;
 ghost use Rattle.stop_history.specs.Actor.{IsQuiet, actor_of, is_moved_by, mover_of};
 ghost use Rattle.stop_history.specs.Change.{Change, Happened, IsAllowed, TakenUp, history_with, taken_up, taken_with};
-ghost use Rattle.stop_history.specs.Change.{word_behind, words_with};
+ghost use Rattle.stop_history.specs.Change.{word_after_event, words_with};
 ghost use Rattle.stop_history.specs.Event.{Event, History, events_of, subject};
 ghost use Rattle.stop_history.specs.Roster.{IsPlaced, IsRoster, parent_of, rank_of, row_at};
 ghost use Rattle.stop_history.specs.declared.limits.TheConstants.{MOST_ROWS};
 ghost use Rattle.stop_history.specs.State.{is_born, is_waitable, state_after};
 ghost use Rattle.stop_history.specs.Layout.{raw_of};
-ghost use Rattle.stop_history.specs.Ranges.{AreEvents};
+ghost use Rattle.stop_history.specs.Ranges.{AreInRange};
 ghost use Rattle.stop_history.specs.Over.{IsClosed, IsOver, is_gone};
 ghost use Rattle.stop_history.specs.Standing.{AreAt, AreBits, bits_with};
 ghost use Rattle.stop_history.specs.Word.{IsWord, Word, phase_in, word_after};
 ghost use Rattle.stop_history.specs.History.{Fits, IsLegal, IsSettled, IsSilent, WasClaimed, births_after, is_born_child, stop_claims_in};
 
-/// A roster has at most 64 rows. Each of them is found by its tid and stands behind its parent, whose process
+/// A roster has at most 64 rows. Each of them is found by its tid and comes after its parent, whose process
 /// group it is in; it leads a thread group or is in its parent's; a root leads one.
 pub fn rows_are_placed()
     ensures few { (rows : List Row) → IsRoster rows → length rows ≤ MOST_ROWS }
@@ -72,7 +72,7 @@ pub fn a_claim_is_its_tracers()
         (row : ℕ) → phase_in (events_of row (more ++ h)) ≡ phase.Claimed tracer → events_of row (more ++ h) ≡ events_of row h }
 {}
 
-/// Births only grow, who is born stays so, and a row that is not born has no event.
+/// Births only grow, who is born stays born, and a row that is not born has no event.
 pub fn births_only_grow()
     ensures births { (more h : History) (row : ℕ) → births_after h row ≤ births_after (more ++ h) row }
     ensures born { (rows : List Row) (more h : History) (row : ℕ) → is_born rows h row ≡ true → is_born rows (more ++ h) row ≡ true }
@@ -85,16 +85,17 @@ pub fn a_waiting_row_is_as_it_was_or_was_claimed()
         (events_of row (more ++ h) ≡ events_of row h) ⊎ WasClaimed row more h }
 {}
 
-/// Each word that a legal history leaves is in range, where its stops, deaths, restarts and tracers are.
+/// Each word that a legal history leaves is in range, where the stops, deaths, restarts and tracers of its events are.
+/// Legality does not speak of those ranges; whoever adds an event keeps them.
 pub fn words_are_in_range()
-    ensures { (rows : List Row) (h : History) → IsRoster rows → IsLegal rows h → AreEvents h →
+    ensures { (rows : List Row) (h : History) → IsRoster rows → IsLegal rows h → AreInRange h →
         (taken : ℕ → Bool) (row : ℕ) → row < length rows → IsWord (word_after taken h row) }
 {}
 
 /// An event makes of its row's word what its kind makes of it, and leaves every other row's word as it was.
 pub fn an_event_changes_its_row_alone()
     ensures own { (rows : List Row) (h : History) (taken : ℕ → Bool) → ((row : ℕ) → taken row ≡ true → state_after rows h row ≡ state.Running) →
-        (e : Event) → Fits rows h e → word_after (taken_with (Happened e) taken) (e ∷ h) (subject e) ≡ word_behind (word_after taken h (subject e)) e }
+        (e : Event) → Fits rows h e → word_after (taken_with (Happened e) taken) (e ∷ h) (subject e) ≡ word_after_event (word_after taken h (subject e)) e }
     ensures other { (taken : ℕ → Bool) (h : History) (e : Event) (row : ℕ) → row ≢ subject e →
         word_after (taken_with (Happened e) taken) (e ∷ h) row ≡ word_after taken h row }
 {}
@@ -106,7 +107,7 @@ pub fn atomic_steps_keep_words()
         (change : Change) → IsAllowed rows h change → AreAt rows (words_with change words) (taken_with change taken) (history_with change h) }
 {}
 
-/// A legal history has at most one claim for each publish: the stop of a number of a row is claimed once.
+/// No stop is claimed twice: of the claims of a row in a legal history at most one is of the stop of a number.
 pub fn a_stop_is_claimed_once()
     ensures { (rows : List Row) (h : History) → IsLegal rows h →
         (row number : ℕ) → stop_claims_in number (events_of row h) ≤ 1 }

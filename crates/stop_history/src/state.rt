@@ -6,7 +6,7 @@
 pub enum State {
     /// There is no such row.
     Absent,
-    /// Its parent has not borne it yet.
+    /// Its parent has not created it yet.
     Unborn,
     /// It runs.
     Running,

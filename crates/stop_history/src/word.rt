@@ -7,7 +7,7 @@ use crate::phase::Phase;
 use std::marker::Model;
 pub use steps::{claimed, died, published, restarted, taken_up};
 
-/// A row's phase, the number of children that it has borne, below 64, and the number of its last stop, 0 before any
+/// A row's phase, the number of its children that are born, below 64, and the number of its last stop, 0 before any
 /// and at most 16,777,215. The opening word alone is fresh. The type keeps these ranges, and those of the phase: a
 /// word is written as a literal, and the literal is proved to be in range.
 ///

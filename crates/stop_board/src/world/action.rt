@@ -7,7 +7,7 @@ use trace_record::{Death, Resume, Stop};
 /// range; the other refusals stand here in the order of their tests.
 #[derive(Clone, Copy, Debug, PartialEq, Eq, Hash)]
 pub enum Action {
-    /// Reads a row's word. Everybody may look.
+    /// Reads a row's word. Any actor may look.
     Look(u32),
     /// A tracee takes its row up: it takes its restart, and runs. Refused: `Unborn`, `NotRunning` (also where it has
     /// taken it up already).

@@ -3,9 +3,9 @@
 ghost use Rattle.std.specs.Prelude.{◌≡◌, ℕ, Result, length};
 ghost use Rattle.stop_board.specs.Action.{IsAction, TraceeReplies, restart_in, taken_by, tracee_change};
 ghost use Rattle.stop_history.specs.Change.{taken_up, words_with};
-ghost use Rattle.stop_history.specs.History.{bears_next, holding_back};
+ghost use Rattle.stop_history.specs.History.{creates_next, holding_back};
 ghost use Rattle.stop_history.specs.Roster.{IsRoster};
-ghost use Rattle.stop_history.specs.Sequential.{and_then, exit_by, publish_by, running_by};
+ghost use Rattle.stop_history.specs.Sequential.{and_then, next_number, running_by, unless_held};
 ghost use Rattle.stop_history.specs.Step.{died, published, with_word};
 ghost use Rattle.stop_history.specs.Word.{state_by, word_at};
 ghost use Rattle.stop_board.specs.World.{is_active, sight_by};
@@ -14,7 +14,7 @@ ghost use Rattle.trace_record.specs.Stop.{IsStop};
 
 use super::action::{Action, Reply};
 use super::look_at;
-use crate::words::{exit_at, publish_at, running, state_of};
+use crate::words::{exit_running, publish_running, running, state_of};
 use stop_history::{Phase, Refused, Row, Word, taken_up};
 use trace_record::{Death, Kind, Resume, Stop};
 
@@ -82,11 +82,11 @@ fn publish_taken(rows: &[Row], words: &mut [Word], row: u32, stop: Stop) -> Resu
     requires stop { IsStop stop }
     requires roster { IsRoster rows.now }
     ensures answer { result ≡ and_then (taken_by (state_by rows.now words.old row) (is_active (word_at words.old row).phase))
-        (publish_by (state_by rows.now words.old row) (bears_next rows.now row (word_at words.old row).births stop) (word_at words.old row).number) }
+        (next_number (creates_next rows.now row (word_at words.old row).births stop) (word_at words.old row).number) }
     ensures words { words.new ≡ with_word result words.old row (published (word_at words.old row) stop) }
 {
     taken(rows, words, row)?;
-    publish_at(rows, words, row, stop)
+    publish_running(rows, words, row, stop)
 }
 
 /// Lets a row exit that its tracee has taken up.
@@ -95,11 +95,11 @@ fn exit_taken(rows: &[Row], words: &mut [Word], row: u32, death: Death) -> Resul
     requires roster { IsRoster rows.now }
     requires death { IsDeath death }
     ensures answer { result ≡ and_then (taken_by (state_by rows.now words.old row) (is_active (word_at words.old row).phase))
-        (exit_by (holding_back rows.now (state_by rows.now words.old) row) (state_by rows.now words.old row)) }
+        (unless_held (holding_back rows.now (state_by rows.now words.old) row)) }
     ensures words { words.new ≡ with_word result words.old row (died (word_at words.old row) death) }
 {
     taken(rows, words, row)?;
-    exit_at(rows, words, row, death)
+    exit_running(rows, words, row, death)
 }
 
 /// Whether a row runs and its tracee has taken it up, or why not.

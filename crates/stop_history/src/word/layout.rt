@@ -6,17 +6,15 @@
 ghost use Rattle.std.specs.Prelude.{◌≡◌, ◌↔◌, ◌<◌, ◌≤◌, ◌^◌, ◌%◌, ◌/◌, IfSome, Some, IsTrue};
 ghost use Rattle.stop_history.specs.Layout.{kind_number, raw_of};
 ghost use Rattle.stop_history.specs.Word as words;
-ghost use Rattle.stop_history.specs.Word.{IsPhase, IsWord, Tells, tells_death, tells_stop};
+ghost use Rattle.stop_history.specs.Word.{IsPhase, IsWord, Reports, reports_death, reports_stop};
 ghost use Rattle.stop_history.specs.declared.phase.Phase.{Phase};
 
 use crate::limits::{LAST_NUMBER, MOST_ROWS, TRACERS};
 use crate::phase::Phase;
 use crate::word::Word;
+use trace_options::LAST_SIGNAL;
 use trace_record::{Kind, Resume};
-use trace_status::{WaitStatus, decode};
-
-/// The low byte of the status of each stop (wait(2), `WIFSTOPPED`).
-const STOPPED: u32 = 0x7f;
+use trace_status::{STOPPED, WaitStatus, decode};
 
 /// The widths of the fields in bits, from the lowest bit on. Each field stands right above the one before it; what
 /// is above the signal is the tracer's.
@@ -104,7 +102,7 @@ fn is_phase(phase: Phase) -> bool
     ensures { IsTrue result ↔ IsPhase phase }
 {
     match phase {
-        Phase::Resumed(how) => how.signal <= 64,
+        Phase::Resumed(how) => how.signal <= LAST_SIGNAL,
         Phase::Stopped { status } => is_stop_status(status),
         Phase::Claimed { tracer } => u32::from(tracer) < TRACERS,
         Phase::Dead { status } => is_death_status(status),
@@ -112,9 +110,9 @@ fn is_phase(phase: Phase) -> bool
     }
 }
 
-/// Whether a raw wait status tells a stop (wait(2), `WIFSTOPPED`).
+/// Whether a raw wait status reports a stop (wait(2), `WIFSTOPPED`).
 fn is_stop_status(status: u32) -> bool
-    ensures { IsTrue result ↔ Tells tells_stop status }
+    ensures { IsTrue result ↔ Reports reports_stop status }
 {
     matches!(
         decode(0, status),
@@ -122,9 +120,9 @@ fn is_stop_status(status: u32) -> bool
     )
 }
 
-/// Whether a raw wait status tells a death (wait(2), `WIFEXITED`, `WIFSIGNALED`).
+/// Whether a raw wait status reports a death (wait(2), `WIFEXITED`, `WIFSIGNALED`).
 fn is_death_status(status: u32) -> bool
-    ensures { IsTrue result ↔ Tells tells_death status }
+    ensures { IsTrue result ↔ Reports reports_death status }
 {
     matches!(
         decode(0, status),
@@ -153,7 +151,7 @@ impl Parts {
     pub(crate) fn of(phase: Phase) -> Parts
         requires { IsPhase phase }
         ensures kept { kept_in result ≡ kept_of phase }
-        ensures ranges { (result.state < 8) × (result.kind < 2) × (result.signal ≤ 64) × (result.tracer < TRACERS) }
+        ensures ranges { (result.state < 8) × (result.kind < 2) × (result.signal ≤ LAST_SIGNAL) × (result.tracer < TRACERS) }
     {
         let unused = Parts {
             state: 0,
@@ -206,7 +204,7 @@ impl Parts {
             })),
             2 => Some(Phase::Active),
             3 => Some(Phase::Stopped {
-                status: u32::from(self.status) << 8 | STOPPED,
+                status: u32::from(self.status) << 8 | u32::from(STOPPED),
             }),
             4 => Some(Phase::Claimed {
                 tracer: self.tracer,

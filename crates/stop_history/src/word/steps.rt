@@ -1,4 +1,7 @@
-//! What each step on a row makes of its word.
+//! What each step on a row makes of its word: the word after an event of the row, and after a take-up.
+//!
+//! A tracee publishes a stop, exits, and takes its restart up; a tracer claims and resumes. None of these looks at
+//! another row. Whether the step is allowed is the caller's to know.
 
 ghost use Rattle.std.specs.Prelude.{◌≡◌, ◌+◌, ◌<◌, IsSome, is_some, if◌then◌else◌};
 ghost use Rattle.stop_history.specs.Change.{taken_up};
@@ -12,7 +15,8 @@ use crate::phase::Phase;
 use crate::word::Word;
 use trace_record::{Death, Resume, Stop};
 
-/// The word behind a row's next stop.
+/// The word after a row's next stop (`Stopped`): its number is one higher, and a fork or a clone counts one more child.
+/// The row runs, and a child that the stop names is the row's next one.
 pub fn published(word: Word, stop: Stop) -> Word
     requires stop { IsStop stop }
     requires next { word.number < LAST_NUMBER }
@@ -23,13 +27,13 @@ pub fn published(word: Word, stop: Stop) -> Word
         phase: Phase::Stopped {
             status: stop.status(),
         },
-        births: births_behind(word.births, stop),
+        births: births_with(word.births, stop),
         number: word.number + 1,
     }
 }
 
-/// How many children a row has borne behind a stop, from how many it had.
-fn births_behind(births: u8, stop: Stop) -> u8
+/// How many children a row has after a stop, from how many it had.
+fn births_with(births: u8, stop: Stop) -> u8
     requires few { births < MOST_ROWS }
     requires birth { IsSome (child_of stop) → births + 1 < MOST_ROWS }
     ensures births { result ≡ (if is_some (child_of stop) then births + 1 else births) }
@@ -41,7 +45,7 @@ fn births_behind(births: u8, stop: Stop) -> u8
     }
 }
 
-/// The word behind a take-up.
+/// The word after a take-up (`Active`): the tracee has its restart, and runs.
 pub fn taken_up(word: Word) -> Word
     ensures { result ≡ taken_up word }
 {
@@ -52,7 +56,7 @@ pub fn taken_up(word: Word) -> Word
     }
 }
 
-/// The word behind a claim: a stop is claimed, a death is reaped.
+/// The word after a claim: a stop is claimed by this tracer (`Claimed`), a death is reaped (`Reaped`).
 pub fn claimed(word: Word, tracer: u8) -> Word
     requires { tracer < TRACERS }
     ensures { result ≡ claimed word tracer }
@@ -68,7 +72,7 @@ pub fn claimed(word: Word, tracer: u8) -> Word
     }
 }
 
-/// The word behind a restart.
+/// The word after a tracer has resumed the row (`Resumed`): it keeps the restart for the tracee to take up.
 pub fn restarted(word: Word, how: Resume) -> Word
     requires { IsResume how }
     ensures { result ≡ restarted word how }
@@ -80,7 +84,7 @@ pub fn restarted(word: Word, how: Resume) -> Word
     }
 }
 
-/// The word behind an exit.
+/// The word after an exit (`Dead`), with the status that reports the death.
 pub fn died(word: Word, death: Death) -> Word
     requires { IsDeath death }
     ensures { result ≡ died word death }

@@ -1,7 +1,7 @@
 use Rattle.std.proofs.Common.{◌∙◌, ap, sym}
 use Rattle.stop_history.specs.History.{is_next_child}
 use Rattle.stop_history.proofs.Children.{next_is_few}
-use Rattle.stop_board.proofs.words.bears_next.Goals as goal
+use Rattle.stop_board.proofs.words.creates_next.Goals as goal
 
 pub returns-in-Some-clause-few : goal.returns-in-Some-clause-few
 returns-in-Some-clause-few c = λ next child.

@@ -1,7 +1,8 @@
 -- What an actor asks of the cells in one atomic step, and the reply (ptrace(2), PTRACE_SYSCALL and PTRACE_CONT;
 -- waitid(2)). The replies are the sequential answers and two more: a row that its tracee has not taken up is refused to
 -- publish and to exit, and a claim that finds another word than the one last seen misses.
-use Rattle.std.specs.Prelude.{◌≡◌, ◌≢◌, ℕ, Bool, true, false, nat_lt, List, length, Option, Some, None, Result, Ok, Err, if◌then◌else◌}
+use Rattle.std.specs.Prelude.{◌≡◌, ◌≢◌, ℕ, Bool, true, false, nat_lt, List, length, Option, Some, None, Result, Ok}
+use Rattle.std.specs.Prelude.{Err, if◌then◌else◌}
 use Rattle.trace_record.specs.Death.{IsDeath}
 use Rattle.trace_record.specs.Resume.{IsResume}
 use Rattle.trace_record.specs.Stop.{IsStop}
@@ -54,7 +55,8 @@ done (Ok answer) = reply.Done
 done (Err refusal) = reply.Refused refusal
 
 abbrev pub look_reply : List Row → Sight → ℕ → Reply
-look_reply rows sight row = if nat_lt row (length rows) then reply.Word (sight.words row) else reply.Refused refused.NoRow
+look_reply rows sight row =
+    if nat_lt row (length rows) then reply.Word (sight.words row) else reply.Refused refused.NoRow
 
 -- the restart that a tracee takes up: that of its last resume, or to its first stop
 abbrev pub restart_in : Phase → Result Resume Refused
@@ -68,12 +70,14 @@ taken_by at taken = and_then (running_by at) (if taken then Ok tt else Err refus
 
 abbrev pub TraceeReplies : List Row → Sight → ℕ → Action → Reply → Type 0
 TraceeReplies rows sight row (action.Look other) r = r ≡ look_reply rows sight other
-TraceeReplies rows sight row action.TakeUp r = r ≡ took (and_then (running_by (sight.states row)) (restart_in (sight.words row).phase))
+TraceeReplies rows sight row action.TakeUp r =
+    r ≡ took (and_then (running_by (sight.states row)) (restart_in (sight.words row).phase))
 TraceeReplies rows sight row (action.Publish stop) r =
     r ≡ numbered (and_then (taken_by (sight.states row) (sight.taken row))
     (next_number (creates_next rows row (sight.words row).births stop) (sight.words row).number))
 TraceeReplies rows sight row (action.Exit death) r =
-    r ≡ done (and_then (taken_by (sight.states row) (sight.taken row)) (unless_held (holding_back rows sight.states row)))
+    r ≡ done (and_then (taken_by (sight.states row) (sight.taken row))
+    (unless_held (holding_back rows sight.states row)))
 TraceeReplies rows sight row a r = r ≡ reply.Refused refused.NoRow
 
 -- whether a word of this phase shows a stop or a death to report (waitid(2)), which neither its number nor whether
@@ -96,7 +100,8 @@ ClaimReplies at last now r = Exchanges last now r
 -- `last` is the word that the tracer last saw in each row
 abbrev pub TracerReplies : List Row → Sight → (last : ℕ → Word) → ℕ → Action → Reply → Type 0
 TracerReplies rows sight last tracer (action.Look row) r = r ≡ look_reply rows sight row
-TracerReplies rows sight last tracer (action.Claim row) r = ClaimReplies (sight.states row) (last row) (sight.words row) r
+TracerReplies rows sight last tracer (action.Claim row) r =
+    ClaimReplies (sight.states row) (last row) (sight.words row) r
 TracerReplies rows sight last tracer (action.Resume row how) r = r ≡ done (resume_by tracer (sight.states row))
 TracerReplies rows sight last tracer a r = r ≡ reply.Refused refused.NoRow
 
@@ -110,7 +115,8 @@ tracee_change row a r = Nothing
 
 abbrev pub tracer_change : (ℕ → Word) → ℕ → Action → Reply → Change
 tracer_change words tracer (action.Claim row) (reply.Got word) = Happened (event.Claim row word.number tracer)
-tracer_change words tracer (action.Resume row how) reply.Done = Happened (event.Resume row (words row).number how tracer)
+tracer_change words tracer (action.Resume row how) reply.Done =
+    Happened (event.Resume row (words row).number how tracer)
 tracer_change words tracer a r = Nothing
 
 -- the row whose word a tracer has seen: it looked at it, missed it, or put it there itself

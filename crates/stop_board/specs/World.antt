@@ -1,6 +1,7 @@
 -- The interleaving model: the cells of all rows, and what each tracer last saw in each of them. Several tracers of one
 -- tracee are this project's own: under ptrace(2) a tracee has one, whose threads wait for it by waitid(2).
-use Rattle.std.specs.Prelude.{◌≡◌, ◌+◌, ◌*◌, ◌<◌, ◌≤◌, ◌∷◌, [], ℕ, Bool, true, false, List, length, Option, Some, None, slice_set, if◌then◌else◌, ◌==◌, ◌&&◌}
+use Rattle.std.specs.Prelude.{◌≡◌, ◌+◌, ◌*◌, ◌<◌, ◌≤◌, ◌∷◌, [], ℕ, Bool, true, false, List, length, Option, Some}
+use Rattle.std.specs.Prelude.{None, slice_set, if◌then◌else◌, ◌==◌, ◌&&◌}
 use Rattle.stop_board.specs.declared.world.action.Action.{Action}
 use Rattle.stop_board.specs.declared.world.action.Reply.{Reply}
 use Rattle.stop_board.specs.declared.world.action.Reply.TheVariants as reply
@@ -47,7 +48,9 @@ abbrev pub last_seen : List Row → List Word → (tracer row : ℕ) → Word
 last_seen rows words tracer row = word_at words (seen_place rows tracer row)
 
 abbrev pub HasSeen : Contents → ((tracer row : ℕ) → Word) → Type 0
-HasSeen world seen = (tracer row : ℕ) → tracer < world.tracers → row < length world.rows → last_seen world.rows world.seen tracer row ≡ seen tracer row
+HasSeen world seen =
+    (tracer row : ℕ) → tracer < world.tracers → row < length world.rows
+    → last_seen world.rows world.seen tracer row ≡ seen tracer row
 
 abbrev pub StandsAt : Contents → Moment → Type 0
 StandsAt world m = AreAt world.rows world.words m.taken m.history × HasSeen world m.seen
@@ -67,7 +70,8 @@ ActorReplies rows sight seen (Some (Tracee row)) action r = TraceeReplies rows s
 ActorReplies rows sight seen (Some (Tracer tracer)) action r = TracerReplies rows sight (seen tracer) tracer action r
 
 abbrev pub Replies : List Row → (tracers : ℕ) → Moment → (actor : ℕ) → Action → Reply → Type 0
-Replies rows tracers m actor action r = ActorReplies rows (sight_at rows m) m.seen (numbered_actor (length rows) tracers actor) action r
+Replies rows tracers m actor action r =
+    ActorReplies rows (sight_at rows m) m.seen (numbered_actor (length rows) tracers actor) action r
 
 -- what the step changed
 abbrev pub actor_change : (ℕ → Word) → Option Actor → Action → Reply → Change
@@ -76,7 +80,8 @@ actor_change words (Some (Tracee row)) action r = tracee_change row action r
 actor_change words (Some (Tracer tracer)) action r = tracer_change words tracer action r
 
 abbrev pub change_of : List Row → (tracers : ℕ) → Moment → (actor : ℕ) → Action → Reply → Change
-change_of rows tracers m actor action r = actor_change (word_after m.taken m.history) (numbered_actor (length rows) tracers actor) action r
+change_of rows tracers m actor action r =
+    actor_change (word_after m.taken m.history) (numbered_actor (length rows) tracers actor) action r
 
 -- a tracer has seen the word that the row has directly after the step
 abbrev pub seen_with : (ℕ → Word) → (tracer : ℕ) → Option ℕ → (ℕ → ℕ → Word) → ℕ → ℕ → Word
@@ -114,7 +119,8 @@ IsActor rows places (Some (Tracee row)) = row < rows
 IsActor rows places (Some (Tracer tracer)) = (tracer < TRACERS) × (tracer * rows + rows ≤ places)
 
 abbrev pub sight_by : List Row → List Word → Sight
-sight_by rows words = record { states = state_by rows words; words = word_at words; taken = λ row. is_active (word_at words row).phase }
+sight_by rows words =
+    record { states = state_by rows words; words = word_at words; taken = λ row. is_active (word_at words row).phase }
 
 -- the words last seen, with that of a row
 abbrev pub words_seen : List Row → (ℕ → Word) → (tracer : ℕ) → Option ℕ → List Word → List Word
@@ -132,7 +138,8 @@ words_seen_by rows words (Some (Tracer tracer)) action r seen = words_seen rows 
 unfoldable pub AreReplies : List Row → (tracers : ℕ) → Moment → List (ℕ × Action) → List Reply → Type 0
 AreReplies rows tracers m [] [] = Unit {0}
 AreReplies rows tracers m (turn ∷ turns) (r ∷ rs) =
-    Replies rows tracers m turn.0 turn.1 r × AreReplies rows tracers (moment_after_step rows tracers m turn.0 turn.1 r) turns rs
+    Replies rows tracers m turn.0 turn.1 r
+    × AreReplies rows tracers (moment_after_step rows tracers m turn.0 turn.1 r) turns rs
 AreReplies rows tracers m [] (r ∷ rs) = ⊥
 AreReplies rows tracers m (turn ∷ turns) [] = ⊥
 
@@ -140,4 +147,5 @@ AreReplies rows tracers m (turn ∷ turns) [] = ⊥
 unfoldable pub moment_after_run : List Row → (tracers : ℕ) → Moment → List (ℕ × Action) → List Reply → Moment
 moment_after_run rows tracers m [] rs = m
 moment_after_run rows tracers m (turn ∷ turns) [] = m
-moment_after_run rows tracers m (turn ∷ turns) (r ∷ rs) = moment_after_run rows tracers (moment_after_step rows tracers m turn.0 turn.1 r) turns rs
+moment_after_run rows tracers m (turn ∷ turns) (r ∷ rs) =
+    moment_after_run rows tracers (moment_after_step rows tracers m turn.0 turn.1 r) turns rs

@@ -15,8 +15,10 @@ ghost use Rattle.stop_history.specs.declared.state.State.TheVariants as state;
 
 /// What a claim got is what one thread alone would be answered: the stop or the death that the word shows.
 pub fn a_claim_gets_the_sequential_answer()
-    ensures { (rows : List Row) (tracers : ℕ) (m : Moment) → ((row : ℕ) → m.taken row ≡ true → state_after rows m.history row ≡ state.Running) →
-        (number tracer row : ℕ) (word : Word) → tracer < TRACERS → numbered_actor (length rows) tracers number ≡ Some (actor.Tracer tracer) →
+    ensures { (rows : List Row) (tracers : ℕ) (m : Moment)
+        → ((row : ℕ) → m.taken row ≡ true → state_after rows m.history row ≡ state.Running) →
+        (number tracer row : ℕ) (word : Word) → tracer < TRACERS
+        → numbered_actor (length rows) tracers number ≡ Some (actor.Tracer tracer) →
         Replies rows tracers m number (action.Claim row) (reply.Got word) →
         claim_answer rows m.history row tracer ≡ claim_state (shown true word.number word.phase) }
 {}

@@ -6,7 +6,8 @@ ghost use Rattle.stop_history.specs.Roster.{IsRoster, parent_of};
 ghost use Rattle.stop_history.specs.declared.limits.TheConstants.{MOST_ROWS};
 ghost use Rattle.stop_history.specs.History.{creates_next, holding_back, holds_back, is_next_child};
 ghost use Rattle.stop_history.specs.State.{is_alive};
-ghost use Rattle.stop_history.specs.Sequential.{claim_by, claim_state, exit_by, next_number, publish_by, resume_by, resume_state, running_by, unless_held};
+ghost use Rattle.stop_history.specs.Sequential.{claim_by, claim_state, exit_by, next_number, publish_by, resume_by};
+ghost use Rattle.stop_history.specs.Sequential.{resume_state, running_by, unless_held};
 ghost use Rattle.stop_history.specs.Word.{shows_created, opening, state_by, word_at};
 ghost use Rattle.stop_history.specs.Step.{claimed, died, published, restarted, with_word};
 ghost use Rattle.std.specs.Option.{ForSome};
@@ -150,7 +151,9 @@ pub(crate) fn publish_at(
     requires words { length words.old ≡ length rows.now }
     requires stop { IsStop stop }
     requires roster { IsRoster rows.now }
-    ensures answer { result ≡ publish_by (state_by rows.now words.old row) (creates_next rows.now row (word_at words.old row).births stop) (word_at words.old row).number }
+    ensures answer { result
+        ≡ publish_by (state_by rows.now words.old row) (creates_next rows.now row (word_at words.old row).births stop)
+        (word_at words.old row).number }
     ensures words { words.new ≡ with_word result words.old row (published (word_at words.old row) stop) }
 {
     running(state_of(rows, words, row))?;
@@ -168,7 +171,8 @@ pub(crate) fn publish_running(
     requires words { length words.old ≡ length rows.now }
     requires stop { IsStop stop }
     requires roster { IsRoster rows.now }
-    ensures answer { result ≡ next_number (creates_next rows.now row (word_at words.old row).births stop) (word_at words.old row).number }
+    ensures answer { result
+        ≡ next_number (creates_next rows.now row (word_at words.old row).births stop) (word_at words.old row).number }
     ensures words { words.new ≡ with_word result words.old row (published (word_at words.old row) stop) }
 {
     let at = row as usize;
@@ -263,7 +267,8 @@ pub(crate) fn exit_at(
     requires words { length words.old ≡ length rows.now }
     requires roster { IsRoster rows.now }
     requires death { IsDeath death }
-    ensures answer { result ≡ exit_by (holding_back rows.now (state_by rows.now words.old) row) (state_by rows.now words.old row) }
+    ensures answer { result
+        ≡ exit_by (holding_back rows.now (state_by rows.now words.old) row) (state_by rows.now words.old row) }
     ensures words { words.new ≡ with_word result words.old row (died (word_at words.old row) death) }
 {
     running(state_of(rows, words, row))?;

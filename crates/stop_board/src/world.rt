@@ -8,7 +8,8 @@ ghost use Rattle.stop_history.specs.Change.{words_with};
 ghost use Rattle.stop_history.specs.Roster.{IsRoster};
 ghost use Rattle.stop_history.specs.declared.limits.TheConstants.{MOST_ROWS, TRACERS};
 ghost use Rattle.stop_history.specs.Word.{word_at};
-ghost use Rattle.stop_board.specs.World.{ActorReplies, IsActor, actor_change, last_seen, sight_by, words_seen, words_seen_by};
+ghost use Rattle.stop_board.specs.World.{ActorReplies, IsActor, actor_change, last_seen, sight_by, words_seen};
+ghost use Rattle.stop_board.specs.World.{words_seen_by};
 
 mod action;
 mod one_thread;
@@ -41,7 +42,12 @@ impl<A: Allocator> Model for World<A> {
 
     ghost Value = { Contents };
 
-    ghost view = { λ w. record { rows = w.rows.items; tracers = w.tracers; words = w.words.items; seen = w.seen.items } };
+    ghost view = { λ w. record {
+      rows = w.rows.items;
+      tracers = w.tracers;
+      words = w.words.items;
+      seen = w.seen.items;
+    } };
 
     ghost invariant = { λ w. IsContents w.rows.items w.tracers w.words.items w.seen.items };
 }
@@ -91,9 +97,11 @@ impl<A: Allocator> World<A> {
     /// that made it miss, and the one that its own claim or resume put there.
     pub fn step(&mut self, actor: u32, action: Action) -> Reply
         requires { IsAction action }
-        ensures reply { (m : Moment) → StandsAt self.old m → Replies self.old.rows self.old.tracers m actor action result }
+        ensures reply { (m : Moment) → StandsAt self.old m
+            → Replies self.old.rows self.old.tracers m actor action result }
         ensures stands { (m : Moment) → StandsAt self.old m →
-            AreAt self.new.rows self.new.words (moment_after_step self.old.rows self.old.tracers m actor action result).taken
+            AreAt self.new.rows self.new.words
+            (moment_after_step self.old.rows self.old.tracers m actor action result).taken
             (moment_after_step self.old.rows self.old.tracers m actor action result).history }
         ensures seen { (m : Moment) → StandsAt self.old m →
             HasSeen self.new (moment_after_step self.old.rows self.old.tracers m actor action result).seen }
@@ -123,7 +131,8 @@ impl<A: Allocator + Copy> World<A> {
         ensures replies { (m : Moment) → StandsAt self.old m →
             IfOk result (λ replies. AreReplies self.old.rows self.old.tracers m turns.now replies.items) }
         ensures stands { (m : Moment) → StandsAt self.old m →
-            IfOk result (λ replies. StandsAt self.new (moment_after_run self.old.rows self.old.tracers m turns.now replies.items)) }
+            IfOk result (λ replies. StandsAt self.new
+            (moment_after_run self.old.rows self.old.tracers m turns.now replies.items)) }
         ensures refused { OnErr result (self.new ≡ self.old) }
         ensures rows { self.new.rows ≡ self.old.rows }
         ensures tracers { self.new.tracers ≡ self.old.tracers }
@@ -166,7 +175,8 @@ fn step_of(
     requires roster { IsRoster rows.now }
     requires actor { IsActor (length rows.now) (length seen.old) actor }
     requires action { IsAction action }
-    ensures reply { ActorReplies rows.now (sight_by rows.now words.old) (last_seen rows.now seen.old) actor action result }
+    ensures reply { ActorReplies rows.now (sight_by rows.now words.old)
+        (last_seen rows.now seen.old) actor action result }
     ensures row { ForSome (row_seen action result) (λ row. row < length rows.now) }
     ensures words { words.new ≡ words_with (actor_change (word_at words.old) actor action result) words.old }
     ensures seen { seen.new ≡ words_seen_by rows.now (word_at words.new) actor action result seen.old }

@@ -1,5 +1,6 @@
 -- The state of a row after a history: whether the row is there, and runs on while others act.
-use Rattle.std.proofs.Common.{refl, ◌≡◌, ◌≢◌, ◌<◌, ◌∷◌, [], ℕ, Bool, true, false, ◌||◌, ◌⊎◌, Some, None, Option, List, length, ◌∙◌, sym, ap, inl, inr, cond, nat_lt, lt-ltb, le-ltb}
+use Rattle.std.proofs.Common.{refl, ◌≡◌, ◌≢◌, ◌<◌, ◌∷◌, [], ℕ, Bool, true, false, ◌||◌, ◌⊎◌, Some, None, Option, List}
+use Rattle.std.proofs.Common.{length, ◌∙◌, sym, ap, inl, inr, cond, nat_lt, lt-ltb, le-ltb}
 use Rattle.std.specs.List.{list_any}
 use Rattle.std.proofs.lemmas.Bool.{cases_lt}
 use Rattle.stop_history.specs.declared.roster.Row.{Row}
@@ -13,10 +14,12 @@ use Rattle.stop_history.proofs.Events.{other_events}
 
 -- ---- a row that is there
 
-pub state_within : (rows : List Row) (h : History) (row : ℕ) → row < length rows → state_after rows h row ≡ state_in (is_born rows h row) (events_of row h)
+pub state_within : (rows : List Row) (h : History) (row : ℕ) → row < length rows
+    → state_after rows h row ≡ state_in (is_born rows h row) (events_of row h)
 state_within rows h row within = rw (lt-ltb _ _ within)
 
-pub past_or_within : (rows : List Row) (h : History) (row : ℕ) → (row < length rows) ⊎ (state_after rows h row ≡ state.Absent)
+pub past_or_within : (rows : List Row) (h : History) (row : ℕ) → (row < length rows)
+    ⊎ (state_after rows h row ≡ state.Absent)
 past_or_within rows h row =
     elim (cases_lt row (length rows)) [ inl within ↦ inl within | inr past ↦ inr (rw (le-ltb _ _ past)) ]
 
@@ -26,14 +29,20 @@ present rows h row there = elim (past_or_within rows h row) [ inl within ↦ wit
 
 -- an event that fits is one of a row that is there
 pub fits_within : (rows : List Row) (h : History) (e : Event) → Fits rows h e → subject e < length rows
-fits_within rows h (event.Publish row number stop) fits = present rows h row (λ absent. let clash : state.Absent ≡ state.Running = sym absent ∙ fits.0 in cc)
-fits_within rows h (event.Claim row number tracer) fits = present rows h row (λ absent. let clash : is_waitable state.Absent ≡ true = ap is_waitable (sym absent) ∙ fits.0 in cc)
-fits_within rows h (event.Resume row number how tracer) fits = present rows h row (λ absent. let clash : state.Absent ≡ state.Claimed number tracer = sym absent ∙ fits in cc)
-fits_within rows h (event.Exit row death) fits = present rows h row (λ absent. let clash : state.Absent ≡ state.Running = sym absent ∙ fits.0 in cc)
+fits_within rows h (event.Publish row number stop) fits =
+    present rows h row (λ absent. let clash : state.Absent ≡ state.Running = sym absent ∙ fits.0 in cc)
+fits_within rows h (event.Claim row number tracer) fits =
+    present rows h row (λ absent. let clash : is_waitable state.Absent ≡ true = ap is_waitable (sym absent)
+    ∙ fits.0 in cc)
+fits_within rows h (event.Resume row number how tracer) fits =
+    present rows h row (λ absent. let clash : state.Absent ≡ state.Claimed number tracer = sym absent ∙ fits in cc)
+fits_within rows h (event.Exit row death) fits =
+    present rows h row (λ absent. let clash : state.Absent ≡ state.Running = sym absent ∙ fits.0 in cc)
 
 -- ---- a row that makes no event
 
-runs_if_born : (born more : Bool) (es : List Event) → state_in born es ≡ state.Running → state_in (more || born) es ≡ state.Running
+runs_if_born : (born more : Bool) (es : List Event) → state_in born es ≡ state.Running
+    → state_in (more || born) es ≡ state.Running
 runs_if_born true true [] h = refl
 runs_if_born true false [] h = refl
 runs_if_born false more [] h = cc
@@ -42,12 +51,16 @@ runs_if_born born more (event.Claim row number tracer ∷ es) h = h
 runs_if_born born more (event.Resume row number how tracer ∷ es) h = h
 runs_if_born born more (event.Exit row death ∷ es) h = h
 
-still_runs : (parent : Option ℕ) (tid : ℕ) (e : Event) (h : History) (es : List Event) → state_in (was_created parent tid h) es ≡ state.Running → state_in (was_created parent tid (e ∷ h)) es ≡ state.Running
+still_runs : (parent : Option ℕ) (tid : ℕ) (e : Event) (h : History) (es : List Event)
+    → state_in (was_created parent tid h) es ≡ state.Running
+    → state_in (was_created parent tid (e ∷ h)) es ≡ state.Running
 still_runs None tid e h es runs = runs
-still_runs (Some parent) tid e h es runs = runs_if_born (list_any (is_birth parent tid) h) (is_birth parent tid e) es runs
+still_runs (Some parent) tid e h es runs =
+    runs_if_born (list_any (is_birth parent tid) h) (is_birth parent tid e) es runs
 
 -- a running row runs on while others act
-pub runs_on : (rows : List Row) (h : History) (e : Event) (row : ℕ) → row ≢ subject e → state_after rows h row ≡ state.Running → state_after rows (e ∷ h) row ≡ state.Running
+pub runs_on : (rows : List Row) (h : History) (e : Event) (row : ℕ) → row ≢ subject e
+    → state_after rows h row ≡ state.Running → state_after rows (e ∷ h) row ≡ state.Running
 runs_on rows h e row other runs =
     elim (cases_lt row (length rows)) [
       | inl within ↦
@@ -56,5 +69,7 @@ runs_on rows h e row other runs =
           sym (ap (λ b. cond b (state_in (is_born rows h row) (events_of row h)) state.Absent) inside) ∙ runs in
           rw inside (ap (state_in (is_born rows (e ∷ h) row)) (other_events row e h (λ same. other (sym same)))
           ∙ still_runs (parent_of rows row) (row_at rows row).tid e h (events_of row h) ran)
-      | inr past ↦ let absent : state.Absent ≡ state.Running = sym (ap (λ b. cond b (state_in (is_born rows h row) (events_of row h)) state.Absent) (le-ltb _ _ past)) ∙ runs in cc
+      | inr past ↦ let absent : state.Absent
+          ≡ state.Running = sym (ap (λ b. cond b (state_in (is_born rows h row) (events_of row h)) state.Absent)
+          (le-ltb _ _ past)) ∙ runs in cc
     ]

@@ -1,6 +1,7 @@
 -- Legal histories: no event comes in a state that does not allow it (ptrace(2), "Attaching and detaching",
 -- "Restarting"; waitid(2)). And what a history says of births and of rows that have come to rest.
-use Rattle.std.specs.Prelude.{◌≡◌, ◌≢◌, ◌==◌, ◌&&◌, ◌+◌, ◌≤◌, ◌∷◌, ◌++◌, [], ℕ, Bool, true, false, not, List, length, Option, Some, None, is_some, if◌then◌else◌, find}
+use Rattle.std.specs.Prelude.{◌≡◌, ◌≢◌, ◌==◌, ◌&&◌, ◌+◌, ◌≤◌, ◌∷◌, ◌++◌, [], ℕ, Bool, true, false, not, List, length}
+use Rattle.std.specs.Prelude.{Option, Some, None, is_some, if◌then◌else◌, find}
 use Rattle.std.specs.List.{range_with_len}
 use Rattle.trace_record.specs.declared.stop.Stop.{Stop}
 use Rattle.trace_record.specs.Stop.{child_of}
@@ -25,7 +26,8 @@ births_after h row = births_in (events_of row h)
 -- whether the row of a tid, if there is one, is the child that a parent of this many children creates next
 abbrev pub is_next_child : List Row → (parent births : ℕ) → Option ℕ → Bool
 is_next_child rows parent births None = false
-is_next_child rows parent births (Some row) = (row_at rows row).parent == (row_at rows parent).tid && rank_of rows row == births
+is_next_child rows parent births (Some row) =
+    (row_at rows row).parent == (row_at rows parent).tid && rank_of rows row == births
 
 -- whether a stop creates no child, or its parent's next one
 abbrev pub names_next : List Row → (parent births : ℕ) → Option ℕ → Bool
@@ -37,7 +39,8 @@ creates_next rows parent births stop = names_next rows parent births (child_of s
 
 -- an alive row of the thread group of `row`, other than it
 abbrev pub holds_back : List Row → (ℕ → State) → (row other : ℕ) → Bool
-holds_back rows states row other = not (other == row) && ((row_at rows other).tgid == (row_at rows row).tgid && is_alive (states other))
+holds_back rows states row other =
+    not (other == row) && ((row_at rows other).tgid == (row_at rows row).tgid && is_alive (states other))
 
 -- the first alive row of a leader's thread group beside the leader, which cannot exit before it (ptrace(2), "Death
 -- under ptrace")
@@ -50,7 +53,8 @@ abbrev pub Fits : List Row → History → Event → Type 0
 Fits rows h (event.Publish row number stop) =
     (state_after rows h row ≡ state.Running) × (number ≡ last_number h row + 1) × (number ≤ LAST_NUMBER)
     × (creates_next rows row (births_after h row) stop ≡ true)
-Fits rows h (event.Claim row number tracer) = (is_waitable (state_after rows h row) ≡ true) × (number ≡ last_number h row)
+Fits rows h (event.Claim row number tracer) =
+    (is_waitable (state_after rows h row) ≡ true) × (number ≡ last_number h row)
 Fits rows h (event.Resume row number how tracer) = state_after rows h row ≡ state.Claimed number tracer
 Fits rows h (event.Exit row death) =
     (state_after rows h row ≡ state.Running) × (holding_back rows (state_after rows h) row ≡ None)
@@ -63,8 +67,10 @@ IsLegal rows (e ∷ h) = Fits rows h e × IsLegal rows h
 -- case): it has ended, or it is unborn and its parent is `beside` or cannot act either
 pub data IsSettled (rows : List Row) (beside : Option ℕ) (h : History) : (row : ℕ) → Type 0 where
   ended : (row : ℕ) → is_ended (state_after rows h row) ≡ true → IsSettled rows beside h row
-  unborn_beside : (row parent : ℕ) → state_after rows h row ≡ state.Unborn → parent_of rows row ≡ Some parent → beside ≡ Some parent → IsSettled rows beside h row
-  unborn_below : (row parent : ℕ) → state_after rows h row ≡ state.Unborn → parent_of rows row ≡ Some parent → IsSettled rows beside h parent → IsSettled rows beside h row
+  unborn_beside : (row parent : ℕ) → state_after rows h row ≡ state.Unborn → parent_of rows row ≡ Some parent
+      → beside ≡ Some parent → IsSettled rows beside h row
+  unborn_below : (row parent : ℕ) → state_after rows h row ≡ state.Unborn → parent_of rows row ≡ Some parent
+      → IsSettled rows beside h parent → IsSettled rows beside h row
 
 abbrev pub is_of_parent : ℕ → Option ℕ → Bool
 is_of_parent parent None = false
@@ -87,7 +93,8 @@ is_just_published number es = false
 -- of one row's events: how many claims claim the stop of this number, each directly after its publish
 abbrev pub stop_claims_in : ℕ → List Event → ℕ
 stop_claims_in number [] = 0
-stop_claims_in number (event.Claim row n tracer ∷ es) = (if is_just_published number es then 1 else 0) + stop_claims_in number es
+stop_claims_in number (event.Claim row n tracer ∷ es) =
+    (if is_just_published number es then 1 else 0) + stop_claims_in number es
 stop_claims_in number (e ∷ es) = stop_claims_in number es
 
 -- of a history that has gone on: the row was claimed, and nothing had happened to it before that

@@ -5,7 +5,8 @@ use Rattle.trace_record.specs.declared.resume.Kind.TheVariants.{Syscall, Cont}
 use Rattle.stop_history.specs.declared.phase.Phase.{Phase}
 use Rattle.stop_history.specs.declared.phase.Phase.TheVariants.{Fresh, Resumed, Active, Stopped, Claimed, Dead, Reaped}
 use Rattle.stop_history.specs.Word.{Word}
-use Rattle.stop_history.specs.declared.word.layout.TheConstants.{BIRTHS_BITS, KIND_BITS, NUMBER_BITS, SIGNAL_BITS, STATE_BITS, STATUS_BITS}
+use Rattle.stop_history.specs.declared.word.layout.TheConstants.{BIRTHS_BITS, KIND_BITS, NUMBER_BITS, SIGNAL_BITS}
+use Rattle.stop_history.specs.declared.word.layout.TheConstants.{STATE_BITS, STATUS_BITS}
 
 -- what is kept of a phase: its number, and the fields that it uses; the others are 0
 pub record Kept : Type 0 where
@@ -16,7 +17,8 @@ pub record Kept : Type 0 where
   pub tracer : ℕ
 
 abbrev pub kept : (state status kind signal tracer : ℕ) → Kept
-kept state status kind signal tracer = record { state = state; status = status; kind = kind; signal = signal; tracer = tracer }
+kept state status kind signal tracer =
+    record { state = state; status = status; kind = kind; signal = signal; tracer = tracer }
 
 abbrev pub kind_number : Kind → ℕ
 kind_number Syscall = 0

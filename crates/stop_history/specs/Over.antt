@@ -23,7 +23,8 @@ is_gone deaths other = false
 -- a set of rows that has with each row its parent
 abbrev pub IsClosed : List Row → (ℕ → Bool) → Type 0
 IsClosed rows selected =
-    (row parent : ℕ) → row < length rows → selected row ≡ true → parent_of rows row ≡ Some parent → selected parent ≡ true
+    (row parent : ℕ) → row < length rows → selected row ≡ true → parent_of rows row ≡ Some parent
+    → selected parent ≡ true
 
 -- a row that can act no more and, where deaths are asked for, is not dead
 abbrev pub IsOver : List Row → (deaths : Bool) → History → ℕ → Type 0

@@ -1,6 +1,8 @@
 -- Rosters: the rows of all tracees. A row has the ids that Linux gives a thread (gettid(2), getpid(2),
 -- getpgid(2)) and its parent's tid, or 0 for a root. Each parent stands before its children.
-use Rattle.std.specs.Prelude.{◌≡◌, ◌⊎◌, ◌<◌, ◌≤◌, ◌==◌, ◌&&◌, ◌||◌, ◌++◌, ◌∷◌, [], ℕ, Bool, not, nat_le, nat_lt, List, length, take, Option, Some, None, is_some, if◌then◌else◌, find, position, count_by, slice_index_or}
+use Rattle.std.specs.Prelude.{◌≡◌, ◌⊎◌, ◌<◌, ◌≤◌, ◌==◌, ◌&&◌, ◌||◌, ◌++◌, ◌∷◌, [], ℕ, Bool, not, nat_le, nat_lt, List}
+use Rattle.std.specs.Prelude.{length, take, Option, Some, None, is_some, if◌then◌else◌, find, position, count_by}
+use Rattle.std.specs.Prelude.{slice_index_or}
 use Rattle.stop_history.specs.declared.limits.TheConstants.{LAST_ID, MOST_ROWS}
 use Rattle.stop_history.specs.declared.roster.Row.{Row}
 use Rattle.stop_history.specs.declared.roster.RosterError.{RosterError}
@@ -30,7 +32,9 @@ is_child_of parent row = (is_leader row || row.tgid == parent.tgid) && row.pgid 
 
 -- whether a row's ids go with those of its parent, if it has one; a root leads a group of its own
 abbrev pub family_fault : ℕ → Row → Option Row → Option RosterError
-family_fault at row None = if not (is_root row) then Some (fault.ParentLater at) else if is_leader row then None else Some (fault.GroupMismatch at)
+family_fault at row None =
+    if not (is_root row) then Some (fault.ParentLater at) else if is_leader row then None else Some
+    (fault.GroupMismatch at)
 family_fault at row (Some parent) = if is_child_of parent row then None else Some (fault.GroupMismatch at)
 
 -- a root has no parent, also where a row has the tid 0
@@ -58,7 +62,8 @@ roster_fault rows = if nat_le (length rows) MOST_ROWS then first_fault [] rows e
 
 -- the fault of one more row of a roster: its own, otherwise that there is no room for it
 abbrev pub push_fault : List Row → Row → Option RosterError
-push_fault rows row = or_later (fault_after rows row) (if nat_lt (length rows) MOST_ROWS then None else Some fault.TooMany)
+push_fault rows row =
+    or_later (fault_after rows row) (if nat_lt (length rows) MOST_ROWS then None else Some fault.TooMany)
 
 abbrev pub IsRoster : List Row → Type 0
 IsRoster rows = roster_fault rows ≡ None
@@ -92,5 +97,7 @@ pub record IsChild (parent row : Row) : Type 0 where
 pub record IsPlaced (rows : List Row) (row : ℕ) : Type 0 where
   pub tid : (1 ≤ (row_at rows row).tid) × ((row_at rows row).tid ≤ LAST_ID)
   pub found : row_of rows (row_at rows row).tid ≡ Some row
-  pub root : parent_of rows row ≡ None → ((row_at rows row).parent ≡ 0) × ((row_at rows row).tgid ≡ (row_at rows row).tid)
-  pub child : (parent : ℕ) → parent_of rows row ≡ Some parent → (parent < row) × IsChild (row_at rows parent) (row_at rows row)
+  pub root : parent_of rows row ≡ None → ((row_at rows row).parent ≡ 0)
+      × ((row_at rows row).tgid ≡ (row_at rows row).tid)
+  pub child : (parent : ℕ) → parent_of rows row ≡ Some parent → (parent < row)
+      × IsChild (row_at rows parent) (row_at rows row)

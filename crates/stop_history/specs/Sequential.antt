@@ -1,6 +1,7 @@
 -- What one thread alone would be answered at a history: the refusals of each call, in the order of their tests,
 -- else its answer.
-use Rattle.std.specs.Prelude.{◌==◌, ◌+◌, ◌∷◌, ℕ, Bool, nat_lt, not, List, Option, Some, None, Result, Ok, Err, if◌then◌else◌}
+use Rattle.std.specs.Prelude.{◌==◌, ◌+◌, ◌∷◌, ℕ, Bool, nat_lt, not, List, Option, Some, None, Result, Ok, Err}
+use Rattle.std.specs.Prelude.{if◌then◌else◌}
 use Rattle.trace_record.specs.declared.stop.Stop.{Stop}
 use Rattle.stop_history.specs.declared.roster.Row.{Row}
 use Rattle.stop_history.specs.declared.state.State.{State}
@@ -64,7 +65,8 @@ abbrev pub exit_by : Option ℕ → State → Result (Unit {0}) Refused
 exit_by holding at = and_then (running_by at) (unless_held holding)
 
 abbrev pub publish_answer : List Row → History → ℕ → Stop → Result ℕ Refused
-publish_answer rows h row stop = publish_by (state_after rows h row) (creates_next rows row (births_after h row) stop) (last_number h row)
+publish_answer rows h row stop =
+    publish_by (state_after rows h row) (creates_next rows row (births_after h row) stop) (last_number h row)
 
 abbrev pub claim_answer : List Row → History → (row tracer : ℕ) → Result Got Refused
 claim_answer rows h row tracer = claim_by tracer (state_after rows h row)

@@ -1,5 +1,6 @@
 -- What it means that words represent a history: each row's word is the one that the history leaves.
-use Rattle.std.specs.Prelude.{◌≡◌, ℕ, Bool, true, false, List, length, Some, ◌<◌, slice_get, slice_index, slice_set, EachIndex}
+use Rattle.std.specs.Prelude.{◌≡◌, ℕ, Bool, true, false, List, length, Some, ◌<◌, slice_get, slice_index, slice_set}
+use Rattle.std.specs.Prelude.{EachIndex}
 use Rattle.stop_history.specs.declared.roster.Row.{Row}
 use Rattle.stop_history.specs.Word.{Word}
 use Rattle.stop_history.specs.declared.state.State.TheVariants as state

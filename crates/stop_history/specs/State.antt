@@ -1,5 +1,6 @@
 -- The state of a row after a history, by the row's last event alone (ptrace(2), "Stopped states"; waitid(2)).
-use Rattle.std.specs.Prelude.{◌==◌, ◌&&◌, ◌∷◌, [], ℕ, Bool, true, false, nat_lt, List, length, Option, Some, None, if◌then◌else◌}
+use Rattle.std.specs.Prelude.{◌==◌, ◌&&◌, ◌∷◌, [], ℕ, Bool, true, false, nat_lt, List, length, Option, Some, None}
+use Rattle.std.specs.Prelude.{if◌then◌else◌}
 use Rattle.std.specs.List.{list_any}
 use Rattle.trace_record.specs.Stop.{stop_status, child_of}
 use Rattle.trace_record.specs.Death.{death_status}
@@ -52,7 +53,8 @@ abbrev pub last_number : History → ℕ → ℕ
 last_number h row = number_in (events_of row h)
 
 abbrev pub state_after : List Row → History → ℕ → State
-state_after rows h row = if nat_lt row (length rows) then state_in (is_born rows h row) (events_of row h) else state.Absent
+state_after rows h row =
+    if nat_lt row (length rows) then state_in (is_born rows h row) (events_of row h) else state.Absent
 
 -- a row that may still act
 abbrev pub is_alive : State → Bool

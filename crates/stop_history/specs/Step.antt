@@ -12,7 +12,13 @@ use Rattle.stop_history.specs.declared.phase.Phase.TheVariants as phase
 
 -- the next stop, with a birth counted
 abbrev pub published : Word → Stop → Word
-published word stop = record { phase = phase.Stopped (stop_status stop); births = if is_some (child_of stop) then word.births + 1 else word.births; number = word.number + 1 }
+published word stop =
+    record {
+      phase = phase.Stopped (stop_status stop);
+      births = if is_some
+          (child_of stop) then word.births + 1 else word.births;
+      number = word.number + 1;
+    }
 
 -- a stop is claimed, a death is reaped
 abbrev pub claimed_by : ℕ → Phase → Phase

@@ -1,5 +1,6 @@
 -- The word of a row: what its stop cell keeps of it. Its meaning is a state, and a history leaves a word.
-use Rattle.std.specs.Prelude.{◌≡◌, ◌<◌, ◌≤◌, ◌∷◌, [], ℕ, Bool, true, false, nat_lt, List, length, Option, Some, None, if◌then◌else◌, slice_index_or}
+use Rattle.std.specs.Prelude.{◌≡◌, ◌<◌, ◌≤◌, ◌∷◌, [], ℕ, Bool, true, false, nat_lt, List, length, Option, Some, None}
+use Rattle.std.specs.Prelude.{if◌then◌else◌, slice_index_or}
 use Rattle.trace_status.specs.WaitStatus.{Encodes, pid_of}
 use Rattle.trace_status.specs.declared.wait_status.WaitStatus.{WaitStatus}
 use Rattle.trace_status.specs.declared.wait_status.WaitStatus.TheVariants as status

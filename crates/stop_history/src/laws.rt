@@ -1,6 +1,7 @@
 //! Laws of the definitions: each function is its contract alone.
 
-ghost use Rattle.std.specs.Prelude.{◌≡◌, ◌==◌, ◌≢◌, ◌∷◌, ◌⊎◌, ◌<◌, ◌≤◌, ◌++◌, [], ℕ, Bool, true, false, List, Option, Some, length, count_by, nat_lt};
+ghost use Rattle.std.specs.Prelude.{◌≡◌, ◌==◌, ◌≢◌, ◌∷◌, ◌⊎◌, ◌<◌, ◌≤◌, ◌++◌, [], ℕ, Bool, true, false, List, Option};
+ghost use Rattle.std.specs.Prelude.{Some, length, count_by, nat_lt};
 ghost use Rattle.std.specs.List.{range_with_len};
 ghost use Rattle.stop_history.specs.declared.roster.Row.{Row};
 ghost use Rattle.stop_history.specs.declared.actor.Actor.{Actor};
@@ -19,7 +20,8 @@ ghost use Rattle.stop_history.specs.Ranges.{AreInRange};
 ghost use Rattle.stop_history.specs.Over.{IsClosed, IsOver, is_gone};
 ghost use Rattle.stop_history.specs.Standing.{AreAt, AreBits, bits_with};
 ghost use Rattle.stop_history.specs.Word.{IsWord, Word, phase_in, word_after};
-ghost use Rattle.stop_history.specs.History.{Fits, IsLegal, IsSettled, IsSilent, WasClaimed, births_after, is_born_child, stop_claims_in};
+ghost use Rattle.stop_history.specs.History.{Fits, IsLegal, IsSettled, IsSilent, WasClaimed, births_after};
+ghost use Rattle.stop_history.specs.History.{is_born_child, stop_claims_in};
 
 /// A roster has at most 64 rows. Each of them is found by its tid and comes after its parent, whose process
 /// group it is in; it leads a thread group or is in its parent's; a root leads one.
@@ -48,7 +50,8 @@ pub fn older_histories_are_legal()
 
 /// A settled row stays settled as the history goes on without an event of the row that it is settled beside.
 pub fn settled_rows_stay_settled()
-    ensures { (rows : List Row) (beside : Option ℕ) (more h : History) → IsLegal rows (more ++ h) → IsSilent beside more →
+    ensures { (rows : List Row) (beside : Option ℕ) (more h : History) → IsLegal rows (more ++ h)
+        → IsSilent beside more →
         (row : ℕ) → IsSettled rows beside h row → IsSettled rows beside (more ++ h) row }
 {}
 
@@ -58,9 +61,12 @@ pub fn settled_rows_stay_settled()
 pub fn only_its_mover_moves_a_row()
     ensures moved { (rows : List Row) (h : History) (e : Event) → Fits rows h e → (actor : Actor) →
         mover_of (subject e) (phase_in (events_of (subject e) h)) ≡ Some actor → actor_of e ≡ actor }
-    ensures untouched { (rows : List Row) (actors : Actor → Bool) (more h : History) → IsLegal rows (more ++ h) → IsQuiet actors more →
-        (row : ℕ) → is_moved_by actors (mover_of row (phase_in (events_of row h))) ≡ true → events_of row (more ++ h) ≡ events_of row h }
-    ensures word { (rows : List Row) (actors : Actor → Bool) (more h : History) → IsLegal rows (more ++ h) → IsQuiet actors more →
+    ensures untouched { (rows : List Row) (actors : Actor → Bool) (more h : History) → IsLegal rows (more ++ h)
+        → IsQuiet actors more →
+        (row : ℕ) → is_moved_by actors (mover_of row (phase_in (events_of row h))) ≡ true
+        → events_of row (more ++ h) ≡ events_of row h }
+    ensures word { (rows : List Row) (actors : Actor → Bool) (more h : History) → IsLegal rows (more ++ h)
+        → IsQuiet actors more →
         (row : ℕ) → is_moved_by actors (mover_of row (phase_in (events_of row h))) ≡ true →
         (taken next : ℕ → Bool) → next row ≡ taken row → word_after next (more ++ h) row ≡ word_after taken h row }
 {}
@@ -68,20 +74,25 @@ pub fn only_its_mover_moves_a_row()
 /// A row that a tracer holds was held by it before all that has happened while the tracer made no event, and has had
 /// no event since.
 pub fn a_claim_is_its_tracers()
-    ensures { (actors : Actor → Bool) (more h : History) → IsQuiet actors more → (tracer : ℕ) → actors (actor.Tracer tracer) ≡ true →
-        (row : ℕ) → phase_in (events_of row (more ++ h)) ≡ phase.Claimed tracer → events_of row (more ++ h) ≡ events_of row h }
+    ensures { (actors : Actor → Bool) (more h : History) → IsQuiet actors more → (tracer : ℕ)
+        → actors (actor.Tracer tracer) ≡ true →
+        (row : ℕ) → phase_in (events_of row (more ++ h)) ≡ phase.Claimed tracer
+        → events_of row (more ++ h) ≡ events_of row h }
 {}
 
 /// Births only grow, who is born stays born, and a row that is not born has no event.
 pub fn births_only_grow()
     ensures births { (more h : History) (row : ℕ) → births_after h row ≤ births_after (more ++ h) row }
-    ensures born { (rows : List Row) (more h : History) (row : ℕ) → is_born rows h row ≡ true → is_born rows (more ++ h) row ≡ true }
-    ensures silent { (rows : List Row) (h : History) → IsLegal rows h → (row : ℕ) → is_born rows h row ≡ false → events_of row h ≡ [] }
+    ensures born { (rows : List Row) (more h : History) (row : ℕ) → is_born rows h row ≡ true
+        → is_born rows (more ++ h) row ≡ true }
+    ensures silent { (rows : List Row) (h : History) → IsLegal rows h → (row : ℕ) → is_born rows h row ≡ false
+        → events_of row h ≡ [] }
 {}
 
 /// A row that waits is as it was as the history goes on, or was claimed as it was.
 pub fn a_waiting_row_is_as_it_was_or_was_claimed()
-    ensures { (rows : List Row) (more h : History) → IsLegal rows (more ++ h) → (row : ℕ) → is_waitable (state_after rows h row) ≡ true →
+    ensures { (rows : List Row) (more h : History) → IsLegal rows (more ++ h) → (row : ℕ)
+        → is_waitable (state_after rows h row) ≡ true →
         (events_of row (more ++ h) ≡ events_of row h) ⊎ WasClaimed row more h }
 {}
 
@@ -94,8 +105,11 @@ pub fn words_are_in_range()
 
 /// An event makes of its row's word what its kind makes of it, and leaves every other row's word as it was.
 pub fn an_event_changes_its_row_alone()
-    ensures own { (rows : List Row) (h : History) (taken : ℕ → Bool) → ((row : ℕ) → taken row ≡ true → state_after rows h row ≡ state.Running) →
-        (e : Event) → Fits rows h e → word_after (taken_with (Happened e) taken) (e ∷ h) (subject e) ≡ word_after_event (word_after taken h (subject e)) e }
+    ensures own { (rows : List Row) (h : History) (taken : ℕ → Bool)
+        → ((row : ℕ) → taken row ≡ true → state_after rows h row ≡ state.Running) →
+        (e : Event) → Fits rows h e
+        → word_after (taken_with (Happened e) taken) (e ∷ h) (subject e)
+        ≡ word_after_event (word_after taken h (subject e)) e }
     ensures other { (taken : ℕ → Bool) (h : History) (e : Event) (row : ℕ) → row ≢ subject e →
         word_after (taken_with (Happened e) taken) (e ∷ h) row ≡ word_after taken h row }
 {}
@@ -103,8 +117,10 @@ pub fn an_event_changes_its_row_alone()
 /// One atomic step on words that stand at a history: where the history allows the change, each row's word is the one
 /// that the longer history leaves.
 pub fn atomic_steps_keep_words()
-    ensures { (rows : List Row) (words : List Word) (taken : ℕ → Bool) (h : History) → AreAt rows words taken h → length words ≡ length rows →
-        (change : Change) → IsAllowed rows h change → AreAt rows (words_with change words) (taken_with change taken) (history_with change h) }
+    ensures { (rows : List Row) (words : List Word) (taken : ℕ → Bool) (h : History) → AreAt rows words taken h
+        → length words ≡ length rows →
+        (change : Change) → IsAllowed rows h change
+        → AreAt rows (words_with change words) (taken_with change taken) (history_with change h) }
 {}
 
 /// No stop is claimed twice: of the claims of a row in a legal history at most one is of the stop of a number.
@@ -126,7 +142,8 @@ pub fn a_take_up_changes_its_row_alone()
         word_after (taken_with (TakenUp at) taken) h row ≡ word_after taken h row }
 {}
 
-/// One atomic step on the bits of words, as a table of numbers keeps them: where the history allows the change, each row
+/// One atomic step on the bits of words, as a table of numbers keeps them: where the history allows the change, each
+/// row
 /// has the bits of the word that the longer history leaves. What the table keeps after the rows is left alone.
 pub fn atomic_steps_keep_bits()
     ensures { (rows : List Row) (bits : List ℕ) (taken : ℕ → Bool) (h : History) →
@@ -142,13 +159,15 @@ pub fn process_groups_are_closed()
 
 /// A row that is gone is over, where the selected rows before it are and each selected row's parent is selected.
 pub fn closed_rows_are_over_together()
-    ensures { (rows : List Row) → IsRoster rows → (selected : ℕ → Bool) → IsClosed rows selected → (deaths : Bool) (h : History) →
+    ensures { (rows : List Row) → IsRoster rows → (selected : ℕ → Bool) → IsClosed rows selected
+        → (deaths : Bool) (h : History) →
         (row : ℕ) → row < length rows → selected row ≡ true →
         ((before : ℕ) → before < row → selected before ≡ true → IsOver rows deaths h before) →
         is_gone deaths (state_after rows h row) ≡ true → IsOver rows deaths h row }
 {}
 
-/// What is over stays over and is gone, whatever happens: so "no child is left to wait for" is final (waitid(2), ECHILD).
+/// What is over stays over and is gone, whatever happens: so "no child is left to wait for" is final (waitid(2),
+/// ECHILD).
 pub fn over_stays_over()
     ensures over { (rows : List Row) (deaths : Bool) (more h : History) → IsLegal rows (more ++ h) →
         (row : ℕ) → IsOver rows deaths h row → IsOver rows deaths (more ++ h) row }

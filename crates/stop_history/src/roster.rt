@@ -7,7 +7,6 @@ mod faults;
 
 pub use families::{is_leader, parent_place, place_of, rank};
 pub use faults::fault_after;
-
 use faults::{fault_of, push_fault};
 use std::alloc::{AllocError, AllocFailed, Allocator, Global};
 use std::marker::Model;

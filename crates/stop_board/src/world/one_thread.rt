@@ -65,12 +65,13 @@ impl<A: Allocator> World<A> {
         got_in(self.step(actor, Action::Claim(row)))
     }
 
-    /// Resumes a row that a tracer has claimed, or says why not (as `Board::resume`). The World has all 16 tracers, as a
-    /// board has.
+    /// Resumes a row that a tracer has claimed, or says why not (as `Board::resume`). The World has all 16 tracers,
+    /// as a board has.
     pub fn resume(&mut self, row: u32, tracer: u8, how: Resume) -> Result<(), Refused>
         requires tracers { self.old.tracers ≡ TRACERS }
         requires how { IsResume how }
-        ensures answer { (m : Moment) → StandsAt self.old m → result ≡ resume_answer self.old.rows m.history row tracer }
+        ensures answer { (m : Moment) → StandsAt self.old m
+            → result ≡ resume_answer self.old.rows m.history row tracer }
         ensures stands { (m : Moment) → StandsAt self.old m →
             HasHistory self.new (goes_on result (event.Resume row (last_number m.history row) how tracer) m.history) }
         ensures rows { self.new.rows ≡ self.old.rows }

@@ -47,7 +47,8 @@ pub(crate) fn tracee_step(rows: &[Row], words: &mut [Word], row: u32, action: Ac
 /// Takes a running row up: its tracee runs on by the restart that it is given.
 fn take_up_at(rows: &[Row], words: &mut [Word], row: u32) -> Result<Resume, Refused>
     requires { length words.old ≡ length rows.now }
-    ensures answer { result ≡ and_then (running_by (state_by rows.now words.old row)) (restart_in (word_at words.old row).phase) }
+    ensures answer { result
+        ≡ and_then (running_by (state_by rows.now words.old row)) (restart_in (word_at words.old row).phase) }
     ensures words { words.new ≡ with_word result words.old row (taken_up (word_at words.old row)) }
 {
     running(state_of(rows, words, row))?;
@@ -81,7 +82,8 @@ fn publish_taken(rows: &[Row], words: &mut [Word], row: u32, stop: Stop) -> Resu
     requires words { length words.old ≡ length rows.now }
     requires stop { IsStop stop }
     requires roster { IsRoster rows.now }
-    ensures answer { result ≡ and_then (taken_by (state_by rows.now words.old row) (is_active (word_at words.old row).phase))
+    ensures answer { result
+        ≡ and_then (taken_by (state_by rows.now words.old row) (is_active (word_at words.old row).phase))
         (next_number (creates_next rows.now row (word_at words.old row).births stop) (word_at words.old row).number) }
     ensures words { words.new ≡ with_word result words.old row (published (word_at words.old row) stop) }
 {
@@ -94,7 +96,8 @@ fn exit_taken(rows: &[Row], words: &mut [Word], row: u32, death: Death) -> Resul
     requires words { length words.old ≡ length rows.now }
     requires roster { IsRoster rows.now }
     requires death { IsDeath death }
-    ensures answer { result ≡ and_then (taken_by (state_by rows.now words.old row) (is_active (word_at words.old row).phase))
+    ensures answer { result
+        ≡ and_then (taken_by (state_by rows.now words.old row) (is_active (word_at words.old row).phase))
         (unless_held (holding_back rows.now (state_by rows.now words.old) row)) }
     ensures words { words.new ≡ with_word result words.old row (died (word_at words.old row) death) }
 {

@@ -2,7 +2,8 @@
 
 ghost use Rattle.std.specs.Prelude.{◌≡◌, ◌+◌, ◌*◌, ◌<◌, ◌≤◌, ℕ, length};
 ghost use Rattle.std.specs.Option.{ForSome};
-ghost use Rattle.stop_board.specs.Action.{ClaimReplies, Exchanges, IsAction, TracerReplies, row_seen, tracer_change, waits};
+ghost use Rattle.stop_board.specs.Action.{ClaimReplies, Exchanges, IsAction, TracerReplies, row_seen, tracer_change};
+ghost use Rattle.stop_board.specs.Action.{waits};
 ghost use Rattle.stop_board.specs.declared.world.action.Action.TheVariants as action;
 ghost use Rattle.stop_history.specs.Change.{words_with};
 ghost use Rattle.stop_history.specs.declared.limits.TheConstants.{MOST_ROWS, TRACERS};
@@ -27,7 +28,8 @@ pub(crate) fn tracer_step(
     requires tracer { tracer < TRACERS }
     requires seen { tracer * length rows.now + length rows.now ≤ length seen.now }
     requires action { IsAction action }
-    ensures reply { TracerReplies rows.now (sight_by rows.now words.old) (last_seen rows.now seen.now tracer) tracer action result }
+    ensures reply { TracerReplies rows.now (sight_by rows.now words.old)
+        (last_seen rows.now seen.now tracer) tracer action result }
     ensures words { words.new ≡ words_with (tracer_change (word_at words.old) tracer action result) words.old }
     ensures row { ForSome (row_seen action result) (λ row. row < length rows.now) }
 {
@@ -48,8 +50,10 @@ fn claim_seen(rows: &[Row], words: &mut [Word], seen: &[Word], row: u32, tracer:
     requires few { length rows.now ≤ MOST_ROWS }
     requires tracer { tracer < TRACERS }
     requires seen { tracer * length rows.now + length rows.now ≤ length seen.now }
-    ensures reply { ClaimReplies (state_by rows.now words.old row) (last_seen rows.now seen.now tracer row) (word_at words.old row) result }
-    ensures words { words.new ≡ words_with (tracer_change (word_at words.old) tracer (action.Claim row) result) words.old }
+    ensures reply { ClaimReplies (state_by rows.now words.old row) (last_seen rows.now seen.now tracer row)
+        (word_at words.old row) result }
+    ensures words { words.new
+        ≡ words_with (tracer_change (word_at words.old) tracer (action.Claim row) result) words.old }
 {
     let at = row as usize;
     if at >= rows.len() {

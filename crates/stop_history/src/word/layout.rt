@@ -82,7 +82,8 @@ fn split(raw: u64, bits: u32) -> (u64, u64)
 /// The word of these fields, if they are in range.
 fn word_of(phase: Phase, births: u8, number: u32) -> Option<Word>
     ensures word { IfSome result (λ word. word ≡ record { phase = phase; births = births; number = number }) }
-    ensures each { IsWord (record { phase = phase; births = births; number = number }) → result ≡ Some (record { phase = phase; births = births; number = number }) }
+    ensures each { IsWord (record { phase = phase; births = births; number = number })
+        → result ≡ Some (record { phase = phase; births = births; number = number }) }
 {
     let opening = births == 0 && number == 0;
     let in_range = usize::from(births) < MOST_ROWS && number <= LAST_NUMBER && is_phase(phase);
@@ -151,7 +152,8 @@ impl Parts {
     pub(crate) fn of(phase: Phase) -> Parts
         requires { IsPhase phase }
         ensures kept { kept_in result ≡ kept_of phase }
-        ensures ranges { (result.state < 8) × (result.kind < 2) × (result.signal ≤ LAST_SIGNAL) × (result.tracer < TRACERS) }
+        ensures ranges { (result.state < 8) × (result.kind < 2) × (result.signal ≤ LAST_SIGNAL)
+            × (result.tracer < TRACERS) }
     {
         let unused = Parts {
             state: 0,

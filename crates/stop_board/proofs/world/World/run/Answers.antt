@@ -14,21 +14,26 @@ loop-turn-preserved g c =
           let before = c.loop-turn.invariant.so_far start s in (
             _,
             (
-              rw (c.loop-turn.invariant.rows, c.loop-turn.invariant.tracers) at (c.step.ensures.stands before.0 before.1),
+              rw (c.loop-turn.invariant.rows, c.loop-turn.invariant.tracers) at
+                  (c.step.ensures.stands before.0 before.1),
               rw (c.loop-turn.invariant.rows, c.loop-turn.invariant.tracers) at (c.step.ensures.seen before.0 before.1),
             ),
-            rw pushed (one_more c.args.self.now.rows c.args.self.now.tracers start c.args.turns.now before.0 c.loop-turn.turn-index _ c.loop-turn.replies.items c.step.result
+            rw pushed (one_more c.args.self.now.rows c.args.self.now.tracers start c.args.turns.now before.0
+                c.loop-turn.turn-index _ c.loop-turn.replies.items c.step.result
                 c.loop-turn-test.true before.2
-                (rw (c.loop-turn.invariant.rows, c.loop-turn.invariant.tracers) at (c.step.ensures.reply before.0 before.1))),
+                (rw (c.loop-turn.invariant.rows, c.loop-turn.invariant.tracers) at
+                (c.step.ensures.reply before.0 before.1))),
           );
     }
 
 pub returns-clause-replies : goal.returns-clause-replies
 returns-clause-replies g c = λ m s.
     let at = c.loop-turn.invariant.so_far m s in
-    all_told c.args.self.now.rows c.args.self.now.tracers m c.args.turns.now at.0 c.loop-turn.turn-index c.loop-turn.replies.items c.loop-turn-test.false at.2
+    all_told c.args.self.now.rows c.args.self.now.tracers m c.args.turns.now at.0 c.loop-turn.turn-index
+    c.loop-turn.replies.items c.loop-turn-test.false at.2
 
 pub returns-clause-stands : goal.returns-clause-stands
 returns-clause-stands g c = λ m s.
     let at = c.loop-turn.invariant.so_far m s in
-    rw (← come_to c.args.self.now.rows c.args.self.now.tracers m c.args.turns.now at.0 c.loop-turn.turn-index c.loop-turn.replies.items c.loop-turn-test.false at.2) at.1
+    rw (← come_to c.args.self.now.rows c.args.self.now.tracers m c.args.turns.now at.0 c.loop-turn.turn-index
+    c.loop-turn.replies.items c.loop-turn-test.false at.2) at.1

@@ -11,5 +11,6 @@ invariant-loop-turn g l = record {
   rows : l.self.rows ≡ l.fn.self.rows;
   tracers : l.self.tracers ≡ l.fn.self.tracers;
   told : length l.replies.items ≡ l.turn-index;
-  so_far : (start : Moment) → StandsAt l.fn.self start → (m : Moment) × StandsAt l.self m × IsSoFar l.fn.self.rows l.fn.self.tracers start l.turns m (drop l.turn-index l.turns) l.replies.items;
+  so_far : (start : Moment) → StandsAt l.fn.self start → (m : Moment) × StandsAt l.self m
+      × IsSoFar l.fn.self.rows l.fn.self.tracers start l.turns m (drop l.turn-index l.turns) l.replies.items;
 }

@@ -1,4 +1,5 @@
--- Addresses, the pages that they are on, and runs of them.
+-- Addresses, the pages that they are on, and runs of them: for whoever asks whether an address is one of a run
+-- (`is_among`), or computes with the page of an address.
 use Rattle.std.proofs.Common.{◌≡◌, ◌⊎◌, ℕ, ◌+◌, ◌%◌, ◌<◌, ◌≤◌, true, false, inl, inr, arith}
 use Rattle.std.proofs.lemmas.Bool.Decides.{nat_tests}
 use Rattle.std.proofs.lemmas.Bool.{cases_lt}

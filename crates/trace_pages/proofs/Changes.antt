@@ -226,3 +226,10 @@ module _ (pages old pages' new : List ℕ) (page : ℕ) (kept : ArePages pages o
   byte_at-pushed (Ok done) is = λ a.
       rw is.pages_ok (byte_at-mapped pages old new kept page whole (absent_page pages old page kept whole none) few is.bytes_ok a)
   byte_at-pushed (Err error) is = tt
+
+  pub len-pushed : {E : Type 0} (r : Result (Unit {0}) E) → Pushes pages old pages' new page r
+      → OnOk r (len (flat_of pages' new) ≡ len (flat_of pages old) + 4096)
+  len-pushed {E} (Ok done) is =
+      let longer : length pages' ≡ length (pages ++ page ∷ []) = ap (λ (xs : List ℕ). length xs) is.pages_ok in
+      omega (arith, longer, length_push pages page, len-flat_of pages old kept, len-flat_of pages' new (ArePages-pushed {E = E} (Ok done) is))
+  len-pushed (Err error) is = tt

@@ -5,10 +5,10 @@ use Rattle.std.specs.FinMap.{find}
 use Rattle.std.proofs.lemmas.Bool.Decides.{eqb_tells, nat_tests}
 use Rattle.trace_pages.specs.Pages.{page_entries}
 
-tie_same : (x y : ℕ) → x ≡ y → eq_by_cmp nat_cmp x y ≡ true
+pub tie_same : (x y : ℕ) → x ≡ y → eq_by_cmp nat_cmp x y ≡ true
 tie_same x y same = grind (arith, nat_tests)
 
-tie_other : (x y : ℕ) → x ≢ y → eq_by_cmp nat_cmp x y ≡ false
+pub tie_other : (x y : ℕ) → x ≢ y → eq_by_cmp nat_cmp x y ≡ false
 tie_other x y other = grind (arith, nat_tests)
 
 pub find_here : (q k v : ℕ) (es : List (ℕ × ℕ)) → q ≡ k → find nat_cmp q ((k, v) ∷ es) ≡ Some v

@@ -1,8 +1,9 @@
--- Runs of bytes, and bytes that were stored one run after the other.
+-- Runs of bytes: what their end says of their length and of the addresses, and how a run is made of pieces of pages,
+-- for whoever reads or writes memory page by page. At the end, bytes that were stored one run after the other.
 use Rattle.std.proofs.Common.{[], ◌∷◌, ◌++◌, ◌≡◌, ◌⊎◌, ℕ, zero, suc, ◌+◌, ◌-◌, ◌%◌, ◌<◌, ◌≤◌, ◌^◌, Bool, true, false, Option, Some, None, List, length, get_or, take, drop, inl, inr, refl, sym, ap, ◌∙◌, arith}
 use Rattle.std.specs.Prelude.{IsSome, if◌then◌else◌}
 use Rattle.std.proofs.lemmas.Bool.{cases_lt, lt-ltb, le-ltb, ltb-true}
-use Rattle.std.proofs.lemmas.List.{length-take-le, length-drop, get_or-take, get_or-drop}
+use Rattle.std.proofs.lemmas.List.{append-nil, length-take-le, length-drop, get_or-take, get_or-drop}
 use Rattle.trace_pages.specs.FlatMemory.{FlatMemory, IsPiece, RunEnd, Full, Absent, Top, byte_at, byte_after_store, end_from, is_among, run, run_end}
 use Rattle.trace_pages.proofs.Among.{among_above, among_below, among_yes}
 
@@ -164,6 +165,19 @@ pub run-past : (m : FlatMemory) (at n : ℕ) (piece : List ℕ) → at < 2 ^ 64 
 run-past m at n piece below is within =
     let all : n ≡ length piece + (n - length piece) = omega arith in
     ap (run m at) all ∙ run_passed m piece at (n - length piece) (piece_top at (length piece) below is.to_page_end) is.bytes
+
+-- a run that ends within a piece is the piece's first bytes
+pub run-within : (m : FlatMemory) (at n : ℕ) (piece : List ℕ) → at < 2 ^ 64 → IsPiece m at piece → n ≤ length piece → run m at n ≡ take n piece
+run-within m at n piece below is within =
+    let long : length (take n piece) ≡ n = length-take-le n piece within in
+    let all : n ≡ length (take n piece) + 0 = omega (arith, long) in
+    let room : at + length (take n piece) ≤ 2 ^ 64 = omega (arith, long, piece_top at (length piece) below is.to_page_end) in
+    ap (run m at) all
+    ∙ run_passed m (take n piece) at 0 room (λ j h.
+        let inside : j < n = omega (arith, long) in
+        is.bytes j (omega arith) ∙ ap (λ (byte : ℕ). Some byte) (sym (get_or-take n piece j 0 inside)))
+    ∙ ap (λ (rest : List ℕ). take n piece ++ rest) (run_none m (at + length (take n piece)))
+    ∙ append-nil (take n piece)
 
 -- ---- a run stored after another
 module _ (old mid new : FlatMemory) (at done count : ℕ) (bytes : List ℕ) (within : done + count ≤ length bytes)

@@ -5,12 +5,13 @@ use Rattle.trace_pages.specs.FlatMemory.{FlatMemory, RunEnd, Full, Absent, Top, 
 use Rattle.trace_pages.specs.declared.fault.Fault.{Fault}
 use Rattle.trace_pages.specs.declared.map_error.MapError.{MapError}
 use Rattle.trace_pages.specs.declared.map_error.MapError.TheVariants.{Mapped, TooMany}
+use Rattle.trace_pages.specs.declared.pages.TheConstants.{MOST_PAGES, PAGE_SIZE}
 
--- why a page is not mapped, the first reason first: it is there, or there are 256 pages
+-- why a page is not mapped, the first reason first: it is there, or there are as many pages as there can be
 abbrev pub map_refusal : FlatMemory → ℕ → Option MapError
 map_refusal memory page =
     if is_some (byte_at memory page) then Some Mapped
-    else if nat_le (256 * 4096) (finite.len memory) then Some TooMany
+    else if nat_le (MOST_PAGES * PAGE_SIZE) (finite.len memory) then Some TooMany
     else None
 
 -- a store is done where the run of its addresses is whole, and else faults where the run ends

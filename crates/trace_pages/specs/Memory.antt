@@ -1,4 +1,4 @@
--- What the calls on a tracee's memory answer.
+-- What the calls on a tracee's memory return.
 use Rattle.std.specs.Prelude.{ℕ, ◌-◌, ◌*◌, ◌^◌, is_some, nat_le, if◌then◌else◌, Option, Some, None, Result, Ok, Err}
 use Rattle.std.specs.FinMap as finite
 use Rattle.trace_pages.specs.FlatMemory.{FlatMemory, RunEnd, Full, Absent, Top, byte_at}
@@ -14,7 +14,7 @@ map_refusal memory page =
     else if nat_le (MOST_PAGES * PAGE_SIZE) (finite.len memory) then Some TooMany
     else None
 
--- a store is done where the run of its addresses is whole, and else faults where the run ends
+-- a store is done where the run of its addresses is whole, and otherwise faults where the run ends
 abbrev pub store_answer : RunEnd → Result (Unit {0}) Fault
 store_answer Full = Ok tt
 store_answer (Absent address) = Err (record { addr = address })

@@ -1,11 +1,11 @@
 //! Laws of the definitions: each function is its contract alone.
 
 ghost use Rattle.std.specs.Prelude.{◌≡◌, ◌↔◌, ◌<◌, ◌≤◌, ◌+◌, ◌-◌, ◌^◌, ◌++◌, ℕ, List, length, take};
-ghost use Rattle.trace_pages.specs.FlatMemory.{Absent, FlatMemory, Full, IsPiece, MapsPage, SameAddresses, StoresBytes, Top};
-ghost use Rattle.trace_pages.specs.FlatMemory.{byte_at, mapped, run, run_end, stored};
+ghost use Rattle.trace_pages.specs.FlatMemory.{Absent, FlatMemory, Full, IsPiece, MapsPage, SameAddresses};
+ghost use Rattle.trace_pages.specs.FlatMemory.{StoresBytes, Top, byte_at, mapped, run, run_end, stored};
 
-/// A run has all its bytes where its end says so, and otherwise ends before the address that is not mapped, or with the
-/// address space.
+/// A run has all its bytes where its end says so, and otherwise ends before the address that is not mapped, or with
+/// the address space.
 pub fn runs_end_where_they_say()
     ensures full { (memory : FlatMemory) (address most : ℕ) →
         run_end memory address most ≡ Full ↔ (length (run memory address most) ≡ most) }

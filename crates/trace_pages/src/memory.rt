@@ -63,7 +63,8 @@ impl<A: Allocator> Memory<A> {
     ghost use Rattle.trace_pages.specs.Memory.{map_refusal, store_answer};
     ghost use Rattle.trace_pages.specs.declared.map_error.MapError.{MapError};
 
-    /// Adds the page of zeros at an address that is a multiple of [`PAGE_SIZE`]. A refusal leaves the memory as it was.
+    /// Adds the page of zeros at an address that is a multiple of [`PAGE_SIZE`]. A refusal leaves the memory as it
+    /// was.
     pub fn map(&mut self, page: u64) -> Result<(), MapError>
         requires { page % PAGE_SIZE ≡ 0 }
         ensures ok { OnOk result (MapsPage self.old self.new page) }

@@ -1,6 +1,7 @@
 //! Pages as they are kept: their addresses in one list, their bytes one after the other in another.
 
-ghost use Rattle.std.specs.Prelude.{◌≡◌, ◌≤◌, ◌+◌, ◌%◌, [], ◌∷◌, ◌++◌, IsSome, OnOk, OnErr, Some, None, MatchOption, length};
+ghost use Rattle.std.specs.Prelude.{◌≡◌, ◌≤◌, ◌+◌, ◌%◌, [], ◌∷◌, ◌++◌, IsSome, OnOk, OnErr, Some, None};
+ghost use Rattle.std.specs.Prelude.{MatchOption, length};
 ghost use Rattle.trace_pages.specs.FlatMemory.{IsPiece, StoresBytes, byte_at};
 ghost use Rattle.trace_pages.specs.Pages.{ArePages, AppendsZeros, IsPlace, flat_of};
 

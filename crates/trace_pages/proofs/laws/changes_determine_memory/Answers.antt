@@ -8,4 +8,5 @@ pub returns-clause-map : goal.returns-clause-map
 returns-clause-map c = λ before after page. (mapped_is before after page, is_mapped before after page)
 
 pub returns-clause-store : goal.returns-clause-store
-returns-clause-store c = λ before after address bytes. (stored_is before after address bytes, is_stored before after address bytes)
+returns-clause-store c = λ before after address bytes.
+    (stored_is before after address bytes, is_stored before after address bytes)

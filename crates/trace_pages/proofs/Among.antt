@@ -1,4 +1,5 @@
--- Addresses, the pages that they are on, and runs of them.
+-- Addresses, the pages that they are on, and runs of them: for whoever asks whether an address is one of a run
+-- (`is_among`), or computes with the page of an address.
 use Rattle.std.proofs.Common.{◌≡◌, ◌⊎◌, ℕ, ◌+◌, ◌%◌, ◌<◌, ◌≤◌, true, false, inl, inr, arith}
 use Rattle.std.proofs.lemmas.Bool.Decides.{nat_tests}
 use Rattle.std.proofs.lemmas.Bool.{cases_lt}
@@ -15,7 +16,8 @@ pub among_above : (from count address : ℕ) → from + count ≤ address → is
 among_above from count address high = grind (arith, nat_tests)
 
 -- an address is among some, or before them, or after them
-pub among_cases : (from count address : ℕ) → ((from ≤ address) × (address < from + count)) ⊎ (is_among from count address ≡ false)
+pub among_cases : (from count address : ℕ) → ((from ≤ address) × (address < from + count))
+    ⊎ (is_among from count address ≡ false)
 among_cases from count address = elim (cases_lt address from) [
   | inl below ↦ inr (among_below from count address below)
   | inr above ↦ elim (cases_lt address (from + count)) [

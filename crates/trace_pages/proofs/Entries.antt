@@ -1,14 +1,15 @@
 -- What a look-up finds among the entries of pages.
-use Rattle.std.proofs.Common.{◌≡◌, ◌≢◌, ◌⊎◌, ℕ, suc, ◌+◌, ◌-◌, ◌<◌, ◌≤◌, true, false, Some, List, [], ◌∷◌, ◌++◌, length, get_or, inl, inr, refl, arith}
+use Rattle.std.proofs.Common.{◌≡◌, ◌≢◌, ◌⊎◌, ℕ, suc, ◌+◌, ◌-◌, ◌<◌, ◌≤◌, true, false, Some, List, [], ◌∷◌, ◌++◌}
+use Rattle.std.proofs.Common.{length, get_or, inl, inr, refl, arith}
 use Rattle.std.specs.Ordering.{nat_cmp, eq_by_cmp}
 use Rattle.std.specs.FinMap.{find}
 use Rattle.std.proofs.lemmas.Bool.Decides.{eqb_tells, nat_tests}
 use Rattle.trace_pages.specs.Pages.{page_entries}
 
-tie_same : (x y : ℕ) → x ≡ y → eq_by_cmp nat_cmp x y ≡ true
+pub tie_same : (x y : ℕ) → x ≡ y → eq_by_cmp nat_cmp x y ≡ true
 tie_same x y same = grind (arith, nat_tests)
 
-tie_other : (x y : ℕ) → x ≢ y → eq_by_cmp nat_cmp x y ≡ false
+pub tie_other : (x y : ℕ) → x ≢ y → eq_by_cmp nat_cmp x y ≡ false
 tie_other x y other = grind (arith, nat_tests)
 
 pub find_here : (q k v : ℕ) (es : List (ℕ × ℕ)) → q ≡ k → find nat_cmp q ((k, v) ∷ es) ≡ Some v
@@ -22,7 +23,9 @@ pub find_on_page : (bytes : List ℕ) (page : ℕ) (es : List (ℕ × ℕ)) (q :
     → find nat_cmp q (page_entries page bytes ++ es) ≡ Some (get_or bytes (q - page) 0)
 unfolding page_entries
 find_on_page [] page es q low high = absurd (omega arith)
-find_on_page (byte ∷ bytes) page es q low high = elim (eqb_tells q page) as (λ _. find nat_cmp q (page_entries page (byte ∷ bytes) ++ es) ≡ Some (get_or (byte ∷ bytes) (q - page) 0)) [
+find_on_page (byte ∷ bytes) page es q low high =
+    elim (eqb_tells q page) as (λ _. find nat_cmp q (page_entries page (byte ∷ bytes) ++ es) ≡ Some
+        (get_or (byte ∷ bytes) (q - page) 0)) [
   | inl same ↦
       let first : q - page ≡ 0 = omega (arith, same.1) in
       rw first (find_here q page byte (page_entries (page + 1) bytes ++ es) same.1)
@@ -39,7 +42,9 @@ unfolding page_entries
 find_off_page [] page es q off = refl
 find_off_page (byte ∷ bytes) page es q (inl low) =
     let other : q ≢ page = omega arith in
-    rw (find_past q page byte (page_entries (page + 1) bytes ++ es) other) (find_off_page bytes (page + 1) es q (inl (omega arith)))
+    rw (find_past q page byte (page_entries (page + 1) bytes ++ es) other)
+        (find_off_page bytes (page + 1) es q (inl (omega arith)))
 find_off_page (byte ∷ bytes) page es q (inr high) =
     let other : q ≢ page = omega arith in
-    rw (find_past q page byte (page_entries (page + 1) bytes ++ es) other) (find_off_page bytes (page + 1) es q (inr (omega arith)))
+    rw (find_past q page byte (page_entries (page + 1) bytes ++ es) other)
+        (find_off_page bytes (page + 1) es q (inr (omega arith)))

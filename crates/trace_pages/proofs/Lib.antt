@@ -1,6 +1,7 @@
-mod Among
+pub mod Among
 mod Entries
 mod Places
 mod Counts
 mod Changes
-mod Runs
+pub mod Runs
+pub mod Memories

@@ -1,4 +1,4 @@
-//! The memory of a tracee: pages of 4096 bytes at addresses of 64 bits.
+//! The memory of a tracee: pages of bytes at addresses of 64 bits.
 #![tactic(auto)]
 
 mod fault;
@@ -9,10 +9,13 @@ mod no_memory;
 mod pages;
 
 pub use fault::Fault;
-pub use laws::{runs_are_made_of_pieces, runs_end_where_they_say};
+pub use laws::{
+    changes_determine_memory, runs_are_made_of_pieces, runs_end_where_they_say, stores_keep_addresses,
+};
 pub use map_error::MapError;
 pub use memory::Memory;
 pub use no_memory::NoMemory;
+pub use pages::{MOST_PAGES, PAGE_SIZE};
 
 #[cfg(test)]
 mod tests;

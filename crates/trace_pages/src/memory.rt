@@ -3,7 +3,8 @@
 //! Contracts see it as a finite map from address to byte. It is kept as the list of the pages' addresses, in the
 //! order in which they were mapped, beside one list of all their bytes in the same order.
 
-ghost use Rattle.std.specs.Prelude.{◌≡◌, ◌<◌, ◌≤◌, ◌+◌, ◌*◌, ◌%◌, IsSome, IfOk, OnOk, OnErr, Some, None, MatchOption, IsOkUnless, nat_le, length};
+ghost use Rattle.std.specs.Prelude.{◌≡◌, ◌<◌, ◌≤◌, ◌+◌, ◌*◌, ◌%◌, IsSome, IfOk, OnOk, OnErr, Some, None};
+ghost use Rattle.std.specs.Prelude.{MatchOption, IsOkUnless, nat_le, length};
 ghost use Rattle.std.specs.FinMap as finite;
 ghost use Rattle.trace_pages.specs.FlatMemory as flat;
 ghost use Rattle.trace_pages.specs.FlatMemory.{IsPiece, MapsPage, StoresBytes, byte_at, run_end};
@@ -11,11 +12,12 @@ ghost use Rattle.trace_pages.specs.FlatMemory.{IsPiece, MapsPage, StoresBytes, b
 use crate::fault::Fault;
 use crate::map_error::MapError;
 use crate::no_memory::NoMemory;
-use crate::pages::{MOST_PAGES, piece_of, push_page, rest_of_page, write_piece};
+use crate::pages::{MOST_PAGES, PAGE_SIZE, piece_of, push_page, rest_of_page, write_piece};
 use std::alloc::{Allocator, Global};
 use std::marker::Model;
 
-/// The memory of a tracee: at most 256 pages of 4096 bytes, each at an address that is a multiple of 4096.
+/// The memory of a tracee: at most [`MOST_PAGES`] pages of [`PAGE_SIZE`] bytes, each at an address that is a multiple
+/// of `PAGE_SIZE`.
 #[derive(Drop)]
 pub struct Memory<A: Allocator = Global> {
     pages: Vec<u64, A>,
@@ -61,10 +63,12 @@ impl<A: Allocator> Memory<A> {
     ghost use Rattle.trace_pages.specs.Memory.{map_refusal, store_answer};
     ghost use Rattle.trace_pages.specs.declared.map_error.MapError.{MapError};
 
-    /// Adds the page of zeros at an address that is a multiple of 4096. A refusal leaves the memory as it was.
+    /// Adds the page of zeros at an address that is a multiple of [`PAGE_SIZE`]. A refusal leaves the memory as it
+    /// was.
     pub fn map(&mut self, page: u64) -> Result<(), MapError>
-        requires { page % 4096 ≡ 0 }
+        requires { page % PAGE_SIZE ≡ 0 }
         ensures ok { OnOk result (MapsPage self.old self.new page) }
+        ensures grown { OnOk result (finite.len self.new ≡ finite.len self.old + PAGE_SIZE) }
         ensures fault { (error : MapError) → map_refusal self.old page ≡ Some error → result ≡ Err error }
         ensures accepted { map_refusal self.old page ≡ None → IsOkUnless result MapError.NoMemory }
         ensures err { OnErr result (self.new ≡ self.old) }
@@ -105,26 +109,10 @@ impl<A: Allocator> Memory<A> {
         piece_of(self.pages.as_slice(), self.bytes.as_slice(), addr)
     }
 
-    /// Whether there are as many pages as there can be.
-    fn is_full(&self) -> bool
-        ensures { result ≡ nat_le (256 * 4096) (finite.len self.now) }
-    {
-        self.pages.len() >= MOST_PAGES
-    }
-
-    /// Adds a page of zeros.
-    fn add_page(&mut self, page: u64) -> Result<(), NoMemory>
-        requires whole { page % 4096 ≡ 0 }
-        requires absent { byte_at self.old page ≡ None }
-        requires room { finite.len self.old < 256 * 4096 }
-        ensures ok { OnOk result (MapsPage self.old self.new page) }
-        ensures err { OnErr result (self.new ≡ self.old) }
-    {
-        push_page(&mut self.pages, &mut self.bytes, page)
-    }
-
-    /// Whether the addresses from one on are mapped, or the first that is not.
-    fn check_run(&self, addr: u64, len: usize) -> Result<(), Fault>
+    /// Whether a store of this many bytes from an address on can be done, without doing it: the answer is that of
+    /// `store`, a fault at the first address that is not mapped, or at 2^64 - 1 where bytes remain after the last
+    /// address.
+    pub fn check_run(&self, addr: u64, len: usize) -> Result<(), Fault>
         ensures { result ≡ store_answer (run_end self.now addr len) }
     {
         let mut at = addr;
@@ -145,6 +133,25 @@ impl<A: Allocator> Memory<A> {
         Ok(())
     }
 
+    /// Whether there are as many pages as there can be.
+    fn is_full(&self) -> bool
+        ensures { result ≡ nat_le (MOST_PAGES * PAGE_SIZE) (finite.len self.now) }
+    {
+        self.pages.len() >= MOST_PAGES
+    }
+
+    /// Adds a page of zeros.
+    fn add_page(&mut self, page: u64) -> Result<(), NoMemory>
+        requires whole { page % PAGE_SIZE ≡ 0 }
+        requires absent { byte_at self.old page ≡ None }
+        requires room { finite.len self.old < MOST_PAGES * PAGE_SIZE }
+        ensures ok { OnOk result (MapsPage self.old self.new page) }
+        ensures grown { OnOk result (finite.len self.new ≡ finite.len self.old + PAGE_SIZE) }
+        ensures err { OnErr result (self.new ≡ self.old) }
+    {
+        push_page(&mut self.pages, &mut self.bytes, page)
+    }
+
     /// Writes the bytes, page by page, where all their addresses are mapped.
     fn write_run(&mut self, addr: u64, bytes: &[u8])
         requires { run_end self.old addr (length bytes.now) ≡ flat.Full }
@@ -162,7 +169,7 @@ impl<A: Allocator> Memory<A> {
     /// Writes bytes that end within the page of an address that is mapped.
     fn write_in_page(&mut self, addr: u64, bytes: &[u8])
         requires mapped { IsSome (byte_at self.old addr) }
-        requires within { length bytes.now + addr % 4096 ≤ 4096 }
+        requires within { length bytes.now + addr % PAGE_SIZE ≤ PAGE_SIZE }
         ensures { StoresBytes self.old self.new addr bytes.now }
     {
         write_piece(

@@ -1,33 +1,34 @@
 //! Pages as they are kept: their addresses in one list, their bytes one after the other in another.
 
-ghost use Rattle.std.specs.Prelude.{◌≡◌, ◌≤◌, ◌+◌, ◌%◌, [], ◌∷◌, ◌++◌, IsSome, OnOk, OnErr, Some, None, MatchOption, length};
+ghost use Rattle.std.specs.Prelude.{◌≡◌, ◌≤◌, ◌+◌, ◌%◌, [], ◌∷◌, ◌++◌, IsSome, OnOk, OnErr, Some, None};
+ghost use Rattle.std.specs.Prelude.{MatchOption, length};
 ghost use Rattle.trace_pages.specs.FlatMemory.{IsPiece, StoresBytes, byte_at};
 ghost use Rattle.trace_pages.specs.Pages.{ArePages, AppendsZeros, IsPlace, flat_of};
 
 use crate::no_memory::NoMemory;
 use std::alloc::Allocator;
 
-/// The length of a page, as addresses count.
-const PAGE: u64 = 4096;
+/// How many bytes a page has (getpagesize(2)).
+pub const PAGE_SIZE: u64 = 4096;
 
-/// The length of a page, as lists count.
-const PAGE_BYTES: usize = 4096;
+/// The same number, as lists count.
+const PAGE_BYTES: usize = PAGE_SIZE as usize;
 
-/// How many pages there can be.
+/// How many pages a memory can have.
 pub const MOST_PAGES: usize = 256;
 
 /// How far the page of an address goes on from it.
 pub fn rest_of_page(addr: u64) -> usize
-    ensures { result + addr % 4096 ≡ 4096 }
+    ensures { result + addr % PAGE_SIZE ≡ PAGE_SIZE }
 {
-    (PAGE - addr % PAGE) as usize
+    (PAGE_SIZE - addr % PAGE_SIZE) as usize
 }
 
 /// The place of the page of an address, counted from 0 in the order of the list.
 fn place_of(pages: &[u64], addr: u64) -> Option<usize>
     ensures { IsPlace pages.now addr result }
 {
-    let base = addr - addr % PAGE;
+    let base = addr - addr % PAGE_SIZE;
     pages.iter().position(|page| *page == base)
 }
 
@@ -38,7 +39,7 @@ pub fn piece_of<'a>(pages: &[u64], bytes: &'a [u8], addr: u64) -> Option<&'a [u8
         MatchOption result (byte_at memory addr ≡ None) (λ piece. IsPiece memory addr piece.now) }
 {
     let place = place_of(pages, addr)?;
-    let from = place * PAGE_BYTES + (addr % PAGE) as usize;
+    let from = place * PAGE_BYTES + (addr % PAGE_SIZE) as usize;
     Some(&bytes[from..from + rest_of_page(addr)])
 }
 
@@ -46,13 +47,13 @@ pub fn piece_of<'a>(pages: &[u64], bytes: &'a [u8], addr: u64) -> Option<&'a [u8
 pub fn write_piece(pages: &[u64], bytes: &mut [u8], addr: u64, piece: &[u8])
     requires kept { ArePages pages.now bytes.old }
     requires mapped { IsSome (byte_at (flat_of pages.now bytes.old) addr) }
-    requires within { length piece.now + addr % 4096 ≤ 4096 }
+    requires within { length piece.now + addr % PAGE_SIZE ≤ PAGE_SIZE }
     ensures { StoresBytes (flat_of pages.now bytes.old) (flat_of pages.now bytes.new) addr piece.now }
 {
     let Some(place) = place_of(pages, addr) else {
         unreachable!()
     };
-    let from = place * PAGE_BYTES + (addr % PAGE) as usize;
+    let from = place * PAGE_BYTES + (addr % PAGE_SIZE) as usize;
     bytes[from..from + piece.len()].copy_from_slice(piece);
 }
 

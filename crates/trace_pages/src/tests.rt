@@ -134,7 +134,29 @@ fn a_copy_has_the_same_bytes_and_its_own(rt: HostRuntime) -> Result<(), Fail> {
 }
 
 #[test]
+fn a_look_ahead_answers_as_the_store_would(rt: HostRuntime) {
+    let mut memory = Memory::new(rt.alloc());
+    assert!(rt; memory.map(0x10000).is_ok());
+    assert!(rt; memory.map(0x11000).is_ok());
+    assert!(rt; memory.map(TOP).is_ok());
+    for (addr, len, answer) in [
+        (0x10ffe, 4, Ok(())),
+        (0x10000, 8192, Ok(())),
+        (0x10000, 8193, Err(Fault { addr: 0x12000 })),
+        (0xffff, 1, Err(Fault { addr: 0xffff })),
+        (0x12000, 0, Ok(())),
+        (u64::MAX, 1, Ok(())),
+        (u64::MAX, 2, Err(Fault { addr: u64::MAX })),
+    ] {
+        assert_eq!(rt; memory.check_run(addr, len), answer, "{addr:#x} {len}");
+    }
+    assert_eq!(rt; memory.byte(0x10ffe), Some(0));
+}
+
+#[test]
 fn the_laws_are_there() {
     runs_end_where_they_say();
     runs_are_made_of_pieces();
+    changes_determine_memory();
+    stores_keep_addresses();
 }

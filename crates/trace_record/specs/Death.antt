@@ -7,7 +7,7 @@ use Rattle.trace_status.specs.declared.wait_status.WaitStatus.TheVariants as sta
 use Rattle.trace_record.specs.declared.death.Death.{Death}
 use Rattle.trace_record.specs.declared.death.Death.TheVariants.{Exited, Signaled}
 
--- the wait status that a wait for the tracee pid answers of a death
+-- the wait status that a wait for the tracee pid returns of a death
 abbrev pub death_wait_status : ℕ → Death → WaitStatus
 death_wait_status pid (Exited code) = status.Exited pid code
 death_wait_status pid (Signaled signal core) = status.Signaled pid signal core

@@ -1,4 +1,4 @@
--- The stops of a tracee, and the wait status that tells each (ptrace(2), "Syscall-stops", "PTRACE_EVENT stops",
+-- The stops of a tracee, and the wait status that reports each (ptrace(2), "Syscall-stops", "PTRACE_EVENT stops",
 -- "Signal-delivery-stop").
 use Rattle.std.specs.Prelude.{ℕ, Option, Some, None}
 use Rattle.trace_options.specs.Event.{code_of}
@@ -10,7 +10,7 @@ use Rattle.trace_status.specs.declared.wait_status.WaitStatus.TheVariants.{Stopp
 use Rattle.trace_record.specs.declared.stop.Stop.{Stop}
 use Rattle.trace_record.specs.declared.stop.Stop.TheVariants.{Start, Enter, Exit, Seccomp, Fork, Clone, Exec, Signal}
 
--- the wait status that a wait for the tracee pid answers at a stop
+-- the wait status that a wait for the tracee pid returns at a stop
 abbrev pub stop_wait_status : ℕ → Stop → WaitStatus
 stop_wait_status pid Start = PtraceEvent pid SIGTRAP (code_of event.Stop)
 stop_wait_status pid Enter = PtraceSyscall pid
@@ -43,7 +43,7 @@ IsStop (Fork child) = Unit {0}
 IsStop (Clone child) = Unit {0}
 IsStop (Exec former) = Unit {0}
 
--- the new tracee that a stop tells of (ptrace(2), PTRACE_EVENT_FORK, PTRACE_EVENT_CLONE, PTRACE_GETEVENTMSG)
+-- the new tracee that a stop announces (ptrace(2), PTRACE_EVENT_FORK, PTRACE_EVENT_CLONE, PTRACE_GETEVENTMSG)
 abbrev pub child_of : Stop → Option ℕ
 child_of (Fork child) = Some child
 child_of (Clone child) = Some child

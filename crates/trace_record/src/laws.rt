@@ -7,11 +7,13 @@ ghost use Rattle.trace_record.specs.Stop.{IsStop, stop_status, stop_wait_status}
 ghost use Rattle.trace_record.specs.declared.death.Death.{Death};
 ghost use Rattle.trace_record.specs.declared.stop.Stop.{Stop};
 
-/// The raw value of each stop and of each death is told, and as the status that its name says. By what
+/// The raw value of each stop and of each death encodes the status that its name says. By what
 /// `trace_status::decode` ensures, it decodes to that status.
-pub fn statuses_are_told()
-    ensures stops { (pid : ℕ) (stop : Stop) → IsStop stop → Encodes (stop_wait_status pid stop) (stop_status stop) }
-    ensures deaths { (pid : ℕ) (death : Death) → IsDeath death → Encodes (death_wait_status pid death) (death_status death) }
+pub fn statuses_are_encoded()
+    ensures stops { (pid : ℕ) (stop : Stop) →
+        IsStop stop → Encodes (stop_wait_status pid stop) (stop_status stop) }
+    ensures deaths { (pid : ℕ) (death : Death) →
+        IsDeath death → Encodes (death_wait_status pid death) (death_status death) }
 {}
 
 /// No two deaths that a tracee can have are reported by one raw value.

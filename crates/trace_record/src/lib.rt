@@ -1,4 +1,4 @@
-//! What a tracee's tracer is told of it: the stop that it stands at, the restart that it is given, its death.
+//! What a tracer learns of its tracee, and gives it: its stops, its restarts and its death.
 #![tactic(auto)]
 
 mod death;
@@ -8,7 +8,7 @@ mod stop;
 mod stop_record;
 
 pub use death::Death;
-pub use laws::{a_status_reports_one_death, statuses_are_told};
+pub use laws::{a_status_reports_one_death, statuses_are_encoded};
 pub use resume::{Kind, Resume};
 pub use stop::Stop;
 pub use stop_record::{AUDIT_ARCH_X86_64, StopRecord};

@@ -31,7 +31,7 @@ pub enum Stop {
 impl Stop {
     ghost use Rattle.trace_record.specs.Stop.{child_of, stop_status};
 
-    /// The raw wait status that tells the stop (ptrace(2), "Syscall-stops", "PTRACE_EVENT stops").
+    /// The raw wait status that reports the stop (ptrace(2), "Syscall-stops", "PTRACE_EVENT stops").
     pub fn status(&self) -> u32
         ensures { result ≡ stop_status self.now }
     {
@@ -46,7 +46,7 @@ impl Stop {
         }
     }
 
-    /// The id of the new tracee that the stop tells of: that of a fork or a clone, else None.
+    /// The id of the new tracee at a fork or a clone, and None at any other stop (ptrace(2), `PTRACE_GETEVENTMSG`).
     pub fn child(&self) -> Option<u32>
         ensures { result ≡ child_of self.now }
     {

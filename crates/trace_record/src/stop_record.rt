@@ -1,7 +1,7 @@
 //! The record of a stop: what a tracer that claims the stop is shown.
 //!
-//! A record is moved from the tracee to the tracer and back, never copied: its memory is the tracee's. Contracts see it
-//! as its `Content`.
+//! A record is moved from the tracee to the tracer and back, never copied: its memory is the tracee's. Contracts see
+//! it as its `Content`.
 
 ghost use Rattle.std.specs.Prelude.{◌≡◌};
 ghost use Rattle.trace_record.specs.Content.{empty_content, info_of, message_of};
@@ -40,7 +40,9 @@ impl<A: Allocator> Model for StopRecord<A> {
 
     ghost view = { λ r. content_by r.tid r.number r.stop r.regs r.memory };
 
-    ghost inverse = { λ c. record { tid = c.tid; number = c.number; stop = c.stop; regs = c.regs; memory = c.memory } };
+    ghost inverse = {
+        λ c. record { tid = c.tid; number = c.number; stop = c.stop; regs = c.regs; memory = c.memory }
+    };
 }
 
 impl<A: Allocator + Copy> StopRecord<A> {

@@ -101,7 +101,7 @@ fn a_death_out_of_range_has_a_status_that_reports_none(rt: HostRuntime) {
 #[test]
 fn the_laws_are_there() {
     a_status_reports_one_death();
-    statuses_are_told();
+    statuses_are_encoded();
 }
 
 /// The registers of a call with its number and its arguments.

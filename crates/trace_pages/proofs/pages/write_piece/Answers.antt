@@ -9,5 +9,8 @@ unreachable-requires c =
     let some = rw none at c.requires.mapped in cc
 
 pub returns : goal.returns
-returns c = byte_at-stored c.args.pages.now c.args.bytes.now _ c.args.piece.now c.requires.kept c.in-Some.place c.args.addr c.in-Some.ensures.0 c.in-Some.ensures.1 c.requires.within
-    (Overwrites-put_mid c.args.bytes.now c.args.piece.now _ (omega (arith, c.requires.kept.long)) c.copy_from_slice.new.self _ (omega arith) c.copy_from_slice.ensures.after)
+returns c = byte_at-stored c.args.pages.now c.args.bytes.now _ c.args.piece.now c.requires.kept c.in-Some.place
+    c.args.addr c.in-Some.ensures.0 c.in-Some.ensures.1 c.requires.within
+    (Overwrites-put_mid c.args.bytes.now c.args.piece.now _
+        (omega (arith, c.requires.kept.long)) c.copy_from_slice.new.self _
+            (omega arith) c.copy_from_slice.ensures.after)

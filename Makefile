@@ -4,10 +4,11 @@ RT ?= rt
 RUSTC ?= rustc
 PYTHON ?= python3
 PREFIX ?= /usr/local
+KIT = rattle-kit-13b logic dac8208d650f15bf
 OUT = bench/out
 CRATES = $(notdir $(wildcard crates/*))
 
-.PHONY: all demo check examples test bench install clean kit
+.PHONY: all kit demo examples check test bench tools install clean
 
 all: kit
 	@echo "make: proving the program and what it stands on, over what earlier runs kept (the first time: ten minutes)"
@@ -17,14 +18,16 @@ all: kit
 
 kit:
 	@command -v $(RT) > /dev/null || { \
-		echo "make: there is no command $(RT): put the Rattle kit's rt on the PATH, or name it as RT=.. (README.md, \"What it needs\")"; \
-		exit 2; }
+		echo "make: there is no command $(RT): put the Rattle kit's rt on the PATH, or give its place as RT=.."; \
+		echo "make: README.md, \"What it needs\", says which kit"; exit 2; }
+	@[ "$$($(RT) --version)" = "$(KIT)" ] || \
+		echo "make: proved with $(KIT), but $(RT) is $$($(RT) --version): a proof may fail"
 
 demo: kit
 	@echo "demo: running the program on two files of examples/replay, without the proofs (one minute)"
 	@for file in first refused; do \
-		echo; echo "tracer replay < examples/replay/$$file, which is"; sed 's/^/    /' examples/replay/$$file; echo "answers"; \
-		(cd crates/tracer && $(RT) try -- replay < ../../examples/replay/$$file 2>&1); \
+		echo; echo "tracer replay < examples/replay/$$file, which is"; sed 's/^/    /' examples/replay/$$file; \
+		echo "answers"; (cd crates/tracer && $(RT) try -- replay < ../../examples/replay/$$file 2>&1); \
 	done || true
 
 examples:
@@ -46,13 +49,18 @@ test: kit
 	done
 	@echo "test: every test passed"
 
-bench: all
+bench: tools all
 	@echo "bench: timing bin/tracer and a plain Rust program in turn on one replay of 16 MB (some seconds)"
 	@mkdir -p $(OUT)
 	@$(RUSTC) -O --edition 2024 -o $(OUT)/generate bench/generate.rs
 	@$(RUSTC) -O --edition 2024 -o $(OUT)/plain bench/plain.rs
 	@$(OUT)/generate > $(OUT)/replay.txt
 	@$(PYTHON) bench/compare.py bin/tracer $(OUT)/plain $(OUT)/replay.txt
+
+tools:
+	@for command in $(RUSTC) $(PYTHON); do \
+		command -v $$command > /dev/null || { echo "bench: there is no command $$command, which it needs"; exit 2; }; \
+	done
 
 install: all
 	@echo "install: copying bin/tracer to $(DESTDIR)$(PREFIX)/bin"

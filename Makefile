@@ -1,20 +1,34 @@
-# Each target says what it does and how long it may take.
-# `rt` is the command of the Rattle kit (README.md, "Building"); RT names another one.
+# Each target says what it does and how long it may take, on a machine of 4 processors.
+# `rt` is the command of the Rattle kit (README.md, "What it needs"); RT names another one.
 RT ?= rt
 RUSTC ?= rustc
 PYTHON ?= python3
 PREFIX ?= /usr/local
+KIT = rattle-kit-13b logic dac8208d650f15bf
 OUT = bench/out
+CRATES = $(notdir $(wildcard crates/*))
 
-.PHONY: all demo check examples bench install
+.PHONY: all kit demo examples check test bench tools install clean
 
-all:
+all: kit
 	@echo "make: proving the program and what it stands on, over what earlier runs kept (the first time: ten minutes)"
 	@cd crates/tracer && $(RT) run -- --help > /dev/null
 	@mkdir -p bin && cp crates/tracer/out/tracer bin/tracer
 	@echo "make: bin/tracer is built"
 
-demo: examples
+kit:
+	@command -v $(RT) > /dev/null || { \
+		echo "make: there is no command $(RT): put the Rattle kit's rt on the PATH, or give its place as RT=.."; \
+		echo "make: README.md, \"What it needs\", says which kit"; exit 2; }
+	@[ "$$($(RT) --version)" = "$(KIT)" ] || \
+		echo "make: proved with $(KIT), but $(RT) is $$($(RT) --version): a proof may fail"
+
+demo: kit
+	@echo "demo: running the program on two files of examples/replay, without the proofs (one minute)"
+	@for file in first refused; do \
+		echo; echo "tracer replay < examples/replay/$$file, which is"; sed 's/^/    /' examples/replay/$$file; \
+		echo "answers"; (cd crates/tracer && $(RT) try -- replay < ../../examples/replay/$$file 2>&1); \
+	done || true
 
 examples:
 	@echo "examples: running the program on each file of examples/, without waiting for the proofs (half a minute)"
@@ -22,12 +36,20 @@ examples:
 	@cd crates/tracer && $(RT) try --cases ../../examples/replay -- replay
 	@echo "examples: each file printed the text that stands beside it"
 
-check:
+check: kit
 	@echo "check: proving every crate from nothing, then the must-fail edits, tests and programs (docs/STATUS.md has the time)"
 	@$(RT) ci
 	@$(MAKE) --no-print-directory examples
 
-bench: all
+test: kit
+	@echo "test: running the tests of each crate, without the proofs (five minutes)"
+	@for crate in $(CRATES); do \
+		grep -rqs '#\[test\]' crates/$$crate/src || continue; \
+		echo "test: $$crate"; (cd crates/$$crate && $(RT) try --test) || exit 1; \
+	done
+	@echo "test: every test passed"
+
+bench: tools all
 	@echo "bench: timing bin/tracer and a plain Rust program in turn on one replay of 16 MB (some seconds)"
 	@mkdir -p $(OUT)
 	@$(RUSTC) -O --edition 2024 -o $(OUT)/generate bench/generate.rs
@@ -35,7 +57,16 @@ bench: all
 	@$(OUT)/generate > $(OUT)/replay.txt
 	@$(PYTHON) bench/compare.py bin/tracer $(OUT)/plain $(OUT)/replay.txt
 
+tools:
+	@for command in $(RUSTC) $(PYTHON); do \
+		command -v $$command > /dev/null || { echo "bench: there is no command $$command, which it needs"; exit 2; }; \
+	done
+
 install: all
 	@echo "install: copying bin/tracer to $(DESTDIR)$(PREFIX)/bin"
 	@install -d $(DESTDIR)$(PREFIX)/bin
 	@install -m 755 bin/tracer $(DESTDIR)$(PREFIX)/bin/tracer
+
+clean:
+	@echo "clean: removing what was built and what earlier checks kept; the next check starts from nothing"
+	@rm -rf bin $(OUT) $(addsuffix /out,$(wildcard crates/*))

@@ -5,9 +5,9 @@ use Rattle.std.proofs.lemmas.Fmt.{decimal_is_IsNumeral}
 use Rattle.std.proofs.lemmas.Str.Parse.{digit_from_value}
 use Rattle.std.specs.Char.{digit_value}
 use Rattle.std.specs.Str.Parse.{AllDigits, IsNumeral, digits_value, digits_value_after}
-use Rattle.tracer_cli.specs.Lines.{has_letters}
-use Rattle.tracer_cli.specs.Numbers.{digits_after, is_hex, number_of, numeral, within_u64}
-use Rattle.tracer_cli.specs.Grammar.{number_between, ranged}
+use Rattle.text_lines.specs.Lines.{has_letters}
+use Rattle.text_lines.specs.Numbers.{digits_after, is_hex, number_of, numeral, within_u64}
+use Rattle.text_lines.specs.Ranges.{number_between, ranged}
 use Rattle.tracer_cli.proofs.Spelled.{all_above, is_word}
 
 digits_above : (ds : List ℕ) → AllDigits 10 ds → all_above ds ≡ true

@@ -18,7 +18,10 @@ use Rattle.tracer_cli.specs.declared.grammar.Line.TheVariants as line
 use Rattle.tracer_cli.specs.declared.grammar.Numbered.{Numbered}
 use Rattle.tracer_cli.specs.declared.grammar.Numbered.TheVariants as numbered
 use Rattle.tracer_cli.specs.Command.{IsCommand}
-use Rattle.tracer_cli.specs.Grammar.{◌>>=◌, claim_line, exit_line, id_of, line_of, number_between, publish_numbered, publish_plain, resume_line, row_line, state_line, stop_of, plain_stop, numbered_stop, kind_of, tracer_of}
+use Rattle.tracer_cli.specs.Grammar.{claim_line, exit_line, id_of, kind_of, line_of, numbered_stop, plain_stop, publish_numbered}
+use Rattle.tracer_cli.specs.Grammar.{publish_plain, resume_line, row_line, state_line, stop_of, tracer_of}
+use Rattle.text_lines.specs.Ranges.{◌>>=◌, number_between}
+use Rattle.trace_options.specs.declared.signal.TheConstants.{LAST_SIGNAL}
 use Rattle.tracer_cli.specs.Spelling.{IsSpelled, command_words, kind_word, row_words}
 use Rattle.tracer_cli.proofs.Decimals.{decimal_between, decimal_is_word}
 use Rattle.tracer_cli.proofs.Spelled.{AreWords, is_word}
@@ -110,11 +113,11 @@ claim_said tid tracer t c id is =
     ap (λ r. r >>= λ t. tracer_of tracer >>= λ c. Ok (line.Command t (command.Claim c))) id
     ∙ ap (λ r. r >>= λ c. Ok (line.Command t (command.Claim c))) is
 
-resume_said : (tid tracer name signal : List ℕ) (t c : ℕ) (how : Resume) → id_of tid ≡ Ok t → tracer_of tracer ≡ Ok c → kind_of name ≡ Ok how.kind → number_between 0 64 signal ≡ Ok how.signal → resume_line tid tracer name signal ≡ Ok (line.Command t (command.Resume c how))
+resume_said : (tid tracer name signal : List ℕ) (t c : ℕ) (how : Resume) → id_of tid ≡ Ok t → tracer_of tracer ≡ Ok c → kind_of name ≡ Ok how.kind → number_between 0 LAST_SIGNAL signal ≡ Ok how.signal → resume_line tid tracer name signal ≡ Ok (line.Command t (command.Resume c how))
 resume_said tid tracer name signal t c how id is kind handed =
-    ap (λ r. r >>= λ k. id_of tid >>= λ t. tracer_of tracer >>= λ c. number_between 0 64 signal >>= λ s. Ok (line.Command t (command.Resume c (record { kind = k; signal = s })))) kind
-    ∙ ap (λ r. r >>= λ t. tracer_of tracer >>= λ c. number_between 0 64 signal >>= λ s. Ok (line.Command t (command.Resume c (record { kind = how.kind; signal = s })))) id
-    ∙ ap (λ r. r >>= λ c. number_between 0 64 signal >>= λ s. Ok (line.Command t (command.Resume c (record { kind = how.kind; signal = s })))) is
+    ap (λ r. r >>= λ k. id_of tid >>= λ t. tracer_of tracer >>= λ c. number_between 0 LAST_SIGNAL signal >>= λ s. Ok (line.Command t (command.Resume c (record { kind = k; signal = s })))) kind
+    ∙ ap (λ r. r >>= λ t. tracer_of tracer >>= λ c. number_between 0 LAST_SIGNAL signal >>= λ s. Ok (line.Command t (command.Resume c (record { kind = how.kind; signal = s })))) id
+    ∙ ap (λ r. r >>= λ c. number_between 0 LAST_SIGNAL signal >>= λ s. Ok (line.Command t (command.Resume c (record { kind = how.kind; signal = s })))) is
     ∙ ap (λ r. r >>= λ s. Ok (line.Command t (command.Resume c (record { kind = how.kind; signal = s })))) handed
 
 exited_said : (tid number : List ℕ) (t n : ℕ) → id_of tid ≡ Ok t → number_between 0 255 number ≡ Ok n → exit_line tid (codes "exited") number ≡ Ok (line.Command t (command.Exit (death.Exited n)))
@@ -122,9 +125,9 @@ exited_said tid number t n id is =
     ap (λ r. r >>= λ t. (number_between 0 255 number >>= λ n. Ok (death.Exited n)) >>= λ d. Ok (line.Command t (command.Exit d))) id
     ∙ ap (λ r. (r >>= λ n. Ok (death.Exited n)) >>= λ d. Ok (line.Command t (command.Exit d))) is
 
-killed_said : (tid number : List ℕ) (t n : ℕ) → id_of tid ≡ Ok t → number_between 1 64 number ≡ Ok n → exit_line tid (codes "killed") number ≡ Ok (line.Command t (command.Exit (death.Signaled n false)))
+killed_said : (tid number : List ℕ) (t n : ℕ) → id_of tid ≡ Ok t → number_between 1 LAST_SIGNAL number ≡ Ok n → exit_line tid (codes "killed") number ≡ Ok (line.Command t (command.Exit (death.Signaled n false)))
 killed_said tid number t n id is =
-    ap (λ r. r >>= λ t. (number_between 1 64 number >>= λ n. Ok (death.Signaled n false)) >>= λ d. Ok (line.Command t (command.Exit d))) id
+    ap (λ r. r >>= λ t. (number_between 1 LAST_SIGNAL number >>= λ n. Ok (death.Signaled n false)) >>= λ d. Ok (line.Command t (command.Exit d))) id
     ∙ ap (λ r. (r >>= λ n. Ok (death.Signaled n false)) >>= λ d. Ok (line.Command t (command.Exit d))) is
 
 state_said : (tid : List ℕ) (t : ℕ) → id_of tid ≡ Ok t → state_line tid ≡ Ok (line.Command t command.State)
@@ -158,16 +161,16 @@ command_read tid (command.Publish (stop.Clone n)) id range spelled =
 command_read tid (command.Publish (stop.Exec n)) id range spelled =
     numbered_said (decimal tid) (codes "exec") (decimal n) numbered.Exec tid (stop.Exec n) (id_read tid id) refl (id_stop (λ n. stop.Exec n) n spelled)
 command_read tid (command.Publish (stop.Signal n)) id range spelled =
-    numbered_said (decimal tid) (codes "signal") (decimal n) numbered.Signal tid (stop.Signal n) (id_read tid id) refl (range_stop (λ n. stop.Signal n) 1 64 n range.0 range.1 (lit< tt))
+    numbered_said (decimal tid) (codes "signal") (decimal n) numbered.Signal tid (stop.Signal n) (id_read tid id) refl (range_stop (λ n. stop.Signal n) 1 LAST_SIGNAL n range.0 range.1 (lit< tt))
 command_read tid (command.Claim c) id range spelled =
     claim_said (decimal tid) (decimal c) tid c (id_read tid id) (tracer_read c spelled)
 command_read tid (command.Resume c how) id range spelled =
     resume_said (decimal tid) (decimal c) (kind_word how.kind) (decimal how.signal) tid c how (id_read tid id) (tracer_read c spelled) (kind_read how.kind)
-    (decimal_between 0 64 how.signal (omega arith) range (lit< tt))
+    (decimal_between 0 LAST_SIGNAL how.signal (omega arith) range (lit< tt))
 command_read tid (command.Exit (death.Exited n)) id range spelled =
     exited_said (decimal tid) (decimal n) tid n (id_read tid id) (decimal_between 0 255 n (omega arith) (omega arith) (lit< tt))
 command_read tid (command.Exit (death.Signaled n core)) id range spelled =
-    killed_said (decimal tid) (decimal n) tid n (id_read tid id) (decimal_between 1 64 n range.0 range.1 (lit< tt))
+    killed_said (decimal tid) (decimal n) tid n (id_read tid id) (decimal_between 1 LAST_SIGNAL n range.0 range.1 (lit< tt))
     ∙ ap (λ b. Ok (line.Command tid (command.Exit (death.Signaled n b)))) (sym spelled)
 command_read tid command.State id range spelled = state_said (decimal tid) tid (id_read tid id)
 

@@ -10,16 +10,17 @@ use Rattle.stop_history.proofs.Rosters.{both_none, few_rows, row_of-tid, tid_in_
 use Rattle.tracer_cli.specs.declared.order.Order.{Order}
 use Rattle.tracer_cli.specs.declared.grammar.Line.{Line}
 use Rattle.tracer_cli.specs.declared.grammar.Line.TheVariants as line
-use Rattle.tracer_cli.specs.Grammar.{◌>>=◌, line_of}
-use Rattle.tracer_cli.specs.Lines.{lines_of}
-use Rattle.tracer_cli.specs.File.{Content, content_after, content_of, has_begun, line_added, line_read, most_bytes, order_added, row_added, with_cause}
+use Rattle.text_lines.specs.Ranges.{◌>>=◌}
+use Rattle.tracer_cli.specs.Grammar.{line_of}
+use Rattle.text_lines.specs.Lines.{lines_of}
+use Rattle.tracer_cli.specs.File.{ReplayContent, content_after, content_of, has_begun, line_added, line_read, most_bytes, order_added, row_added, with_cause}
 use Rattle.tracer_cli.specs.Spelling.{IsContent, IsOrderOf, line_text, order_words, orders_text, row_words, rows_text, spelling}
 use Rattle.tracer_cli.proofs.LinesBack.{command_are_words, command_line_read, ends_id, row_are_words, row_line_read, row_ranges}
 use Rattle.tracer_cli.proofs.LinesRead.{all_read, goes_on}
 use Rattle.tracer_cli.proofs.Spelled.{AreWords, line_ended, words_in_line, words_joined}
 
 -- a spelled line is the first line, and its words are read
-first_line : (n : ℕ) (so_far new : Content) (words : List (List ℕ)) (said : Line) (rest : List ℕ) → AreWords words
+first_line : (n : ℕ) (so_far new : ReplayContent) (words : List (List ℕ)) (said : Line) (rest : List ℕ) → AreWords words
     → line_of (has_begun so_far) words ≡ Ok said → line_added so_far said ≡ Ok new
     → content_after n so_far (lines_of (line_text words ++ rest)) ≡ content_after (n + 1) new (lines_of rest)
 first_line n so_far new words said rest are says added =
@@ -29,10 +30,10 @@ first_line n so_far new words said rest are says added =
     ap (λ ws. with_cause (line_of (has_begun so_far) ws) >>= line_added so_far) (words_joined words are) ∙ ap (λ r. with_cause r >>= line_added so_far) says ∙ added in
     ap (content_after n so_far) cut ∙ goes_on n so_far new (join_with_byte 32 words) (lines_of rest) read
 
-abbrev only_rows : List Row → Content
+abbrev only_rows : List Row → ReplayContent
 only_rows rows = record { rows = rows; orders = [] }
 
-abbrev with_orders : List Row → List Order → Content
+abbrev with_orders : List Row → List Order → ReplayContent
 with_orders rows orders = record { rows = rows; orders = orders }
 
 row_takes : (before : List Row) (row : Row) → length before < MOST_ROWS → fault_after before row ≡ None → line_added (only_rows before) (line.Row row) ≡ Ok (only_rows (before ++ row ∷ []))
@@ -40,7 +41,7 @@ row_takes before row room fits =
     ap (row_added (only_rows before) row) fits ∙ rw (lt-ltb (length before) MOST_ROWS room)
 
 -- rows are read behind those before them
-rows_read : (before rows : List Row) (rest : List ℕ) (all : Content) → first_fault before rows ≡ None → length before + length rows ≤ MOST_ROWS
+rows_read : (before rows : List Row) (rest : List ℕ) (all : ReplayContent) → first_fault before rows ≡ None → length before + length rows ≤ most_rows
     → ((n : ℕ) → content_after n (only_rows (before ++ rows)) (lines_of rest) ≡ Ok all)
     → (n : ℕ) → content_after n (only_rows before) (lines_of (rows_text rows ++ rest)) ≡ Ok all
 rows_read before [] rest all fine few then n = ap (λ rows. content_after n (only_rows rows) (lines_of rest)) (sym (append-nil before)) ∙ then n
@@ -77,7 +78,7 @@ no_fault true fault many h = h
 no_fault false fault many h = cc
 
 -- what is spelled is read
-pub read_back : (content : Content) → IsContent content → content_of (spelling content) ≡ Ok content
+pub read_back : (content : ReplayContent) → IsContent content → content_of (spelling content) ≡ Ok content
 read_back content is =
     let small : length (spelling content) ≤ most_bytes = is.size in
     let few : length content.rows ≤ MOST_ROWS = few_rows content.rows is.roster in

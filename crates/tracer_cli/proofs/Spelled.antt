@@ -4,8 +4,8 @@ use Rattle.std.proofs.lemmas.Bool.{and_parts}
 use Rattle.std.proofs.lemmas.List.Elements.{All-nil, All-cons, All-append}
 use Rattle.std.proofs.lemmas.List.Splits.{slice_split_at, slice_split_none, length-slice_split}
 use Rattle.std.specs.List.{All, join_with_byte, slice_split}
-use Rattle.tracer_cli.specs.Lines.{has_letters, lines_of, without_empty_end, words_of}
-use Rattle.tracer_cli.proofs.Cuts.{keeps_first}
+use Rattle.text_lines.specs.Lines.{has_letters, lines_of, without_empty_end, words_in}
+use Rattle.text_lines.proofs.Cuts.{keeps_first}
 
 -- above the line feed and the space
 abbrev pub all_above : List ℕ → Bool
@@ -46,7 +46,7 @@ words_in_line (word ∷ next ∷ words) h =
     (All-cons (λ b. eqb b 10 ≡ false) 32 (join_with_byte 32 (next ∷ words)) refl (words_in_line (next ∷ words) h.1))
 
 -- words joined by spaces are those words
-pub words_joined : (words : List (List ℕ)) → AreWords words → words_of (join_with_byte 32 words) ≡ words
+pub words_joined : (words : List (List ℕ)) → AreWords words → words_in (join_with_byte 32 words) ≡ words
 words_joined [] h = refl
 words_joined (word ∷ []) h =
     let parts = word_parts word h.0 in

@@ -5,7 +5,7 @@ use Rattle.std.specs.declared.io.ErrorKind.TheVariants.{OutOfMemory}
 use Rattle.tracer_cli.specs.declared.cause.Cause.{Cause}
 use Rattle.tracer_cli.specs.declared.cause.Cause.TheVariants as cause
 use Rattle.tracer_cli.specs.declared.cause.CaseError.{CaseError}
-use Rattle.tracer_cli.specs.CaseError.{refusal_text}
+use Rattle.tracer_cli.specs.CaseError.{case_error_text}
 use Rattle.tracer_cli.specs.declared.failure.Failure.{Failure}
 use Rattle.tracer_cli.specs.declared.failure.Failure.TheVariants.{Refused, Usage, NoText, NoMemory, CannotRead, CannotWrite}
 
@@ -19,7 +19,7 @@ failure_status CannotWrite = 3
 
 -- messages end with a line feed
 abbrev pub failure_text : Failure → List ℕ
-failure_text (Refused error) = codes "tracer: " ++ (refusal_text error ++ codes "\n")
+failure_text (Refused error) = codes "tracer: " ++ (case_error_text error ++ codes "\n")
 failure_text (Usage text) = string_bytes text
 failure_text NoText = codes "tracer: an argument is no text\n"
 failure_text NoMemory = codes "tracer: no memory\n"

@@ -15,7 +15,7 @@ use Rattle.tracer_cli.specs.declared.command.Command.{Command}
 use Rattle.tracer_cli.specs.declared.command.Command.TheVariants as command
 use Rattle.tracer_cli.specs.declared.order.Order.{Order}
 use Rattle.tracer_cli.specs.Command.{IsCommand}
-use Rattle.tracer_cli.specs.File.{Content, most_bytes}
+use Rattle.tracer_cli.specs.File.{ReplayContent, most_bytes}
 
 -- ---- words
 
@@ -66,7 +66,7 @@ abbrev pub orders_text : List Row → List Order → List ℕ
 orders_text rows [] = []
 orders_text rows (order ∷ orders) = line_text (order_words rows order) ++ orders_text rows orders
 
-abbrev pub spelling : Content → List ℕ
+abbrev pub spelling : ReplayContent → List ℕ
 spelling content = rows_text content.rows ++ orders_text content.rows content.orders
 
 -- ---- what can be spelled
@@ -101,7 +101,7 @@ pub record IsOrderOf (rows : List Row) (order : Order) : Type 0 where
   pub spelled : IsSpelled order.command
 
 -- what a file can say
-pub record IsContent (content : Content) : Type 0 where
+pub record IsContent (content : ReplayContent) : Type 0 where
   pub roster : IsRoster content.rows
   pub orders : All (IsOrderOf content.rows) content.orders
   pub size : length (spelling content) ≤ most_bytes

@@ -4,17 +4,17 @@ ghost use Rattle.std.specs.Prelude.{◌≡◌, ◌<◌, ◌^◌, [], All, IfErr,
 ghost use Rattle.stop_history.specs.Roster.{IsRoster};
 ghost use Rattle.tracer_cli.specs.Command.{IsOrder};
 ghost use Rattle.tracer_cli.specs.File.{Refuses};
-ghost use Rattle.tracer_cli.specs.Lines.{lines_of};
+ghost use Rattle.text_lines.specs.Lines.{lines_of};
 ghost use Rattle.tracer_cli.specs.Replay.{replay_of};
 ghost use Rattle.tracer_cli.specs.Replies.{replies};
 
 use crate::cause::{CaseError, Cause};
-use crate::lines::cut_line;
 use crate::order::Order;
 use crate::reading::read;
 use crate::replies::write_replies;
 use std::alloc::Allocator;
 use stop_board::{NoMemory, Roster, Row, TRACERS, World};
+use text_lines::cut_line;
 
 /// The longest reply is that of a leader's exit which a row of seven digits holds back.
 const LONGEST: usize = b"refused GroupAlive 4194303\n".len();

@@ -2,9 +2,9 @@
 
 ghost use Rattle.std.specs.Prelude.{◌≡◌, ◌++◌, ◌≤◌, ◌∷◌, [], length, All, OnOk, codes, decimal, string_bytes};
 ghost use Rattle.tracer_cli.specs.Command.{IsOrder};
-ghost use Rattle.tracer_cli.specs.Replies.{done_text, got_text, history_with, published_text, refusal_text, replies, reply_text, state_text};
-ghost use Rattle.stop_history.specs.Roster.{row_at};
-ghost use Rattle.stop_history.specs.declared.limits.TheConstants.{MOST_ROWS, TRACERS};
+ghost use Rattle.tracer_cli.specs.Replies.{done_text, got_text, history_after_command, published_text, refusal_text, replies, reply_text, state_text};
+ghost use Rattle.stop_board.specs.Roster.{most_rows, row_at};
+ghost use Rattle.stop_board.specs.Sequential.{most_tracers};
 ghost use Rattle.stop_board.specs.World.{Moment, StandsAt};
 ghost use Rattle.stop_board.specs.OneThread.{HasHistory};
 
@@ -134,7 +134,7 @@ fn reply<A: Allocator, B: Allocator>(
     requires tracers { world.old.tracers ≡ TRACERS }
     ensures text { (m : Moment) → StandsAt world.old m →
         OnOk result (string_bytes out.new ≡ string_bytes out.old ++ (reply_text rows.now m.history order.row order.command ++ 10 ∷ [])) }
-    ensures stands { (m : Moment) → StandsAt world.old m → HasHistory world.new (history_with rows.now m.history order.row order.command) }
+    ensures stands { (m : Moment) → StandsAt world.old m → HasHistory world.new (history_after_command rows.now m.history order.row order.command) }
     ensures rows { world.new.rows ≡ world.old.rows }
     ensures tracers { world.new.tracers ≡ world.old.tracers }
 {

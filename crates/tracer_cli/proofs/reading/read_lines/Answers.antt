@@ -1,13 +1,13 @@
 use Rattle.std.proofs.Common.{◌∙◌, List, ℕ, ap, arith, length, sym}
-use Rattle.tracer_cli.specs.File.{Content, content_after}
-use Rattle.tracer_cli.specs.Lines.{lines_of}
+use Rattle.tracer_cli.specs.File.{ReplayContent, content_after}
+use Rattle.text_lines.specs.Lines.{lines_of}
 use Rattle.tracer_cli.proofs.LinesRead.{ends, ends_here, goes_on}
 use Rattle.tracer_cli.proofs.reading.read_lines.Goals as goal
 
 pub returns-in-Err-clause-err : goal.returns-in-Err-clause-err
 returns-in-Err-clause-err g c =
-    let so_far : Content = record { rows = c.loop-rest.rows.items; orders = c.loop-rest.orders.items } in
-    let new : Content = record { rows = c.take_line.new.rows.items; orders = c.take_line.new.orders.items } in
+    let so_far : ReplayContent = record { rows = c.loop-rest.rows.items; orders = c.loop-rest.orders.items } in
+    let new : ReplayContent = record { rows = c.take_line.new.rows.items; orders = c.take_line.new.orders.items } in
     let counted = ap (λ (ls : List (List ℕ)). length ls) c.cut_line.ensures.lines in
     rw (← c.loop-rest.invariant.read, c.cut_line.ensures.lines) (
     ends_here c.args.text.now c.loop-rest.number so_far new c.cut_line.result.0.now (lines_of c.cut_line.result.1.now) c.in-Err.cause
@@ -15,8 +15,8 @@ returns-in-Err-clause-err g c =
 
 pub loop-rest-preserved : goal.loop-rest-preserved
 loop-rest-preserved g c =
-    let so_far : Content = record { rows = c.loop-rest.rows.items; orders = c.loop-rest.orders.items } in
-    let new : Content = record { rows = c.take_line.new.rows.items; orders = c.take_line.new.orders.items } in
+    let so_far : ReplayContent = record { rows = c.loop-rest.rows.items; orders = c.loop-rest.orders.items } in
+    let new : ReplayContent = record { rows = c.take_line.new.rows.items; orders = c.take_line.new.orders.items } in
     let counted = ap (λ (ls : List (List ℕ)). length ls) c.cut_line.ensures.lines in
     record {
       room = omega (arith, c.cut_line.ensures.shorter, c.loop-rest.invariant.room);

@@ -1,12 +1,11 @@
 -- The first line of a text, and the first word of a line, cut off.
-use Rattle.std.proofs.Common.{refl, ◌≡◌, ◌≢◌, ◌+◌, ◌-◌, ◌<◌, ◌≤◌, ◌∷◌, [], ℕ, Bool, List, Some, None, length, get_or, take, drop, filter, position, arith, eqb, lt-ltb, le-ltb, eqb-true, ap, sym, ◌∙◌, inl, inr, take_all, length-take, length-drop, min, append-nil, ◌++◌, ◌⊎◌}
-use Rattle.std.proofs.lemmas.List.{take-append-le}
+use Rattle.std.proofs.Common.{refl, ◌≡◌, ◌≢◌, ◌+◌, ◌-◌, ◌<◌, ◌≤◌, ◌∷◌, [], ℕ, Bool, List, Some, None, length, get_or, take, drop, filter, position, arith, eqb, lt-ltb, le-ltb, eqb-true, ap, sym, ◌∙◌, inl, inr, take_all, length-take, length-drop, min}
 use Rattle.std.specs.List.{slice_split, position_or_len}
 use Rattle.std.proofs.lemmas.Bool.{cases_lt, cases_order}
 use Rattle.std.proofs.lemmas.List.Splits.{slice_split_first, slice_split_none, length-slice_split}
 use Rattle.std.proofs.lemmas.List.Sums.{fails_before_first}
 use Rattle.std.proofs.lemmas.List.Quantifiers.{position-Some}
-use Rattle.tracer_cli.specs.Lines.{has_letters, lines_of, without_empty_end, words_of}
+use Rattle.text_lines.specs.Lines.{has_letters, lines_of, without_empty_end, words_in}
 
 -- the first place, where there is one
 place : (p : ℕ → Bool) (xs : List ℕ) (i : ℕ) → position p xs ≡ Some i → (position_or_len p xs ≡ i) × (position_or_len p xs < length xs)
@@ -49,7 +48,7 @@ pub line_last : (text : List ℕ) → position (λ b. eqb b 10) text ≡ None �
 line_last [] h some = absurd (omega arith)
 line_last (b ∷ bs) h some = ap without_empty_end (split_nowhere (λ b. eqb b 10) (b ∷ bs) h)
 
-pub word_cut : (line : List ℕ) (i : ℕ) → position (λ b. eqb b 32) line ≡ Some i → get_or line 0 0 ≢ 32 → words_of line ≡ take i line ∷ words_of (drop (i + 1) line)
+pub word_cut : (line : List ℕ) (i : ℕ) → position (λ b. eqb b 32) line ≡ Some i → get_or line 0 0 ≢ 32 → words_in line ≡ take i line ∷ words_in (drop (i + 1) line)
 word_cut line i h start =
     let at = position-Some (λ b. eqb b 32) line i 0 h in
     let some : 0 < i = elim (cases_order i 0) [
@@ -60,7 +59,7 @@ word_cut line i h start =
     ap (filter has_letters) (split_here (λ b. eqb b 32) line i h)
     ∙ rw (lt-ltb 0 (length (take i line)) (let size : length (take i line) ≡ min i (length line) = length-take i line in omega arith))
 
-pub word_last : (line : List ℕ) → position (λ b. eqb b 32) line ≡ None → 0 < length line → words_of line ≡ line ∷ []
+pub word_last : (line : List ℕ) → position (λ b. eqb b 32) line ≡ None → 0 < length line → words_in line ≡ line ∷ []
 word_last [] h some = absurd (omega arith)
 word_last (b ∷ bs) h some = ap (filter has_letters) (split_nowhere (λ b. eqb b 32) (b ∷ bs) h) ∙ rw (lt-ltb 0 (length (b ∷ bs)) some)
 
@@ -71,9 +70,3 @@ whole_rest k xs = take_all (length xs - k) (drop k xs) (let size = length-drop k
 pub ruleset cut_steps = (line_cut, line_last, whole_rest)
 
 pub ruleset word_steps = (word_cut, word_last, whole_rest)
-
--- six words are read, or all
-pub six_or_all : (words rest line : List (List ℕ)) → length words ≤ 6 → words ++ rest ≡ line → (rest ≡ []) ⊎ (length words ≡ 6) → words ≡ take 6 line
-six_or_all words rest line few read (inl over) = sym (ap (take 6) (sym read ∙ ap (λ r. words ++ r) over ∙ append-nil words) ∙ take_all 6 words few)
-six_or_all words rest line few read (inr six) =
-    sym (ap (take 6) (sym read) ∙ take-append-le 6 words rest (omega arith) ∙ take_all 6 words few)

@@ -1,8 +1,11 @@
-//! Numbers as words.
+//! Numbers as words: without a sign and with one.
 
-ghost use Rattle.std.specs.Prelude.{◌≡◌, ◌+◌, ◌*◌, ◌≤◌, nat_lt, if◌then◌else◌};
+ghost use Rattle.std.specs.Prelude.{◌≡◌, ◌+◌, ◌*◌, ◌≤◌, nat_lt, if◌then◌else◌, IfOk};
 ghost use Rattle.std.specs.Char.{digit_value};
-ghost use Rattle.tracer_cli.specs.Numbers.{number_of, numeral, within_u64};
+ghost use Rattle.text_lines.specs.Numbers.{integer_of, negated_integer, number_of, numeral, plain_integer, within_u64};
+ghost use Rattle.text_lines.specs.Ranges.{number_between};
+
+use crate::fault::LineFault;
 
 /// The number that a word writes: decimal digits, or `0x` and hexadecimal digits in either case, below 2^64.
 pub fn number(word: &[u8]) -> Option<u64>
@@ -11,6 +14,41 @@ pub fn number(word: &[u8]) -> Option<u64>
     match word {
         [b'0', b'x', digits @ ..] => number_in(16, digits),
         _ => number_in(10, word),
+    }
+}
+
+/// The number that a word writes, with its sign: decimal digits, or `-` and decimal digits, from -2^63 to 2^63 - 1. It is
+/// never hexadecimal, and has no `+`.
+pub fn integer(word: &[u8]) -> Option<i64>
+    ensures { result ≡ integer_of word.now }
+{
+    match word {
+        [b'-', digits @ ..] => negated(number_in(10, digits)?),
+        _ => plain(number_in(10, word)?),
+    }
+}
+
+fn plain(n: u64) -> Option<i64>
+    ensures { result ≡ plain_integer (Some n) }
+{
+    0i64.checked_add_unsigned(n)
+}
+
+fn negated(n: u64) -> Option<i64>
+    ensures { result ≡ negated_integer (Some n) }
+{
+    0i64.checked_sub_unsigned(n)
+}
+
+/// The number that a word writes, if it is from `low` to `high`. BadNumber where the word is not a number, or the
+/// number is out of range.
+pub fn number_between(low: u64, high: u64, word: &[u8]) -> Result<u64, LineFault>
+    ensures number { result ≡ number_between low high word.now }
+    ensures range { IfOk result (λ n. (low ≤ n) × (n ≤ high)) }
+{
+    match number(word) {
+        Some(n) if low <= n && n <= high => Ok(n),
+        _ => Err(LineFault::BadNumber),
     }
 }
 

@@ -3,7 +3,7 @@ use Rattle.std.proofs.Common.{refl, ◌≡◌, ◌+◌, ◌*◌, ◌^◌, ◌<�
 use Rattle.std.proofs.lemmas.Bool.{cases_lt}
 use Rattle.std.proofs.lemmas.Option.{cond_some}
 use Rattle.std.specs.Char.{digit_value}
-use Rattle.tracer_cli.specs.Numbers.{digits_after, numeral, within_u64}
+use Rattle.text_lines.specs.Numbers.{digits_after, numeral, within_u64}
 
 abbrev AtLeast : ℕ → Option ℕ → Type 0
 AtLeast n None = Unit {0}

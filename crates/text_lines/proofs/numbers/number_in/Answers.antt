@@ -1,6 +1,6 @@
 use Rattle.std.proofs.Common.{◌∙◌, sym}
-use Rattle.tracer_cli.proofs.Digits.{too_large_here}
-use Rattle.tracer_cli.proofs.numbers.number_in.Goals as goal
+use Rattle.text_lines.proofs.Digits.{too_large_here}
+use Rattle.text_lines.proofs.numbers.number_in.Goals as goal
 
 pub returns-in_err-n : goal.returns-in_err-n
 returns-in_err-n c =

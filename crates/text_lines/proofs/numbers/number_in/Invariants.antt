@@ -1,6 +1,6 @@
 use Rattle.std.proofs.Common.{◌≡◌, ◌<◌, ◌^◌, drop}
-use Rattle.tracer_cli.specs.Numbers.{digits_after, numeral, within_u64}
-use Rattle.tracer_cli.proofs.numbers.number_in.Given as goal
+use Rattle.text_lines.specs.Numbers.{digits_after, numeral, within_u64}
+use Rattle.text_lines.proofs.numbers.number_in.Given as goal
 
 -- the digits left, behind the number so far, write what all digits write
 abbrev pub invariant-loop-c : goal.invariant-loop-c

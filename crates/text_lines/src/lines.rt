@@ -1,12 +1,10 @@
 //! The lines of a file and the words of a line, as slices of it.
 
-ghost use Rattle.std.specs.Prelude.{◌≡◌, ◌≢◌, ◌==◌, ◌<◌, ◌≤◌, ◌∷◌, [], length, map, position, slice_index, MatchOption, take};
-ghost use Rattle.tracer_cli.specs.Lines.{lines_of, words_of};
+ghost use Rattle.std.specs.Prelude.{◌≡◌, ◌≢◌, ◌==◌, ◌<◌, ◌≤◌, ◌∷◌, [], length, map, position, slice_index, MatchOption, drop, take};
+ghost use Rattle.text_lines.specs.Lines.{lines_of, words_in};
 
-/// How many words of a line are looked at: one more than any line may have.
-pub const MOST_WORDS: usize = 6;
-
-/// The first line of a text that is not empty, and what follows it.
+/// The first line of a text that is not empty, without its line feed, and what follows it. The last line may lack the
+/// line feed.
 #[tactic(auto, using(crate::proofs::Cuts::cut_steps))]
 pub fn cut_line(text: &[u8]) -> (&[u8], &[u8])
     requires { 0 < length text.now }
@@ -26,15 +24,17 @@ fn line_feed(text: &[u8]) -> Option<usize>
     text.iter().position(|b| *b == b'\n')
 }
 
-/// The first words of a line, at most six of them, and how many there are.
-pub fn first_words(line: &[u8]) -> ([&[u8]; MOST_WORDS], usize)
-    ensures few { result.1 ≤ 6 }
-    ensures words { map (λ w. w.now) (take result.1 result.0) ≡ take 6 (words_of line.now) }
+/// Puts the first words of a line into `words`, as many as there is room for, and returns how many there are; the other
+/// places stay as they were. To tell a line of too many words from one that has as many as it may, a format has room for
+/// one more than it allows.
+pub fn first_words<'a>(line: &'a [u8], words: &mut [&'a [u8]]) -> usize
+    ensures few { result ≤ length words.old }
+    ensures words { map (λ w. w.now) (take result words.new) ≡ take (length words.old) (words_in line.now) }
+    ensures others { drop result words.new ≡ drop result words.old }
 {
-    let mut words: [&[u8]; MOST_WORDS] = [&[]; MOST_WORDS];
     let mut count = 0;
     let mut rest = line;
-    while count < MOST_WORDS {
+    while count < words.len() {
         let Some((word, after)) = cut_word(rest) else {
             break;
         };
@@ -42,13 +42,13 @@ pub fn first_words(line: &[u8]) -> ([&[u8]; MOST_WORDS], usize)
         count += 1;
         rest = after;
     }
-    (words, count)
+    count
 }
 
 /// The first word of a line, and what follows it; None where there is none.
 #[tactic(auto, using(crate::proofs::Cuts::word_steps))]
-pub fn cut_word(line: &[u8]) -> Option<(&[u8], &[u8])>
-    ensures { MatchOption result (words_of line.now ≡ []) (λ cut. words_of line.now ≡ cut.0.now ∷ words_of cut.1.now) }
+fn cut_word(line: &[u8]) -> Option<(&[u8], &[u8])>
+    ensures { MatchOption result (words_in line.now ≡ []) (λ cut. words_in line.now ≡ cut.0.now ∷ words_in cut.1.now) }
 {
     let line = without_spaces(line);
     if line.is_empty() {
@@ -62,7 +62,7 @@ pub fn cut_word(line: &[u8]) -> Option<(&[u8], &[u8])>
 
 /// A line without the spaces at its front.
 fn without_spaces(line: &[u8]) -> &[u8]
-    ensures words { words_of result.now ≡ words_of line.now }
+    ensures words { words_in result.now ≡ words_in line.now }
     ensures word { slice_index result.now 0 ≢ 32 }
 {
     let mut rest = line;

@@ -41,7 +41,7 @@ row_takes before row room fits =
     ap (row_added (only_rows before) row) fits ∙ rw (lt-ltb (length before) MOST_ROWS room)
 
 -- rows are read behind those before them
-rows_read : (before rows : List Row) (rest : List ℕ) (all : ReplayContent) → first_fault before rows ≡ None → length before + length rows ≤ most_rows
+rows_read : (before rows : List Row) (rest : List ℕ) (all : ReplayContent) → first_fault before rows ≡ None → length before + length rows ≤ MOST_ROWS
     → ((n : ℕ) → content_after n (only_rows (before ++ rows)) (lines_of rest) ≡ Ok all)
     → (n : ℕ) → content_after n (only_rows before) (lines_of (rows_text rows ++ rest)) ≡ Ok all
 rows_read before [] rest all fine few then n = ap (λ rows. content_after n (only_rows rows) (lines_of rest)) (sym (append-nil before)) ∙ then n

@@ -7,8 +7,7 @@ use Rattle.trace_record.specs.declared.resume.Kind.{Kind}
 use Rattle.trace_record.specs.declared.resume.Kind.TheVariants as kind
 use Rattle.trace_record.specs.declared.death.Death.{Death}
 use Rattle.trace_record.specs.declared.death.Death.TheVariants as death
-use Rattle.stop_board.specs.Roster.{last_id}
-use Rattle.stop_board.specs.Sequential.{most_tracers}
+use Rattle.stop_history.specs.declared.limits.TheConstants.{LAST_ID, TRACERS}
 use Rattle.text_lines.specs.declared.fault.LineFault.{LineFault}
 use Rattle.text_lines.specs.declared.fault.LineFault.TheVariants.{UnknownWord}
 use Rattle.text_lines.specs.Keywords.{value_beside}

@@ -9,7 +9,7 @@ ghost use Rattle.tracer_cli.specs.Grammar.{publish_line, publish_numbered, publi
 ghost use Rattle.tracer_cli.specs.Grammar.{state_line, stop_of, tracer_of};
 
 use crate::command::Command;
-use stop_board::{Row, TRACERS};
+use stop_board::{LAST_ID, Row, TRACERS};
 use text_lines::{LineFault, first_words, keyword, number_between};
 use trace_options::LAST_SIGNAL;
 use trace_record::{Death, Kind, Resume, Stop};

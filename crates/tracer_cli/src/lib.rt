@@ -8,7 +8,6 @@ mod entry;
 mod failure;
 mod grammar;
 mod laws;
-mod one_thread;
 mod order;
 mod reading;
 mod replay;

@@ -6,14 +6,15 @@ ghost use Rattle.tracer_cli.specs.Cause.{cause_of};
 ghost use Rattle.tracer_cli.specs.Command.{IsCommand, IsOrder};
 ghost use Rattle.tracer_cli.specs.File.{Refuses, TakesLine, content_after, content_of, line_read, most_bytes, nothing, order_added, row_added};
 ghost use Rattle.text_lines.specs.Lines.{lines_of};
-ghost use Rattle.stop_board.specs.Roster.{IsRoster, fault_after, first_fault, most_rows, row_of};
+ghost use Rattle.stop_history.specs.Roster.{IsRoster, fault_after, first_fault, row_of};
+ghost use Rattle.stop_history.specs.declared.limits.TheConstants.{MOST_ROWS};
 
 use crate::cause::{CaseError, Cause};
 use crate::command::Command;
 use crate::grammar::{Line, read_line};
 use crate::order::Order;
 use std::alloc::Allocator;
-use stop_board::{Roster, RosterError, Row, fault_after, place_of};
+use stop_board::{MOST_ROWS, RosterError, Row, fault_after, place_of};
 use text_lines::cut_line;
 
 /// How many bytes a file has at most.

@@ -3,8 +3,8 @@
 ghost use Rattle.std.specs.Prelude.{◌≡◌, ◌++◌, ◌≤◌, ◌∷◌, [], length, All, OnOk, codes, decimal, string_bytes};
 ghost use Rattle.tracer_cli.specs.Command.{IsOrder};
 ghost use Rattle.tracer_cli.specs.Replies.{done_text, got_text, history_after_command, published_text, refusal_text, replies, reply_text, state_text};
-ghost use Rattle.stop_board.specs.Roster.{most_rows, row_at};
-ghost use Rattle.stop_board.specs.Sequential.{most_tracers};
+ghost use Rattle.stop_history.specs.Roster.{row_at};
+ghost use Rattle.stop_history.specs.declared.limits.TheConstants.{MOST_ROWS, TRACERS};
 ghost use Rattle.stop_board.specs.World.{Moment, StandsAt};
 ghost use Rattle.stop_board.specs.OneThread.{HasHistory};
 

@@ -1,7 +1,7 @@
 use Rattle.std.proofs.Common.{◌∙◌, ◌+◌, ap, codes, sym}
-use Rattle.stop_board.specs.Event as event
-use Rattle.stop_board.specs.Sequential.{claim_answer, exit_answer, goes_on, publish_answer, resume_answer}
-use Rattle.stop_board.specs.State.{last_number, state_after}
+use Rattle.stop_history.specs.Event as event
+use Rattle.stop_history.specs.Sequential.{claim_answer, exit_answer, goes_on, publish_answer, resume_answer}
+use Rattle.stop_history.specs.State.{last_number, state_after}
 use Rattle.tracer_cli.specs.Replies.{done_text, got_text, history_after_command, published_text, reply_text, state_text}
 use Rattle.tracer_cli.proofs.Written.{has_history, told}
 use Rattle.tracer_cli.proofs.replies.reply.Goals as goal

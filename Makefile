@@ -42,7 +42,7 @@ check: kit
 	@$(MAKE) --no-print-directory examples
 
 test: kit
-	@echo "test: running the tests of each crate, without the proofs (five minutes)"
+	@echo "test: running the tests of each crate, without the proofs (seven minutes)"
 	@for crate in $(CRATES); do \
 		grep -rqs '#\[test\]' crates/$$crate/src || continue; \
 		echo "test: $$crate"; (cd crates/$$crate && $(RT) try --test) || exit 1; \

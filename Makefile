@@ -1,12 +1,12 @@
 # Each target says what it does and how long it may take, on a machine of 4 processors.
 # `rt` is the command of the Rattle kit (README.md, "What it needs"); RT names another one.
 RT ?= rt
+KIT = rattle-kit-13b logic dac8208d650f15bf
+CRATES = $(notdir $(wildcard crates/*))
 RUSTC ?= rustc
 PYTHON ?= python3
 PREFIX ?= /usr/local
-KIT = rattle-kit-13b logic dac8208d650f15bf
 OUT = bench/out
-CRATES = $(notdir $(wildcard crates/*))
 
 .PHONY: all kit demo examples check test bench tools install clean
 
@@ -42,7 +42,7 @@ check: kit
 	@$(MAKE) --no-print-directory examples
 
 test: kit
-	@echo "test: running the tests of each crate, without the proofs (five minutes)"
+	@echo "test: running the tests of each crate, without the proofs (seven minutes)"
 	@for crate in $(CRATES); do \
 		grep -rqs '#\[test\]' crates/$$crate/src || continue; \
 		echo "test: $$crate"; (cd crates/$$crate && $(RT) try --test) || exit 1; \

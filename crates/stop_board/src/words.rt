@@ -183,6 +183,7 @@ pub(crate) fn publish_running(
     if word.number >= LAST_NUMBER {
         return Err(Refused::Full);
     }
+    // The publish happens here; a fork or a clone creates the child in the same change.
     words[at] = published(word, stop);
     Ok(word.number + 1)
 }
@@ -203,6 +204,7 @@ pub(crate) fn claim_at(
     }
     let got = waitable(state_of(rows, words, row))?;
     let at = row as usize;
+    // The claim happens here.
     words[at] = claimed(words[at], tracer as u8);
     Ok(got)
 }
@@ -238,6 +240,7 @@ pub(crate) fn resume_at(
     }
     held_by(tracer, state_of(rows, words, row))?;
     let at = row as usize;
+    // The resume happens here: the word keeps the restart.
     words[at] = restarted(words[at], how);
     Ok(())
 }
@@ -293,6 +296,7 @@ pub(crate) fn exit_running(
     if let Some(other) = holding_back(rows, words, at) {
         return Err(Refused::GroupAlive(other));
     }
+    // The exit happens here.
     words[at] = died(words[at], death);
     Ok(())
 }

@@ -1,4 +1,12 @@
 //! The interleaving model: the stop cells of all rows under any interleaving of atomic steps.
+//!
+//! 1. A tracee takes its row up, and then publishes or exits: two steps, between which others may act.
+//! 2. A tracer looks at a row, and claims it by comparing the word that it last saw with the word that is there: it gets
+//!    the row, or misses it because somebody has changed the word since.
+//! 3. The tracer that has claimed a row resumes it.
+//!
+//! A list of turns, each an actor and its action, is an interleaving. What the model does not have is memory and
+//! registers: those go with the records of the cells that threads share.
 
 ghost use Rattle.std.specs.Prelude.{◌≡◌, All, ◌+◌, ◌*◌, ◌<◌, ◌≤◌, ℕ, IfOk, OnErr, Option, length};
 ghost use Rattle.std.specs.Option.{ForSome};
@@ -24,7 +32,7 @@ use stop_history::{Actor, NoMemory, Refused, Roster, Row, State, Word};
 use tracee::tracee_step;
 use tracer::{row_seen, seen_place, tracer_step};
 
-/// The stop cells of all rows of a roster, changed by one atomic step of one actor at a time. It stands at a moment:
+/// The stop cells of all rows of a roster, changed by one atomic step of one actor at a time. It represents a moment:
 /// a legal history, the rows that are taken up, and the word that each tracer last saw in each row. Each step that is
 /// not refused goes on to the next moment.
 ///

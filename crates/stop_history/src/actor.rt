@@ -1,4 +1,5 @@
-//! Who acts on the cells.
+//! Who acts on the cells. A tracee moves its own row alone; a tracer moves any row that waits, and the rows that it has
+//! claimed.
 
 /// A tracee, by its row, or a tracer, by its number from 0.
 #[derive(Clone, Copy, Debug, PartialEq, Eq, Hash)]

@@ -1,17 +1,27 @@
-//! The phase of a row.
+//! The phase of a row: where it is in its life, and who changes its word next.
+//!
+//! | Phase | What it holds | Who changes it next |
+//! |---|---|---|
+//! | `Fresh` | nothing: no event yet | its tracee takes it up, once its parent has created it |
+//! | `Resumed` | the restart | its tracee takes it up |
+//! | `Active` | nothing | its tracee publishes a stop, or exits |
+//! | `Stopped` | the status of the stop | any tracer claims it |
+//! | `Claimed` | the tracer | that tracer resumes it |
+//! | `Dead` | the status of the death | any tracer claims it |
+//! | `Reaped` | nothing | nobody |
 
 use trace_record::Resume;
 
-/// Where a row stands in its life. Statuses are raw wait statuses.
+/// Where a row is in its life. Statuses are raw wait statuses (wait(2)).
 #[derive(Clone, Copy, Debug, PartialEq, Eq, Hash)]
 pub enum Phase {
-    /// No event yet: unborn, or running towards its first stop.
+    /// No event yet: the row is unborn, or runs to its first stop.
     Fresh,
-    /// A tracer resumed it so.
+    /// A tracer has resumed it with this restart.
     Resumed(Resume),
     /// Its tracee has taken it up and runs.
     Active,
-    /// It stands at a stop of this status (`WIFSTOPPED`).
+    /// It is stopped, with this status (`WIFSTOPPED`).
     Stopped { status: u32 },
     /// This tracer, 0 to 15, has claimed its stop.
     Claimed { tracer: u8 },

@@ -1,4 +1,8 @@
-//! The roster: the rows of all tracees.
+//! The roster: the rows of all tracees, fixed before any of them runs.
+//!
+//! A row has the ids of a Linux thread and its parent's. Each parent comes before its children, so that whoever goes
+//! through the rows in order has seen the parent of each. A roster is made of rows at once (`new`) or row by row
+//! (`push`), and the first fault is reported.
 
 ghost use Rattle.std.specs.Prelude.{◌≡◌, ◌<◌, ◌++◌, ◌∷◌, [], ℕ, length, IfOk, IsOkUnless, OnErr, OnOk, slice_get};
 

@@ -1,4 +1,7 @@
-//! The state of a row.
+//! The state of a row: what its history has come to, as a caller sees it.
+//!
+//! A row's word has a phase; the state says the same with the words of the other rows in view: a fresh row is unborn or
+//! running by its parent's births.
 
 /// What a row's history has come to. Numbers are those of the row's last stop, 0 before any; statuses are raw
 /// wait statuses.
@@ -10,7 +13,7 @@ pub enum State {
     Unborn,
     /// It runs.
     Running,
-    /// It stands at a stop that nobody has claimed: number and status.
+    /// It is at a stop that nobody has claimed: number and status.
     Stopped(u32, u32),
     /// A tracer has claimed its stop: number and tracer.
     Claimed(u32, u32),

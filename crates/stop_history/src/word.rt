@@ -1,4 +1,7 @@
-//! The word of a row: what its stop cell keeps of it.
+//! The word of a row: what its stop cell keeps of it, in 64 bits.
+//!
+//! Each event of a row is one change of its word (`steps`), and each change is one atomic step on a cell that threads
+//! share. What a reader sees in one load is therefore a whole state: phase, births and number belong together.
 
 mod layout;
 mod steps;

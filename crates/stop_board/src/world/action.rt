@@ -1,4 +1,5 @@
-//! What an actor asks of the cells in one atomic step, and the reply.
+//! What an actor asks of the cells in one atomic step, and the reply. Beside the refusals of a board there are two
+//! outcomes that only interleaving can cause: a row that its tracee has not taken up, and a claim that misses.
 
 use stop_history::{Refused, Word};
 use trace_record::{Death, Resume, Stop};

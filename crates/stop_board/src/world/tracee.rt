@@ -1,4 +1,5 @@
-//! The atomic steps of a tracee on the words of all rows.
+//! The atomic steps of a tracee on the words of all rows: it takes its row up, publishes and exits. Each changes the
+//! word of its own row alone, and only while the row is the tracee's to move.
 
 ghost use Rattle.std.specs.Prelude.{◌≡◌, ℕ, Result, length};
 ghost use Rattle.stop_board.specs.Action.{IsAction, TraceeReplies, restart_in, taken_by, tracee_change};
@@ -55,6 +56,7 @@ fn take_up_at(rows: &[Row], words: &mut [Word], row: u32) -> Result<Resume, Refu
     let at = row as usize;
     let word = words[at];
     let how = restart_in(word.phase)?;
+    // The restart is the tracee's now: no later step can take it up again.
     words[at] = taken_up(word);
     Ok(how)
 }

@@ -1,4 +1,5 @@
-//! The atomic steps of a tracer on the words of all rows.
+//! The atomic steps of a tracer on the words of all rows: it looks, claims and resumes. A claim compares the word that
+//! the tracer last saw with the word that is there, as a compare-exchange does, and misses where they differ.
 
 ghost use Rattle.std.specs.Prelude.{◌≡◌, ◌+◌, ◌*◌, ◌<◌, ◌≤◌, ℕ, length};
 ghost use Rattle.std.specs.Option.{ForSome};
@@ -65,6 +66,7 @@ fn claim_seen(rows: &[Row], words: &mut [Word], seen: &[Word], row: u32, tracer:
     let now = words[at];
     let reply = exchange(seen[seen_place(rows, tracer, row)], now);
     if let Reply::Got(_) = reply {
+        // The claim happens here: the word is the one that the tracer saw, so nobody has claimed it since.
         words[at] = claimed(now, tracer as u8);
     }
     reply

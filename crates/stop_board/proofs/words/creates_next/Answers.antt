@@ -1,3 +1,4 @@
+-- A row that creates its next child has room for one more.
 use Rattle.std.proofs.Common.{◌∙◌, ap, sym}
 use Rattle.stop_history.specs.History.{is_next_child}
 use Rattle.stop_history.proofs.Children.{next_is_few}

@@ -1,3 +1,4 @@
+-- The search for a row that holds a leader back: none so far does.
 use Rattle.std.proofs.Common.{◌≡◌, ◌-◌, length}
 use Rattle.std.specs.List.{find, range_with_len}
 use Rattle.stop_history.specs.History.{holds_back}

@@ -1,3 +1,4 @@
+-- The law is a lemma on plain lists.
 use Rattle.stop_history.proofs.AtomicSteps.{taken_other, taken_own}
 use Rattle.stop_history.proofs.laws.a_take_up_changes_its_row_alone.Goals as goal
 

@@ -1,3 +1,4 @@
+-- The law is a lemma on plain lists.
 use Rattle.stop_history.proofs.AtomicSteps.{other_word, own_word}
 use Rattle.stop_history.proofs.laws.an_event_changes_its_row_alone.Goals as goal
 

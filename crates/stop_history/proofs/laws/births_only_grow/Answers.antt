@@ -1,3 +1,4 @@
+-- The law is a lemma on plain lists.
 use Rattle.stop_history.proofs.Longer.{births_grow, born_stays, unborn_is_silent}
 use Rattle.stop_history.proofs.laws.births_only_grow.Goals as goal
 

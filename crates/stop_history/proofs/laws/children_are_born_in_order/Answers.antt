@@ -1,3 +1,4 @@
+-- The law is a lemma on plain lists.
 use Rattle.std.proofs.Common.{◌∙◌, ap}
 use Rattle.stop_history.specs.Roster.{row_at}
 use Rattle.stop_history.specs.State.{was_created}

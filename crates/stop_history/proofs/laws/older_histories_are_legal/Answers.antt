@@ -1,3 +1,4 @@
+-- The law is a lemma on plain lists.
 use Rattle.stop_history.proofs.Claims.{legal_end}
 use Rattle.stop_history.proofs.laws.older_histories_are_legal.Goals as goal
 

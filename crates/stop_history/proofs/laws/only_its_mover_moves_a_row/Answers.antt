@@ -1,3 +1,4 @@
+-- The law is a lemma on plain lists.
 use Rattle.stop_history.proofs.Longer.{mover, stays, untouched}
 use Rattle.stop_history.proofs.laws.only_its_mover_moves_a_row.Goals as goal
 

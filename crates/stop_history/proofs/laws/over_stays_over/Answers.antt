@@ -1,3 +1,4 @@
+-- The law is a lemma on plain lists.
 use Rattle.stop_history.proofs.Over.{over_is_gone, over_stays}
 use Rattle.stop_history.proofs.laws.over_stays_over.Goals as goal
 

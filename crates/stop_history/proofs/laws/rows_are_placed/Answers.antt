@@ -1,3 +1,4 @@
+-- The law is a lemma on plain lists.
 use Rattle.stop_history.proofs.Rosters.{placed}
 use Rattle.stop_history.proofs.laws.rows_are_placed.Goals as goal
 

@@ -1,3 +1,4 @@
+-- The registers so far are those of the bytes so far.
 use Rattle.std.proofs.Common.{◌≡◌, ◌*◌, ◌^◌, ◌<◌, length, take}
 use Rattle.std.specs.Prelude.{All}
 use Rattle.std.specs.Int.{w64, to_le_bytes}

@@ -1,3 +1,4 @@
+-- Six words are read from their places.
 use Rattle.trace_status.proofs.Layouts.{arguments_read}
 use Rattle.trace_status.proofs.syscall_info.args_at.Goals as goal
 

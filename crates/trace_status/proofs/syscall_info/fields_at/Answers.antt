@@ -1,3 +1,4 @@
+-- The fields are read from their places where the bytes are a whole layout.
 use Rattle.std.proofs.Common.{◌≡◌, ℕ, List, Some, slice_range, ap}
 use Rattle.trace_status.specs.SyscallInfo.{info_bytes}
 use Rattle.trace_status.proofs.syscall_info.fields_at.Goals as goal

@@ -1,3 +1,4 @@
+-- What the kind of a stop adds is read by its kind.
 use Rattle.std.proofs.Common.{Some, ap, arith, rules}
 use Rattle.trace_status.specs.SyscallInfo.{info_bytes}
 use Rattle.trace_status.proofs.Layouts.{entry_told, exit_told, has_length, quiet_told, seccomp_told, signed_read}

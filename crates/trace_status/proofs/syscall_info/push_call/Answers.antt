@@ -1,3 +1,4 @@
+-- A call's number and six arguments are eight bytes each.
 use Rattle.trace_status.proofs.Layouts.{call_behind}
 use Rattle.trace_status.proofs.syscall_info.push_call.Goals as goal
 

@@ -1,3 +1,4 @@
+-- A run is its turns one after the other, each from the moment that the turns before it came to.
 use Rattle.std.proofs.Common.{◌≡◌, ◌∙◌, rules, ◌++◌, ◌∷◌, []}
 use Rattle.stop_board.proofs.Runs.{all_told, come_to, one_more}
 use Rattle.stop_board.proofs.world.World.run.Goals as goal

@@ -1,3 +1,4 @@
+-- A run up to a turn: the replies so far, and the moment that they came to.
 use Rattle.std.proofs.Common.{◌≡◌, ◌≤◌, drop, length}
 use Rattle.std.specs.Vec.{vec_capacity}
 use Rattle.stop_board.specs.World.{Moment, StandsAt}

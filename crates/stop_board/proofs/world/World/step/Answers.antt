@@ -1,3 +1,5 @@
+-- One step of a World: the reply is the one of its moment, the World comes to the next moment, the actor has seen
+-- its part.
 use Rattle.std.proofs.Common.{◌≡◌, ◌∙◌, arith, length}
 use Rattle.std.proofs.lemmas.List.{with_items_is}
 use Rattle.stop_history.specs.Actor.{numbered_actor}

@@ -1,3 +1,4 @@
+-- A roster with one more row that has no fault is one.
 use Rattle.std.proofs.Common.{◌≡◌, ◌∙◌, None, ap, sym}
 use Rattle.stop_history.specs.Roster.{push_fault}
 use Rattle.stop_history.proofs.Rosters.{no_fault, one_more}

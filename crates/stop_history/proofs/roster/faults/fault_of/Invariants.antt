@@ -1,3 +1,4 @@
+-- The search for the first fault of rows: none so far has one.
 use Rattle.std.proofs.Common.{◌≡◌, [], take, drop}
 use Rattle.stop_history.specs.Roster.{first_fault}
 use Rattle.stop_history.proofs.roster.faults.fault_of.Given as goal

@@ -1,3 +1,4 @@
+-- The lowest bits are what a mask of as many ones leaves.
 use Rattle.std.proofs.lemmas.Nat.{and_mask, one_shl}
 use Rattle.stop_history.proofs.word.layout.split.Goals as goal
 

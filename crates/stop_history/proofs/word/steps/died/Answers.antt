@@ -1,3 +1,4 @@
+-- The word after an exit is in range.
 use Rattle.stop_history.proofs.Words.{death_reported}
 use Rattle.stop_history.proofs.word.steps.died.Goals as goal
 

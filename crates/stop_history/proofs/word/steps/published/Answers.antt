@@ -1,3 +1,4 @@
+-- The word after a publish is in range.
 use Rattle.std.proofs.Common.{arith}
 use Rattle.stop_history.proofs.Words.{stop_reported}
 use Rattle.stop_history.proofs.word.steps.published.Goals as goal

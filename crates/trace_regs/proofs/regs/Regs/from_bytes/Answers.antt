@@ -1,3 +1,4 @@
+-- The registers of 216 bytes are the 27 words in their order.
 use Rattle.std.proofs.Common.{◌∙◌, ◌<◌, ◌^◌, refl, sym, ap, subst}
 use Rattle.std.specs.Prelude.{All}
 use Rattle.std.specs.Int.{w64, to_le_bytes}

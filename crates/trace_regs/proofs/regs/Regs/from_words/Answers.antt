@@ -1,3 +1,4 @@
+-- Each register is the word at its place.
 use Rattle.trace_regs.proofs.Words.{map-get_or}
 use Rattle.trace_regs.proofs.regs.Regs.from_words.Goals as goal
 

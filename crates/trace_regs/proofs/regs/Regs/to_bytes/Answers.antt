@@ -1,3 +1,4 @@
+-- The bytes of registers are those of the 27 words in their order.
 use Rattle.std.proofs.Common.{◌∙◌, ap}
 use Rattle.std.specs.Int.{w64, to_le_bytes}
 use Rattle.std.specs.List.{flat_map}

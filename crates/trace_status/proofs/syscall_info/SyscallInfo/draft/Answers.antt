@@ -1,3 +1,4 @@
+-- The bytes that are put together are the layout's.
 use Rattle.std.proofs.Common.{sym, append-nil}
 use Rattle.trace_status.specs.SyscallInfo.{info_bytes}
 use Rattle.trace_status.proofs.Layouts.{drafted, exit_behind, head_drafted, ret_data_behind}

@@ -29,8 +29,14 @@ module _ (old piece : List ℕ) (from : ℕ) (within : from + length piece ≤ l
 
   overwritten_length : length (take from old ++ (piece ++ after)) ≡ length old
   unfolding after
-  overwritten_length = omega (arith, front, length-append (take from old) (piece ++ after), length-append piece after,
-      length-drop (length piece) (drop from old), length-drop from old)
+  overwritten_length = omega (
+    arith,
+    front,
+    length-append (take from old) (piece ++ after),
+    length-append piece after,
+    length-drop (length piece) (drop from old),
+    length-drop from old,
+  )
 
   overwritten_inside : (k : ℕ) → k < length piece
       → get_or (take from old ++ (piece ++ after)) (from + k) 0 ≡ get_or piece k 0
@@ -56,8 +62,11 @@ module _ (old piece : List ℕ) (from : ℕ) (within : from + length piece ≤ l
       → Overwrites old (put_mid from count old put) from piece
   unfolding after
   Overwrites-put_mid put count size same =
-      rw (size, same) (record { same_length = overwritten_length; inside = overwritten_inside;
-          outside = overwritten_outside })
+      rw (size, same) (record {
+        same_length = overwritten_length;
+        inside = overwritten_inside;
+        outside = overwritten_outside;
+      })
 
 pub ArePages-overwritten : (pages old new : List ℕ) → ArePages pages old → length new ≡ length old → ArePages pages new
 ArePages-overwritten pages old new kept same =
@@ -100,7 +109,7 @@ module _ (pages old new piece : List ℕ) (kept : ArePages pages old) (place add
   -- an address of a page, and not of the piece
   off_piece : (a i : ℕ) → i < length pages → get_or pages i 0 ≡ base_of a → is_among addr (length piece) a ≡ false
       → (i * 4096 + a % 4096 < place * 4096 + addr % 4096)
-          ⊎ (place * 4096 + addr % 4096 + length piece ≤ i * 4096 + a % 4096)
+      ⊎ (place * 4096 + addr % 4096 + length piece ≤ i * 4096 + a % 4096)
   off_piece a i hi same off = elim (cases_lt (i * 4096 + a % 4096) (place * 4096 + addr % 4096)) [
     | inl below ↦ inl below
     | inr above ↦ elim (cases_lt (i * 4096 + a % 4096) (place * 4096 + addr % 4096 + length piece)) [
@@ -110,7 +119,7 @@ module _ (pages old new piece : List ℕ) (kept : ArePages pages old) (place add
           let base : base_of a ≡ base_of addr = sym same ∙ ap (λ (k : ℕ). get_or pages k 0) one ∙ here in
           let page : a + addr % 4096 ≡ addr + a % 4096 = same_page a addr base in
           let yes : is_among addr (length piece) a ≡ true =
-              among_yes addr (length piece) a (omega (arith, one)) (omega (arith, one)) in
+          among_yes addr (length piece) a (omega (arith, one)) (omega (arith, one)) in
           absurd (false≢true (sym off ∙ yes))
     ]
   ]
@@ -141,7 +150,7 @@ module _ (pages old new piece : List ℕ) (kept : ArePages pages old) (place add
 -- ---- one more page
 module _ (pages old new : List ℕ) (kept : ArePages pages old) (page : ℕ) (whole : page % 4096 ≡ 0)
     (absent : (k : ℕ) → k < length pages → get_or pages k 0 ≢ page) (room : length pages < 256)
-        (zeros : AppendsZeros old new) where
+    (zeros : AppendsZeros old new) where
   more : List ℕ
   more = pages ++ page ∷ []
 
@@ -160,7 +169,7 @@ module _ (pages old new : List ℕ) (kept : ArePages pages old) (page : ℕ) (wh
     | inl below ↦
         let first : i < length pages = omega arith in
         rw (get_or_append_left pages (page ∷ []) 0 k below, get_or_append_left pages (page ∷ []) 0 i first)
-            (kept.apart i k h below)
+        (kept.apart i k h below)
     | inr above ↦
         let last : length pages ≡ k = omega (arith, length_push pages page) in
         let first : i < length pages = omega arith in
@@ -184,7 +193,7 @@ module _ (pages old new : List ℕ) (kept : ArePages pages old) (page : ℕ) (wh
         let at : i < length (pages ++ page ∷ []) = omega (arith, length_push pages page) in
         let low : i * 4096 + a % 4096 < length old = omega (arith, kept.long) in
         rw off (byte_at-found (pages ++ page ∷ []) new ArePages-more i a at
-            (get_or_append_left pages (page ∷ []) 0 i hi ∙ same)
+        (get_or_append_left pages (page ∷ []) 0 i hi ∙ same)
         ∙ ap (λ (byte : ℕ). Some byte) (zeros.kept (i * 4096 + a % 4096) low)
         ∙ sym (byte_at-found pages old kept i a hi same))
   ]
@@ -205,17 +214,17 @@ module _ (pages old new : List ℕ) (kept : ArePages pages old) (page : ℕ) (wh
         let base : page ≡ base_of a = sym (base-page page a whole inside.0 inside.1) in
         rw (among_yes page 4096 a inside.0 inside.1)
         (byte_at-found (pages ++ page ∷ []) new ArePages-more (length pages) a at
-            (get_or_push pages page 0 (length pages) refl ∙ base)
+        (get_or_push pages page 0 (length pages) refl ∙ base)
         ∙ ap (λ (byte : ℕ). Some byte) (zeros.zeros (length pages * 4096 + a % 4096) (omega (arith, kept.long))))
     | inr off ↦
         let other : page ≢ base_of a = λ same. let on = page-base page a (sym same) in
-            false≢true (sym off ∙ among_yes page 4096 a on.0 on.1) in
+        false≢true (sym off ∙ among_yes page 4096 a on.0 on.1) in
         rw off (byte_at-absent (pages ++ page ∷ []) new ArePages-more a (absent_more a none other)
-            ∙ sym (byte_at-absent pages old kept a none))
+        ∙ sym (byte_at-absent pages old kept a none))
   ]
 
-  pub byte_at-mapped : (a : ℕ) → byte_at (flat_of (pages ++ page ∷ []) new) a ≡ byte_after_map
-      (flat_of pages old) page a
+  pub byte_at-mapped : (a : ℕ)
+      → byte_at (flat_of (pages ++ page ∷ []) new) a ≡ byte_after_map (flat_of pages old) page a
   byte_at-mapped a = elim (place_cases pages a) [
     | inl is_kept ↦ mapped_old a is_kept.0 is_kept.1 is_kept.2
     | inr none ↦ mapped_new a none
@@ -228,7 +237,7 @@ absent_page : (pages old : List ℕ) (page : ℕ) → ArePages pages old → pag
 absent_page pages old page kept whole none k h same =
     let base : page ≡ base_of page = omega arith in
     let found : byte_at (flat_of pages old) page ≡ Some (get_or old (k * 4096 + page % 4096) 0) =
-        byte_at-found pages old kept k page h (same ∙ base) in
+    byte_at-found pages old kept k page h (same ∙ base) in
     cc
 
 pub record Pushes (pages old pages' new : List ℕ) (page : ℕ) {E : Type 0} (r : Result (Unit {0}) E) : Type 0 where
@@ -246,20 +255,25 @@ module _ (pages old pages' new : List ℕ) (page : ℕ) (kept : ArePages pages o
       → ArePages pages' new
   ArePages-pushed (Ok done) is =
       rw is.pages_ok (ArePages-more pages old new kept page whole
-          (absent_page pages old page kept whole none) few is.bytes_ok)
+      (absent_page pages old page kept whole none) few is.bytes_ok)
   ArePages-pushed (Err error) is = rw (is.pages_err, is.bytes_err) kept
 
   pub byte_at-pushed : {E : Type 0} (r : Result (Unit {0}) E) → Pushes pages old pages' new page r
       → OnOk r ((a : ℕ) → byte_at (flat_of pages' new) a ≡ byte_after_map (flat_of pages old) page a)
   byte_at-pushed (Ok done) is = λ a.
       rw is.pages_ok (byte_at-mapped pages old new kept page whole
-          (absent_page pages old page kept whole none) few is.bytes_ok a)
+      (absent_page pages old page kept whole none) few is.bytes_ok a)
   byte_at-pushed (Err error) is = tt
 
   pub len-pushed : {E : Type 0} (r : Result (Unit {0}) E) → Pushes pages old pages' new page r
       → OnOk r (len (flat_of pages' new) ≡ len (flat_of pages old) + 4096)
   len-pushed {E} (Ok done) is =
       let longer : length pages' ≡ length (pages ++ page ∷ []) = ap (λ (xs : List ℕ). length xs) is.pages_ok in
-      omega (arith, longer, length_push pages page, len-flat_of pages old kept, len-flat_of pages' new
-          (ArePages-pushed {E = E} (Ok done) is))
+      omega (
+        arith,
+        longer,
+        length_push pages page,
+        len-flat_of pages old kept,
+        len-flat_of pages' new (ArePages-pushed {E = E} (Ok done) is),
+      )
   len-pushed (Err error) is = tt

@@ -14,17 +14,17 @@ use Rattle.std.proofs.Common.{inl}
 -- a page of which no address is among the other entries adds its bytes
 len-page : (bytes : List ℕ) (page : ℕ) (es : List (ℕ × ℕ))
     → ((q : ℕ) → page ≤ q → q < page + length bytes → find nat_cmp q es ≡ None)
-    → len (from_entries {R = nat_cmp} (page_entries page bytes ++ es)) ≡ length bytes + len
-        (from_entries {R = nat_cmp} es)
+    → len (from_entries {R = nat_cmp} (page_entries page bytes ++ es))
+    ≡ length bytes + len (from_entries {R = nat_cmp} es)
 unfolding page_entries
 len-page [] page es apart = omega arith
 len-page (byte ∷ bytes) page es apart =
     let rest : List (ℕ × ℕ) = page_entries (page + 1) bytes ++ es in
     let none : get (from_entries {R = nat_cmp} rest) page ≡ None =
     get-from_entries nat_cmp_total rest page ∙ find_off_page bytes (page + 1) es page (inl (omega arith))
-        ∙ apart page (omega arith) (omega arith) in
+    ∙ apart page (omega arith) (omega arith) in
     let more : len (from_entries {R = nat_cmp} rest) ≡ length bytes + len (from_entries {R = nat_cmp} es) =
-        len-page bytes (page + 1) es (λ q low high. apart q (omega arith) (omega arith)) in
+    len-page bytes (page + 1) es (λ q low high. apart q (omega arith) (omega arith)) in
     len-insert nat_cmp_total (from_entries rest) page byte ∙ rw none (omega (arith, more))
 
 len-entries : (pages bytes : List ℕ) → AreWhole pages → AreApart pages → length bytes ≡ 4096 * length pages
@@ -36,10 +36,10 @@ len-entries (page ∷ pages) bytes whole apart long =
     let rest : length (drop 4096 bytes) ≡ 4096 * length pages = omega (arith, length-drop 4096 bytes) in
     let whole' : AreWhole pages = λ k h. whole (suc k) (omega arith) in
     let other : (q : ℕ) → page ≤ q → q < page + length (take 4096 bytes)
-        → find nat_cmp q (entries_of pages (drop 4096 bytes)) ≡ None =
+    → find nat_cmp q (entries_of pages (drop 4096 bytes)) ≡ None =
     λ q low high. entries_absent pages (drop 4096 bytes) q whole' rest
     (λ k h same. apart 0 (suc k) (omega arith) (omega arith)
-        (sym (base-page page q (whole 0 (omega arith)) low (omega (arith, full))) ∙ sym same)) in
+    (sym (base-page page q (whole 0 (omega arith)) low (omega (arith, full))) ∙ sym same)) in
     let more : len (from_entries {R = nat_cmp} (entries_of pages (drop 4096 bytes))) ≡ 4096 * length pages =
     len-entries pages (drop 4096 bytes) whole' (λ j k h l. apart (suc j) (suc k) (omega arith) (omega arith)) rest in
     len-page (take 4096 bytes) page (entries_of pages (drop 4096 bytes)) other ∙ omega (arith, full, more)

@@ -24,16 +24,16 @@ pub find_on_page : (bytes : List ℕ) (page : ℕ) (es : List (ℕ × ℕ)) (q :
 unfolding page_entries
 find_on_page [] page es q low high = absurd (omega arith)
 find_on_page (byte ∷ bytes) page es q low high =
-    elim (eqb_tells q page) as (λ _. find nat_cmp q (page_entries page (byte ∷ bytes) ++ es) ≡ Some
-        (get_or (byte ∷ bytes) (q - page) 0)) [
-  | inl same ↦
-      let first : q - page ≡ 0 = omega (arith, same.1) in
-      rw first (find_here q page byte (page_entries (page + 1) bytes ++ es) same.1)
-  | inr other ↦
-      let later : q - page ≡ suc (q - (page + 1)) = omega (arith, other.1) in
-      rw (later, find_past q page byte (page_entries (page + 1) bytes ++ es) other.1)
-      (find_on_page bytes (page + 1) es q (omega (arith, other.1)) (omega arith))
-]
+    elim (eqb_tells q page) as (λ _. find nat_cmp q (page_entries page (byte ∷ bytes) ++ es)
+    ≡ Some (get_or (byte ∷ bytes) (q - page) 0)) [
+      | inl same ↦
+          let first : q - page ≡ 0 = omega (arith, same.1) in
+          rw first (find_here q page byte (page_entries (page + 1) bytes ++ es) same.1)
+      | inr other ↦
+          let later : q - page ≡ suc (q - (page + 1)) = omega (arith, other.1) in
+          rw (later, find_past q page byte (page_entries (page + 1) bytes ++ es) other.1)
+          (find_on_page bytes (page + 1) es q (omega (arith, other.1)) (omega arith))
+    ]
 
 -- an address of no byte of a page
 pub find_off_page : (bytes : List ℕ) (page : ℕ) (es : List (ℕ × ℕ)) (q : ℕ) → (q < page) ⊎ (page + length bytes ≤ q)
@@ -43,8 +43,8 @@ find_off_page [] page es q off = refl
 find_off_page (byte ∷ bytes) page es q (inl low) =
     let other : q ≢ page = omega arith in
     rw (find_past q page byte (page_entries (page + 1) bytes ++ es) other)
-        (find_off_page bytes (page + 1) es q (inl (omega arith)))
+    (find_off_page bytes (page + 1) es q (inl (omega arith)))
 find_off_page (byte ∷ bytes) page es q (inr high) =
     let other : q ≢ page = omega arith in
     rw (find_past q page byte (page_entries (page + 1) bytes ++ es) other)
-        (find_off_page bytes (page + 1) es q (inr (omega arith)))
+    (find_off_page bytes (page + 1) es q (inr (omega arith)))

@@ -1,9 +1,9 @@
 -- Memories as wholes: two with the same byte at each address are one, so a change that is known at each address
 -- determines the memory after it; and what a store leaves of the addresses. For whoever computes a memory after many
 -- changes.
-use Rattle.std.proofs.Common.{[], ◌∷◌, ◌≡◌, ◌≢◌, ℕ, zero, suc, ◌+◌, ◌-◌, ◌<◌, ◌≤◌, ◌^◌, true, false, Option, Some}
+use Rattle.std.proofs.Common.{[], ◌∷◌, ◌≡◌, ◌≢◌, ℕ, zero, suc, ◌+◌, ◌-◌, ◌<◌, ◌≤◌, ◌^◌, false, Option, Some}
 use Rattle.std.proofs.Common.{None, List, length, get_or, inl, inr, refl, sym, ap, ◌∙◌, arith}
-use Rattle.std.specs.Prelude.{if◌then◌else◌, is_some, IsSome, nat_lt, replicate}
+use Rattle.std.specs.Prelude.{if◌then◌else◌, is_some, IsSome, nat_lt}
 use Rattle.std.specs.Cmp.{nat_cmp_total}
 use Rattle.std.specs.FinMap.{get-insert, insert, nat_cmp-IsAntisymmetric, same_map}
 use Rattle.std.proofs.lemmas.Bool.{cases_lt}
@@ -40,7 +40,7 @@ first_here : (m : FlatMemory) (at byte a : ℕ) (bytes : List ℕ) → a ≡ at
 first_here m at byte a bytes same =
     let first : a - at ≡ 0 = omega arith in
     after_inside m at a (byte ∷ bytes) (omega arith) (omega arith)
-        ∙ ap (λ (k : ℕ). Some (get_or (byte ∷ bytes) k 0)) first
+    ∙ ap (λ (k : ℕ). Some (get_or (byte ∷ bytes) k 0)) first
 
 rest_past : (m : FlatMemory) (at byte a : ℕ) (bytes : List ℕ) → a ≢ at
     → byte_after_store m (at + 1) bytes a ≡ byte_after_store m at (byte ∷ bytes) a
@@ -53,7 +53,7 @@ rest_past m at byte a bytes other = elim (cases_lt a at) [
         let later : a - at ≡ suc (a - (at + 1)) = omega arith in
         after_inside m (at + 1) a bytes (omega arith) inside
         ∙ sym (after_inside m at a (byte ∷ bytes) above (omega arith)
-            ∙ ap (λ (k : ℕ). Some (get_or (byte ∷ bytes) k 0)) later)
+        ∙ ap (λ (k : ℕ). Some (get_or (byte ∷ bytes) k 0)) later)
     | inr past ↦
         after_outside m (at + 1) a bytes (among_above (at + 1) (length bytes) a past)
         ∙ sym (after_outside m at a (byte ∷ bytes) (among_above at (suc (length bytes)) a (omega arith)))
@@ -69,11 +69,11 @@ byte_at-store m at [] a = sym (elim (among_cases at 0 a) as (λ _. byte_after_st
 ])
 byte_at-store m at (byte ∷ bytes) a = elim (eqb_tells a at) as (λ _. byte_at
     (insert (stored m (at + 1) bytes) at byte) a ≡ byte_after_store m at (byte ∷ bytes) a) [
-  | inl same ↦ put_here (stored m (at + 1) bytes) at byte a same.1 ∙ sym (first_here m at byte a bytes same.1)
-  | inr other ↦
-      put_past (stored m (at + 1) bytes) at byte a other.1 ∙ byte_at-store m (at + 1) bytes a
+      | inl same ↦ put_here (stored m (at + 1) bytes) at byte a same.1 ∙ sym (first_here m at byte a bytes same.1)
+      | inr other ↦
+          put_past (stored m (at + 1) bytes) at byte a other.1 ∙ byte_at-store m (at + 1) bytes a
           ∙ rest_past m at byte a bytes other.1
-]
+    ]
 
 pub stored_is : (before after : FlatMemory) (at : ℕ) (bytes : List ℕ) → StoresBytes before after at bytes
     → after ≡ stored before at bytes
@@ -122,19 +122,19 @@ unfolding run_end
 same_run_end m n at zero same = refl
 same_run_end m n at (suc k) same =
     ap (λ (rest : RunEnd). if nat_lt at (2 ^ 64) then end_from at (byte_at m at) rest else Top)
-        (same_run_end m n (at + 1) k same)
+    (same_run_end m n (at + 1) k same)
     ∙ ap (λ (e : RunEnd). if nat_lt at (2 ^ 64) then e else Top)
-        (end_alike at (byte_at m at) (byte_at n at) (run_end n (at + 1) k) (same at))
+    (end_alike at (byte_at m at) (byte_at n at) (run_end n (at + 1) k) (same at))
 
 pub stored_same : (m : FlatMemory) (at : ℕ) (bytes : List ℕ) → run_end m at (length bytes) ≡ Full
     → SameAddresses (stored m at bytes) m
 stored_same m at bytes whole = λ a. elim (among_cases at (length bytes) a) as (λ _. is_some
     (byte_at (stored m at bytes) a) ≡ is_some (byte_at m a)) [
-  | inl inside ↦
-      let here : at + (a - at) ≡ a = omega (arith, inside.0) in
-      let there : IsSome (byte_at m (at + (a - at))) =
+      | inl inside ↦
+          let here : at + (a - at) ≡ a = omega (arith, inside.0) in
+          let there : IsSome (byte_at m (at + (a - at))) =
           (run_end-Full m at (length bytes) whole (a - at) (omega (arith, inside.0, inside.1))).1 in
-      ap (λ (o : Option ℕ). is_some o) (byte_at-store m at bytes a ∙ after_inside m at a bytes inside.0 inside.1)
-      ∙ sym (rw here at there)
-  | inr off ↦ ap (λ (o : Option ℕ). is_some o) (byte_at-store m at bytes a ∙ after_outside m at a bytes off)
-]
+          ap (λ (o : Option ℕ). is_some o) (byte_at-store m at bytes a ∙ after_inside m at a bytes inside.0 inside.1)
+          ∙ sym (rw here at there)
+      | inr off ↦ ap (λ (o : Option ℕ). is_some o) (byte_at-store m at bytes a ∙ after_outside m at a bytes off)
+    ]

@@ -31,7 +31,7 @@ off_page page address whole other = elim (cases_lt address page) [
 
 entries_found : (pages bytes : List ℕ) (i a : ℕ) → AreWhole pages → AreApart pages → length bytes ≡ 4096 * length pages
     → i < length pages → get_or pages i 0 ≡ base_of a
-        → find nat_cmp a (entries_of pages bytes) ≡ Some (get_or bytes (i * 4096 + a % 4096) 0)
+    → find nat_cmp a (entries_of pages bytes) ≡ Some (get_or bytes (i * 4096 + a % 4096) 0)
 unfolding entries_of
 entries_found [] bytes i a whole apart long inside same = absurd (omega arith)
 entries_found (page ∷ pages) bytes zero a whole apart long inside same =
@@ -41,20 +41,20 @@ entries_found (page ∷ pages) bytes zero a whole apart long inside same =
     let place : a - page ≡ 0 * 4096 + a % 4096 = omega (arith, same) in
     find_on_page (take 4096 bytes) page (entries_of pages (drop 4096 bytes)) a on.0 (omega (arith, full))
     ∙ ap (λ (byte : ℕ). Some byte) (get_or-take 4096 bytes (a - page) 0 (omega arith)
-        ∙ ap (λ (k : ℕ). get_or bytes k 0) place)
+    ∙ ap (λ (k : ℕ). get_or bytes k 0) place)
 entries_found (page ∷ pages) bytes (suc i) a whole apart long inside same =
     let room : 4096 ≤ length bytes = omega arith in
     let full : length (take 4096 bytes) ≡ 4096 = length-take-le 4096 bytes room in
     let rest : length (drop 4096 bytes) ≡ 4096 * length pages = omega (arith, length-drop 4096 bytes) in
     let other : page ≢ base_of a = λ here. apart 0 (suc i) (omega arith) inside (here ∙ sym same) in
     let past : (a < page) ⊎ (page + length (take 4096 bytes) ≤ a) =
-        rw full (off_page page a (whole 0 (omega arith)) other) in
+    rw full (off_page page a (whole 0 (omega arith)) other) in
     let place : 4096 + (i * 4096 + a % 4096) ≡ suc i * 4096 + a % 4096 = omega arith in
     find_off_page (take 4096 bytes) page (entries_of pages (drop 4096 bytes)) a past
     ∙ entries_found pages (drop 4096 bytes) i a (λ k h. whole (suc k) (omega arith))
-        (λ j k h l. apart (suc j) (suc k) (omega arith) (omega arith)) rest (omega arith) same
+    (λ j k h l. apart (suc j) (suc k) (omega arith) (omega arith)) rest (omega arith) same
     ∙ ap (λ (byte : ℕ). Some byte) (get_or-drop 4096 bytes (i * 4096 + a % 4096) 0
-        ∙ ap (λ (k : ℕ). get_or bytes k 0) place)
+    ∙ ap (λ (k : ℕ). get_or bytes k 0) place)
 
 pub entries_absent : (pages bytes : List ℕ) (a : ℕ) → AreWhole pages → length bytes ≡ 4096 * length pages
     → ((k : ℕ) → k < length pages → get_or pages k 0 ≢ base_of a) → find nat_cmp a (entries_of pages bytes) ≡ None
@@ -65,10 +65,10 @@ entries_absent (page ∷ pages) bytes a whole long absent =
     let full : length (take 4096 bytes) ≡ 4096 = length-take-le 4096 bytes room in
     let rest : length (drop 4096 bytes) ≡ 4096 * length pages = omega (arith, length-drop 4096 bytes) in
     let past : (a < page) ⊎ (page + length (take 4096 bytes) ≤ a) =
-        rw full (off_page page a (whole 0 (omega arith)) (absent 0 (omega arith))) in
+    rw full (off_page page a (whole 0 (omega arith)) (absent 0 (omega arith))) in
     find_off_page (take 4096 bytes) page (entries_of pages (drop 4096 bytes)) a past
     ∙ entries_absent pages (drop 4096 bytes) a (λ k h. whole (suc k) (omega arith)) rest
-        (λ k h. absent (suc k) (omega arith))
+    (λ k h. absent (suc k) (omega arith))
 
 -- the byte at an address of the i-th page
 pub byte_at-found : (pages bytes : List ℕ) → ArePages pages bytes → (i a : ℕ) → i < length pages
@@ -77,7 +77,7 @@ pub byte_at-found : (pages bytes : List ℕ) → ArePages pages bytes → (i a :
 unfolding flat_of
 byte_at-found pages bytes kept i a inside same =
     get-from_entries nat_cmp_total (entries_of pages bytes) a
-        ∙ entries_found pages bytes i a kept.whole kept.apart kept.long inside same
+    ∙ entries_found pages bytes i a kept.whole kept.apart kept.long inside same
 
 -- an address of no page
 pub byte_at-absent : (pages bytes : List ℕ) → ArePages pages bytes → (a : ℕ) → IsPlace pages a None
@@ -85,7 +85,7 @@ pub byte_at-absent : (pages bytes : List ℕ) → ArePages pages bytes → (a : 
 unfolding flat_of
 byte_at-absent pages bytes kept a absent =
     get-from_entries nat_cmp_total (entries_of pages bytes) a
-        ∙ entries_absent pages bytes a kept.whole kept.long absent
+    ∙ entries_absent pages bytes a kept.whole kept.long absent
 
 -- an address is of some page, or of none
 abbrev pub IsKept : List ℕ → ℕ → Type 0
@@ -110,11 +110,11 @@ place_cases (page ∷ pages) a = elim (eqb_tells page (base_of a)) [
 pub IsPiece-part : (pages bytes : List ℕ) → ArePages pages bytes → (place address rest : ℕ) → place < length pages
     → get_or pages place 0 ≡ base_of address
     → rest + address % 4096 ≡ 4096 → IsPiece (flat_of pages bytes) address
-        (take rest (drop (place * 4096 + address % 4096) bytes))
+    (take rest (drop (place * 4096 + address % 4096) bytes))
 IsPiece-part pages bytes kept place address rest inside same whole =
     let from : ℕ = place * 4096 + address % 4096 in
     let long : length (take rest (drop from bytes)) ≡ rest =
-        length-take-le rest (drop from bytes) (omega (arith, length-drop from bytes, kept.long)) in
+    length-take-le rest (drop from bytes) (omega (arith, length-drop from bytes, kept.long)) in
     record {
       to_page_end = omega (arith, long);
       bytes = λ k h.
@@ -122,6 +122,6 @@ IsPiece-part pages bytes kept place address rest inside same whole =
           let at : place * 4096 + (address + k) % 4096 ≡ from + k = omega (arith, offset_on address k within) in
           byte_at-found pages bytes kept place (address + k) inside (same ∙ sym (base_on address k within))
           ∙ ap (λ (byte : ℕ). Some byte)
-              (ap (λ (j : ℕ). get_or bytes j 0) at
-                  ∙ sym (get_or-take rest (drop from bytes) k 0 (omega (arith, long)) ∙ get_or-drop from bytes k 0));
+          (ap (λ (j : ℕ). get_or bytes j 0) at
+          ∙ sym (get_or-take rest (drop from bytes) k 0 (omega (arith, long)) ∙ get_or-drop from bytes k 0));
     }

@@ -46,7 +46,7 @@ run_end-passed m at (suc k) n below there =
     ap (run_end m at) next
     ∙ step m at (k + n) (there 0 (omega arith)).0 (omega arith) (rw first at (there 0 (omega arith)).1)
     ∙ run_end-passed m (at + 1) k n (omega arith)
-        (λ j h. let further : at + suc j ≡ at + 1 + j = omega arith in rw further at (there (suc j) (omega arith)))
+    (λ j h. let further : at + suc j ≡ at + 1 + j = omega arith in rw further at (there (suc j) (omega arith)))
     ∙ ap (λ (a : ℕ). run_end m a n) on
 
 -- a run that is whole: each address is below 2^64, and mapped
@@ -79,7 +79,7 @@ run_end-piece m at n piece below is within =
     let all : n ≡ n + 0 = omega arith in
     ap (run_end m at) all
     ∙ run_end-passed m at n 0 (omega (arith, piece_top at (length piece) below is.to_page_end))
-        (λ j h. (get_or piece j 0, is.bytes j (omega arith)))
+    (λ j h. (get_or piece j 0, is.bytes j (omega arith)))
     ∙ run_end-none m (at + n)
 
 pub run_end-past : (m : FlatMemory) (at n : ℕ) (piece : List ℕ) → at < 2 ^ 64 → IsPiece m at piece → length piece ≤ n
@@ -88,14 +88,14 @@ run_end-past m at n piece below is within =
     let all : n ≡ length piece + (n - length piece) = omega arith in
     ap (run_end m at) all
     ∙ run_end-passed m at (length piece) (n - length piece) (piece_top at (length piece) below is.to_page_end)
-        (λ j h. (get_or piece j 0, is.bytes j h))
+    (λ j h. (get_or piece j 0, is.bytes j h))
 
 pub run_end-past_top : (m : FlatMemory) (at n : ℕ) (piece : List ℕ) → at < 2 ^ 64 → IsPiece m at piece
     → length piece < n → 2 ^ 64 ≤ at + length piece
     → run_end m at n ≡ Top
 run_end-past_top m at n piece below is within top =
     run_end-past m at n piece below is (omega arith)
-        ∙ run_end-top m (at + length piece) (n - length piece) (omega arith) top
+    ∙ run_end-top m (at + length piece) (n - length piece) (omega arith) top
 
 -- ---- the bytes of a run
 run_step : (m : FlatMemory) (at n byte : ℕ) → at < 2 ^ 64 → byte_at m at ≡ Some byte
@@ -132,15 +132,16 @@ unfolding Says
 run_says m zero at = rw (run_end-none m at, run_none m at) refl
 run_says m (suc n) at = elim (cases_lt at (2 ^ 64)) as (λ _. Says (run_end m at (suc n)) at (suc n)
     (length (run m at (suc n)))) [
-  | inr above ↦ rw (run_end-top m at (suc n) (omega arith) above, run_top m at n above) (omega arith, λ h. omega arith)
-  | inl below ↦ elim (byte_at m at) as (λ o. byte_at m at ≡ o
-      → Says (run_end m at (suc n)) at (suc n) (length (run m at (suc n)))) [
-    | None ↦ λ is. rw (run_end-absent m at (suc n) (omega arith) below is, run_absent m at n below is)
-        (omega arith, omega arith)
-    | Some byte ↦ λ is. rw (step m at n byte below is, run_step m at n byte below is)
-        (says_more (run_end m (at + 1) n) at n (length (run m (at + 1) n)) below (run_says m n (at + 1)))
-  ] refl
-]
+      | inr above ↦ rw (run_end-top m at (suc n) (omega arith) above, run_top m at n above)
+          (omega arith, λ h. omega arith)
+      | inl below ↦ elim (byte_at m at) as (λ o. byte_at m at ≡ o
+          → Says (run_end m at (suc n)) at (suc n) (length (run m at (suc n)))) [
+            | None ↦ λ is. rw (run_end-absent m at (suc n) (omega arith) below is, run_absent m at n below is)
+                (omega arith, omega arith)
+            | Some byte ↦ λ is. rw (step m at n byte below is, run_step m at n byte below is)
+                (says_more (run_end m (at + 1) n) at n (length (run m (at + 1) n)) below (run_says m n (at + 1)))
+          ] refl
+    ]
 
 whole_end : (e : RunEnd) (at n long : ℕ) → Says e at n long → long ≡ n → e ≡ Full
 unfolding Says
@@ -168,7 +169,7 @@ length-run-Top m at n below e = (rw e at (run_says m n at)).1 below
 -- bytes that are all there begin the run
 run_passed : (m : FlatMemory) (piece : List ℕ) (at n : ℕ) → at + length piece ≤ 2 ^ 64
     → ((j : ℕ) → j < length piece → byte_at m (at + j) ≡ Some (get_or piece j 0))
-        → run m at (length piece + n) ≡ piece ++ run m (at + length piece) n
+    → run m at (length piece + n) ≡ piece ++ run m (at + length piece) n
 run_passed m [] at n below there =
     let none : 0 + n ≡ n = omega arith in
     let here : at ≡ at + 0 = omega arith in
@@ -180,7 +181,7 @@ run_passed m (byte ∷ piece) at n below there =
     ap (run m at) next
     ∙ run_step m at (length piece + n) byte (omega arith) (rw first at (there 0 (omega arith)))
     ∙ ap (λ (xs : List ℕ). byte ∷ xs) (run_passed m piece (at + 1) n (omega arith)
-        (λ j h. let further : at + suc j ≡ at + 1 + j = omega arith in rw further at (there (suc j) (omega arith))))
+    (λ j h. let further : at + suc j ≡ at + 1 + j = omega arith in rw further at (there (suc j) (omega arith))))
     ∙ ap (λ (a : ℕ). byte ∷ (piece ++ run m a n)) on
 
 pub run-past : (m : FlatMemory) (at n : ℕ) (piece : List ℕ) → at < 2 ^ 64 → IsPiece m at piece → length piece ≤ n
@@ -188,7 +189,7 @@ pub run-past : (m : FlatMemory) (at n : ℕ) (piece : List ℕ) → at < 2 ^ 64 
 run-past m at n piece below is within =
     let all : n ≡ length piece + (n - length piece) = omega arith in
     ap (run m at) all ∙ run_passed m piece at (n - length piece)
-        (piece_top at (length piece) below is.to_page_end) is.bytes
+    (piece_top at (length piece) below is.to_page_end) is.bytes
 
 -- a run that ends within a piece is the piece's first bytes
 pub run-within : (m : FlatMemory) (at n : ℕ) (piece : List ℕ) → at < 2 ^ 64 → IsPiece m at piece → n ≤ length piece
@@ -197,11 +198,11 @@ run-within m at n piece below is within =
     let long : length (take n piece) ≡ n = length-take-le n piece within in
     let all : n ≡ length (take n piece) + 0 = omega (arith, long) in
     let room : at + length (take n piece) ≤ 2 ^ 64 =
-        omega (arith, long, piece_top at (length piece) below is.to_page_end) in
+    omega (arith, long, piece_top at (length piece) below is.to_page_end) in
     ap (run m at) all
     ∙ run_passed m (take n piece) at 0 room (λ j h.
-        let inside : j < n = omega (arith, long) in
-        is.bytes j (omega arith) ∙ ap (λ (byte : ℕ). Some byte) (sym (get_or-take n piece j 0 inside)))
+    let inside : j < n = omega (arith, long) in
+    is.bytes j (omega arith) ∙ ap (λ (byte : ℕ). Some byte) (sym (get_or-take n piece j 0 inside)))
     ∙ ap (λ (rest : List ℕ). take n piece ++ rest) (run_none m (at + length (take n piece)))
     ∙ append-nil (take n piece)
 
@@ -224,37 +225,37 @@ module _ (old mid new : FlatMemory) (at done count : ℕ) (bytes : List ℕ) (wi
   in_next a low high =
       let place : done + (a - (at + done)) ≡ a - at = omega arith in
       let later : is_among (at + done) (length (take count (drop done bytes))) a ≡ true =
-          among_yes (at + done) _ a low (omega (arith, next_length)) in
+      among_yes (at + done) _ a low (omega (arith, next_length)) in
       let one : is_among at (length (take (done + count) bytes)) a ≡ true =
-          among_yes at _ a (omega arith) (omega (arith, all_length)) in
+      among_yes at _ a (omega arith) (omega (arith, all_length)) in
       let put : byte_at new a ≡ Some (get_or (take count (drop done bytes)) (a - (at + done)) 0) =
-          rw later at (next a) in
+      rw later at (next a) in
       rw one (put ∙ ap (λ (byte : ℕ). Some byte)
       (get_or-take count (drop done bytes) (a - (at + done)) 0 (omega arith)
-          ∙ get_or-drop done bytes (a - (at + done)) 0
+      ∙ get_or-drop done bytes (a - (at + done)) 0
       ∙ ap (λ (k : ℕ). get_or bytes k 0) place ∙ sym (get_or-take (done + count) bytes (a - at) 0 (omega arith))))
 
   -- an address of the earlier ones
   in_front : (a : ℕ) → at ≤ a → a < at + done → byte_at new a ≡ byte_after_store old at (take (done + count) bytes) a
   in_front a low high =
       let later : is_among (at + done) (length (take count (drop done bytes))) a ≡ false =
-          among_below (at + done) _ a high in
+      among_below (at + done) _ a high in
       let here : is_among at (length (take done bytes)) a ≡ true =
-          among_yes at _ a low (omega (arith, front_length)) in
+      among_yes at _ a low (omega (arith, front_length)) in
       let one : is_among at (length (take (done + count) bytes)) a ≡ true =
-          among_yes at _ a low (omega (arith, all_length)) in
+      among_yes at _ a low (omega (arith, all_length)) in
       let kept : byte_at new a ≡ byte_at mid a = rw later at (next a) in
       let put : byte_at mid a ≡ Some (get_or (take done bytes) (a - at) 0) = rw here at (front a) in
       rw one (kept ∙ put ∙ ap (λ (byte : ℕ). Some byte)
       (get_or-take done bytes (a - at) 0 (omega arith)
-          ∙ sym (get_or-take (done + count) bytes (a - at) 0 (omega arith))))
+      ∙ sym (get_or-take (done + count) bytes (a - at) 0 (omega arith))))
 
   -- an address of neither
   in_neither : (a : ℕ) → (a < at) ⊎ (at + (done + count) ≤ a)
       → byte_at new a ≡ byte_after_store old at (take (done + count) bytes) a
   in_neither a (inl low) =
       let later : is_among (at + done) (length (take count (drop done bytes))) a ≡ false =
-          among_below (at + done) _ a (omega arith) in
+      among_below (at + done) _ a (omega arith) in
       let here : is_among at (length (take done bytes)) a ≡ false = among_below at _ a low in
       let one : is_among at (length (take (done + count) bytes)) a ≡ false = among_below at _ a low in
       let kept : byte_at new a ≡ byte_at mid a = rw later at (next a) in
@@ -262,10 +263,10 @@ module _ (old mid new : FlatMemory) (at done count : ℕ) (bytes : List ℕ) (wi
       rw one (kept ∙ put)
   in_neither a (inr high) =
       let later : is_among (at + done) (length (take count (drop done bytes))) a ≡ false =
-          among_above (at + done) _ a (omega (arith, next_length)) in
+      among_above (at + done) _ a (omega (arith, next_length)) in
       let here : is_among at (length (take done bytes)) a ≡ false = among_above at _ a (omega (arith, front_length)) in
       let one : is_among at (length (take (done + count) bytes)) a ≡ false =
-          among_above at _ a (omega (arith, all_length)) in
+      among_above at _ a (omega (arith, all_length)) in
       let kept : byte_at new a ≡ byte_at mid a = rw later at (next a) in
       let put : byte_at mid a ≡ byte_at old a = rw here at (front a) in
       rw one (kept ∙ put)
@@ -285,8 +286,8 @@ module _ (old mid new : FlatMemory) (at done count : ℕ) (bytes : List ℕ) (wi
 -- what was stored so far leaves the address after it
 pub byte_at-stored_before : (old mid : FlatMemory) (at done : ℕ) (bytes : List ℕ) → done ≤ length bytes
     → ((a : ℕ) → byte_at mid a ≡ byte_after_store old at (take done bytes) a)
-        → byte_at mid (at + done) ≡ byte_at old (at + done)
+    → byte_at mid (at + done) ≡ byte_at old (at + done)
 byte_at-stored_before old mid at done bytes within front =
     let past : is_among at (length (take done bytes)) (at + done) ≡ false =
-        among_above at _ (at + done) (omega (arith, length-take-le done bytes within)) in
+    among_above at _ (at + done) (omega (arith, length-take-le done bytes within)) in
     rw past at (front (at + done))

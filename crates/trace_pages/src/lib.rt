@@ -10,7 +10,8 @@ mod pages;
 
 pub use fault::Fault;
 pub use laws::{
-    changes_determine_memory, runs_are_made_of_pieces, runs_end_where_they_say, stores_keep_addresses,
+    changes_determine_memory, runs_are_made_of_pieces, runs_end_where_they_say,
+    stores_keep_addresses,
 };
 pub use map_error::MapError;
 pub use memory::Memory;

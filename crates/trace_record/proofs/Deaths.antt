@@ -1,5 +1,5 @@
 -- Deaths and the raw values that report them.
-use Rattle.std.proofs.Common.{◌≡◌, ℕ, true, false, refl, ap, arith}
+use Rattle.std.proofs.Common.{◌≡◌, ℕ, true, false, ap, arith}
 use Rattle.trace_record.specs.Death.{IsDeath, death_status}
 use Rattle.trace_record.specs.declared.death.Death.{Death}
 use Rattle.trace_record.specs.declared.death.Death.TheVariants.{Exited, Signaled}

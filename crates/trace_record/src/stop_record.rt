@@ -40,9 +40,7 @@ impl<A: Allocator> Model for StopRecord<A> {
 
     ghost view = { λ r. content_by r.tid r.number r.stop r.regs r.memory };
 
-    ghost inverse = {
-        λ c. record { tid = c.tid; number = c.number; stop = c.stop; regs = c.regs; memory = c.memory }
-    };
+    ghost inverse = { λ c. record { tid = c.tid; number = c.number; stop = c.stop; regs = c.regs; memory = c.memory } };
 }
 
 impl<A: Allocator + Copy> StopRecord<A> {

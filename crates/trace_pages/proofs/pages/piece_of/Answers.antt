@@ -11,4 +11,4 @@ returns c =
     let from = c.in_ok-place.place * 4096 + c.args.addr % 4096 in
     let rest : from + c.rest_of_page.result - from ≡ c.rest_of_page.result = omega arith in
     rw rest (IsPiece-part c.args.pages.now c.args.bytes.now c.requires c.in_ok-place.place c.args.addr
-        c.rest_of_page.result c.in_ok-place.ensures.0 c.in_ok-place.ensures.1 c.rest_of_page.ensures)
+    c.rest_of_page.result c.in_ok-place.ensures.0 c.in_ok-place.ensures.1 c.rest_of_page.ensures)

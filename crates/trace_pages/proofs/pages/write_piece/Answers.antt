@@ -12,5 +12,5 @@ pub returns : goal.returns
 returns c = byte_at-stored c.args.pages.now c.args.bytes.now _ c.args.piece.now c.requires.kept c.in-Some.place
     c.args.addr c.in-Some.ensures.0 c.in-Some.ensures.1 c.requires.within
     (Overwrites-put_mid c.args.bytes.now c.args.piece.now _
-        (omega (arith, c.requires.kept.long)) c.copy_from_slice.new.self _
-            (omega arith) c.copy_from_slice.ensures.after)
+    (omega (arith, c.requires.kept.long)) c.copy_from_slice.new.self _
+    (omega arith) c.copy_from_slice.ensures.after)

@@ -9,5 +9,5 @@ returns g c =
     let count : len c.args.self.now ≡ 4096 * length c.self.inside.pages.items =
     rw (← c.self.view_is) (len-flat_of c.self.inside.pages.items c.self.inside.bytes.items c.self.invariant) in
     let pages : c.len.result ≡ length c.self.inside.pages.items =
-        omega (arith, c.len.ensures, c.self.inside.pages.ok.0) in
+    omega (arith, c.len.ensures, c.self.inside.pages.ok.0) in
     grind (arith, nat_tests)

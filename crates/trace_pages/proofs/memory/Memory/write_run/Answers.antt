@@ -4,15 +4,17 @@ use Rattle.trace_pages.proofs.memory.Memory.write_run.Goals as goal
 
 pub overflow_add-at : goal.overflow_add-at
 overflow_add-at g c =
-    record { fits = (run_end-Full c.args.self.now c.args.addr
-        (length c.args.bytes.now) c.requires c.loop-done.done c.loop-done-test.true).0 }
+    record {
+      fits = (run_end-Full c.args.self.now c.args.addr
+          (length c.args.bytes.now) c.requires c.loop-done.done c.loop-done-test.true).0;
+    }
 
 pub write_in_page-requires-clause-mapped : goal.write_in_page-requires-clause-mapped
 write_in_page-requires-clause-mapped g c =
     rw (byte_at-stored_before c.args.self.now c.loop-done.self c.args.addr c.loop-done.done c.args.bytes.now
-        c.loop-done.invariant.within c.loop-done.invariant.written)
+    c.loop-done.invariant.within c.loop-done.invariant.written)
     (run_end-Full c.args.self.now c.args.addr
-        (length c.args.bytes.now) c.requires c.loop-done.done c.loop-done-test.true).1
+    (length c.args.bytes.now) c.requires c.loop-done.done c.loop-done-test.true).1
 
 pub loop-done-preserved : goal.loop-done-preserved
 loop-done-preserved g c =

@@ -19,6 +19,6 @@ pid_of_death pid (Signaled signal core) = refl
 pub returns-in_default-2-clause-each : goal.returns-in_default-2-clause-each
 returns-in_default-2-clause-each c = λ death is same.
     let found = c.decode.ensures.each (death_wait_status 0 death) (pid_of_death 0 death)
-        (encodes_death 0 c.args.status death is same) in
+    (encodes_death 0 c.args.status death is same) in
     let none = c.in_default.is in
     cc

@@ -1,0 +1,4 @@
+pub mod Keywords
+pub mod Lines
+pub mod Numbers
+pub mod Ranges

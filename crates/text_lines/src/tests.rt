@@ -1,0 +1,99 @@
+use super::*;
+
+#[derive(Clone, Copy, Debug, PartialEq, Eq)]
+enum Beast {
+    Cat,
+    Dog,
+}
+
+const BEASTS: [(&str, Beast); 3] = [
+    ("cat", Beast::Cat),
+    ("dog", Beast::Dog),
+    ("cat", Beast::Dog),
+];
+
+#[test]
+fn a_line_ends_with_a_line_feed_which_the_last_may_lack(rt: HostRuntime) {
+    assert_eq!(rt;
+        cut_line(b"one\n\ntwo"),
+        (b"one".as_slice(), b"\ntwo".as_slice())
+    );
+    assert_eq!(rt; cut_line(b"\ntwo"), (b"".as_slice(), b"two".as_slice()));
+    assert_eq!(rt; cut_line(b"two"), (b"two".as_slice(), b"".as_slice()));
+    assert_eq!(rt; cut_line(b"two\n"), (b"two".as_slice(), b"".as_slice()));
+}
+
+#[test]
+fn words_are_separated_by_spaces_alone(rt: HostRuntime) {
+    let mut words: [&[u8]; 3] = [&[]; 3];
+    let count = first_words(b"  a\tb  c ", &mut words);
+    assert_eq!(rt; count, 2);
+    assert_eq!(rt; words[0], b"a\tb".as_slice());
+    assert_eq!(rt; words[1], b"c".as_slice());
+    let mut words: [&[u8]; 2] = [&[]; 2];
+    let count = first_words(b"a b c", &mut words);
+    assert_eq!(rt; count, 2);
+    assert_eq!(rt; words[1], b"b".as_slice());
+}
+
+#[test]
+fn a_number_has_no_sign_and_fits_64_bits(rt: HostRuntime) {
+    let cases: [(&str, Option<u64>); 12] = [
+        ("0", Some(0)),
+        ("010", Some(10)),
+        ("0x1fF", Some(511)),
+        ("18446744073709551615", Some(18_446_744_073_709_551_615)),
+        ("18446744073709551616", None),
+        ("0x10000000000000000", None),
+        ("", None),
+        ("0x", None),
+        ("0X1", None),
+        ("-1", None),
+        ("+1", None),
+        ("1\r", None),
+    ];
+    for (word, value) in &cases {
+        assert_eq!(rt; number(word.as_bytes()), *value);
+    }
+}
+
+#[test]
+fn an_integer_is_decimal_with_a_minus_sign_or_none(rt: HostRuntime) {
+    let cases: [(&str, Option<i64>); 15] = [
+        ("0", Some(0)),
+        ("-0", Some(0)),
+        ("-007", Some(-7)),
+        ("4095", Some(4095)),
+        ("9223372036854775807", Some(9_223_372_036_854_775_807)),
+        ("9223372036854775808", None),
+        ("-9223372036854775808", Some(-9_223_372_036_854_775_808)),
+        ("-9223372036854775809", None),
+        ("18446744073709551616", None),
+        ("", None),
+        ("-", None),
+        ("--1", None),
+        ("+1", None),
+        ("0x10", None),
+        ("-0x10", None),
+    ];
+    for (word, value) in &cases {
+        assert_eq!(rt; integer(word.as_bytes()), *value);
+    }
+}
+
+#[test]
+fn a_range_has_both_its_ends(rt: HostRuntime) {
+    assert_eq!(rt; number_between(1, 64, b"1"), Ok(1));
+    assert_eq!(rt; number_between(1, 64, b"0x40"), Ok(64));
+    assert_eq!(rt; number_between(1, 64, b"0"), Err(LineFault::BadNumber));
+    assert_eq!(rt; number_between(1, 64, b"65"), Err(LineFault::BadNumber));
+    assert_eq!(rt; number_between(1, 64, b"x"), Err(LineFault::BadNumber));
+}
+
+#[test]
+fn the_first_name_that_is_the_word_has_the_value(rt: HostRuntime) {
+    assert_eq!(rt; keyword(&BEASTS, b"cat"), Ok(Beast::Cat));
+    assert_eq!(rt; keyword(&BEASTS, b"dog"), Ok(Beast::Dog));
+    assert_eq!(rt; keyword(&BEASTS, b"do"), Err(LineFault::UnknownWord));
+    assert_eq!(rt; keyword(&BEASTS, b"Cat"), Err(LineFault::UnknownWord));
+}

@@ -1,7 +1,5 @@
 pub mod Commands
-pub mod Cuts
 pub mod Decimals
-pub mod Digits
 pub mod LinesBack
 pub mod LinesRead
 pub mod ReadBack
@@ -9,4 +7,5 @@ pub mod RosterGrows
 pub mod Runs
 pub mod SixWords
 pub mod Spelled
+pub mod Tables
 pub mod Written

@@ -3,5 +3,5 @@ use Rattle.std.specs.Prelude.{◌++◌, ℕ, List, codes, decimal}
 use Rattle.tracer_cli.specs.declared.cause.CaseError.{CaseError}
 use Rattle.tracer_cli.specs.Cause.{cause_name}
 
-abbrev pub refusal_text : CaseError → List ℕ
-refusal_text error = codes "line " ++ (decimal error.line ++ (codes ": " ++ cause_name error.cause))
+abbrev pub case_error_text : CaseError → List ℕ
+case_error_text error = codes "line " ++ (decimal error.line ++ (codes ": " ++ cause_name error.cause))

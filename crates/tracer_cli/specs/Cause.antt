@@ -1,11 +1,11 @@
--- The causes of a refusal: their names, and the cause that a fault of a line or of a roster is told as.
+-- The causes of a refusal: their names, and the cause that a fault of a line or of a roster is reported as.
 use Rattle.std.specs.Prelude.{ℕ, List, codes}
 use Rattle.stop_history.specs.declared.roster.RosterError.{RosterError}
 use Rattle.stop_history.specs.declared.roster.RosterError.TheVariants as fault
 use Rattle.tracer_cli.specs.declared.cause.Cause.{Cause}
 use Rattle.tracer_cli.specs.declared.cause.Cause.TheVariants as cause
-use Rattle.tracer_cli.specs.declared.cause.LineFault.{LineFault}
-use Rattle.tracer_cli.specs.declared.cause.LineFault.TheVariants as line_fault
+use Rattle.text_lines.specs.declared.fault.LineFault.{LineFault}
+use Rattle.text_lines.specs.declared.fault.LineFault.TheVariants as line_fault
 
 abbrev pub line_cause : LineFault → Cause
 line_cause line_fault.UnknownWord = cause.UnknownWord

@@ -5,8 +5,6 @@ pub mod Command
 pub mod Failure
 pub mod File
 pub mod Grammar
-pub mod Lines
-pub mod Numbers
 pub mod Replay
 pub mod Replies
 pub mod Run

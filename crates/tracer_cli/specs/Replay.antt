@@ -1,10 +1,10 @@
 -- The text of a replay file: the replies to its commands from the empty history on, or the file's first fault.
 use Rattle.std.specs.Prelude.{[], ℕ, List, Result, Ok, Err}
 use Rattle.tracer_cli.specs.declared.cause.CaseError.{CaseError}
-use Rattle.tracer_cli.specs.File.{Content, content_of}
+use Rattle.tracer_cli.specs.File.{ReplayContent, content_of}
 use Rattle.tracer_cli.specs.Replies.{replies}
 
-abbrev pub text_from : Result Content CaseError → Result (List ℕ) CaseError
+abbrev pub text_from : Result ReplayContent CaseError → Result (List ℕ) CaseError
 text_from (Ok content) = Ok (replies content.rows [] content.orders)
 text_from (Err error) = Err error
 

@@ -1,4 +1,4 @@
--- A content as a file: one line for each row, then one for each order. Numbers are decimal, one space stands between
+-- A content as a file: one line for each row, then one for each order. Numbers are decimal, one space is between
 -- words, and a line feed ends each line.
 use Rattle.std.specs.Prelude.{◌≡◌, ◌<◌, ◌≤◌, ◌++◌, ◌∷◌, [], ℕ, false, IsTrue, List, length, codes, decimal}
 use Rattle.std.specs.List.{All, join_with_byte}
@@ -15,7 +15,7 @@ use Rattle.tracer_cli.specs.declared.command.Command.{Command}
 use Rattle.tracer_cli.specs.declared.command.Command.TheVariants as command
 use Rattle.tracer_cli.specs.declared.order.Order.{Order}
 use Rattle.tracer_cli.specs.Command.{IsCommand}
-use Rattle.tracer_cli.specs.File.{Content, most_bytes}
+use Rattle.tracer_cli.specs.File.{ReplayContent, most_bytes}
 
 -- ---- words
 
@@ -44,7 +44,8 @@ death_words (death.Signaled signal core) = codes "killed" ∷ decimal signal ∷
 abbrev pub command_words : (tid : ℕ) → Command → List (List ℕ)
 command_words tid (command.Publish stop) = codes "publish" ∷ decimal tid ∷ stop_words stop
 command_words tid (command.Claim tracer) = codes "claim" ∷ decimal tid ∷ decimal tracer ∷ []
-command_words tid (command.Resume tracer how) = codes "resume" ∷ decimal tid ∷ decimal tracer ∷ kind_word how.kind ∷ decimal how.signal ∷ []
+command_words tid (command.Resume tracer how) =
+    codes "resume" ∷ decimal tid ∷ decimal tracer ∷ kind_word how.kind ∷ decimal how.signal ∷ []
 command_words tid (command.Exit death) = codes "exit" ∷ decimal tid ∷ death_words death
 command_words tid command.State = codes "state" ∷ decimal tid ∷ []
 
@@ -66,7 +67,7 @@ abbrev pub orders_text : List Row → List Order → List ℕ
 orders_text rows [] = []
 orders_text rows (order ∷ orders) = line_text (order_words rows order) ++ orders_text rows orders
 
-abbrev pub spelling : Content → List ℕ
+abbrev pub spelling : ReplayContent → List ℕ
 spelling content = rows_text content.rows ++ orders_text content.rows content.orders
 
 -- ---- what can be spelled
@@ -101,7 +102,7 @@ pub record IsOrderOf (rows : List Row) (order : Order) : Type 0 where
   pub spelled : IsSpelled order.command
 
 -- what a file can say
-pub record IsContent (content : Content) : Type 0 where
+pub record IsContent (content : ReplayContent) : Type 0 where
   pub roster : IsRoster content.rows
   pub orders : All (IsOrderOf content.rows) content.orders
   pub size : length (spelling content) ≤ most_bytes

@@ -3,6 +3,7 @@
 ghost use Rattle.std.specs.Prelude.{◌≡◌};
 
 use std::fmt;
+use text_lines::LineFault;
 
 /// What is wrong with a line, in the order in which a line is tested.
 #[derive(Clone, Copy, Debug, PartialEq, Eq, Hash)]
@@ -37,15 +38,7 @@ pub enum Cause {
     NoMemory,
 }
 
-/// What can be wrong with a line by its words alone, whatever stands before it.
-#[derive(Clone, Copy, Debug, PartialEq, Eq)]
-pub enum LineFault {
-    /// `Cause::UnknownWord`.
-    UnknownWord,
-    /// `Cause::BadNumber`.
-    BadNumber,
-}
-
+/// The cause that a fault of a line is reported as.
 impl From<LineFault> for Cause {
     ghost use Rattle.tracer_cli.specs.Cause.{line_cause};
 
@@ -105,9 +98,9 @@ pub struct CaseError {
 
 impl fmt::Display for CaseError {
     ghost use Rattle.std.specs.Prelude.{Some};
-    ghost use Rattle.tracer_cli.specs.CaseError.{refusal_text};
+    ghost use Rattle.tracer_cli.specs.CaseError.{case_error_text};
 
-    ghost output = { λ error. Some (refusal_text error) };
+    ghost output = { λ error. Some (case_error_text error) };
 
     fn fmt<W: fmt::Write>(&self, f: &mut fmt::Formatter<W>) -> fmt::Result {
         let line = self.line;

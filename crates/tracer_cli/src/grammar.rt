@@ -1,16 +1,18 @@
 //! What a line of a replay file says, by its words. All words are looked at before any number.
 
-ghost use Rattle.std.specs.Prelude.{◌≡◌, ◌≤◌, map, IfOk};
+ghost use Rattle.std.specs.Prelude.{◌≡◌, map, IfOk};
 ghost use Rattle.trace_record.specs.Death.{IsDeath};
 ghost use Rattle.trace_record.specs.Stop.{IsStop};
-ghost use Rattle.tracer_cli.specs.Lines.{words_of};
-ghost use Rattle.tracer_cli.specs.Grammar.{IsLine, behind, claim_line, death_of, ending_of, exit_line, id_of, in_place, keyword_of, kind_of, line_of, number_between, numbered_stop, plain_stop, publish_line, publish_numbered, publish_plain, resume_line, row_line, state_line, stop_of, tracer_of};
+ghost use Rattle.text_lines.specs.Lines.{words_in};
+ghost use Rattle.tracer_cli.specs.Grammar.{IsLine, claim_line, death_of, exit_line, id_of, in_place, line_of};
+ghost use Rattle.tracer_cli.specs.Grammar.{publish_line, publish_numbered, publish_plain, rest_of, resume_line};
+ghost use Rattle.tracer_cli.specs.Grammar.{row_line};
+ghost use Rattle.tracer_cli.specs.Grammar.{state_line, stop_of, tracer_of};
 
-use crate::cause::LineFault;
 use crate::command::Command;
-use crate::lines::first_words;
-use crate::numbers::number;
 use stop_board::{LAST_ID, Row, TRACERS};
+use text_lines::{LineFault, first_words, keyword, number_between};
+use trace_options::LAST_SIGNAL;
 use trace_record::{Death, Kind, Resume, Stop};
 
 /// What a line says.
@@ -52,12 +54,48 @@ pub enum Ending {
     Killed,
 }
 
+/// How many words of a line are looked at: one more than any line may have.
+const WORDS_LOOKED_AT: usize = 6;
+
+/// The first words of lines.
+const KEYWORDS: [(&str, Keyword); 6] = [
+    ("row", Keyword::Row),
+    ("publish", Keyword::Publish),
+    ("claim", Keyword::Claim),
+    ("resume", Keyword::Resume),
+    ("exit", Keyword::Exit),
+    ("state", Keyword::State),
+];
+
+/// The stops that are one word.
+const PLAIN_STOPS: [(&str, Stop); 3] = [
+    ("start", Stop::Start),
+    ("enter", Stop::Enter),
+    ("exit", Stop::Exit),
+];
+
+/// The stops that are a word and a number.
+const NUMBERED_STOPS: [(&str, Numbered); 5] = [
+    ("seccomp", Numbered::Seccomp),
+    ("fork", Numbered::Fork),
+    ("clone", Numbered::Clone),
+    ("exec", Numbered::Exec),
+    ("signal", Numbered::Signal),
+];
+
+/// The kinds of restart.
+const KINDS: [(&str, Kind); 2] = [("syscall", Kind::Syscall), ("cont", Kind::Cont)];
+
+/// The words of deaths.
+const ENDINGS: [(&str, Ending); 2] = [("exited", Ending::Exited), ("killed", Ending::Killed)];
+
 /// What a line says, where commands have begun or not, or its first fault.
 pub fn read_line(begun: bool, line: &[u8]) -> Result<Line, LineFault>
-    ensures line { result ≡ line_of begun (words_of line.now) }
+    ensures line { result ≡ line_of begun (words_in line.now) }
     ensures range { IfOk result IsLine }
 {
-    let (words, count) = first_words(line);
+    let mut words: [&[u8]; WORDS_LOOKED_AT] = [&[]; WORDS_LOOKED_AT];
+    let count = first_words(line, &mut words);
     read_words(begun, &words[..count])
 }
 
@@ -70,13 +108,13 @@ fn read_words(begun: bool, words: &[&[u8]]) -> Result<Line, LineFault>
         [] => Ok(Line::Nothing),
         [first, ..] if first.first() == Some(&b'#') => Ok(Line::Nothing),
         [first, words @ ..] => {
-            let keyword = in_place(begun, keyword_of(first)?)?;
-            behind(keyword, words)
+            let keyword = in_place(begun, keyword(&KEYWORDS, first)?)?;
+            rest_of(keyword, words)
         }
     }
 }
 
-/// Rows stand before the first command.
+/// Rows come before the first command.
 fn in_place(begun: bool, keyword: Keyword) -> Result<Keyword, LineFault>
     ensures { result ≡ in_place begun keyword }
 {
@@ -86,8 +124,9 @@ fn in_place(begun: bool, keyword: Keyword) -> Result<Keyword, LineFault>
     }
 }
 
-fn behind(keyword: Keyword, words: &[&[u8]]) -> Result<Line, LineFault>
-    ensures line { result ≡ behind keyword (map (λ w. w.now) words.now) }
+/// What a line says, by the words after its first one.
+fn rest_of(keyword: Keyword, words: &[&[u8]]) -> Result<Line, LineFault>
+    ensures line { result ≡ rest_of keyword (map (λ w. w.now) words.now) }
     ensures range { IfOk result IsLine }
 {
     match keyword {
@@ -142,11 +181,12 @@ fn row_line(tid: &[u8], tgid: &[u8], pgid: &[u8], parent: &[u8]) -> Result<Line,
     }))
 }
 
+#[tactic(auto, using(crate::proofs::Tables::plain_range))]
 fn publish_plain(tid: &[u8], name: &[u8]) -> Result<Line, LineFault>
     ensures line { result ≡ publish_plain tid.now name.now }
     ensures range { IfOk result IsLine }
 {
-    let stop = plain_stop(name)?;
+    let stop = keyword(&PLAIN_STOPS, name)?;
     let tid = id(tid)?;
     Ok(Line::Command(tid, Command::Publish(stop)))
 }
@@ -155,7 +195,7 @@ fn publish_numbered(tid: &[u8], name: &[u8], number: &[u8]) -> Result<Line, Line
     ensures line { result ≡ publish_numbered tid.now name.now number.now }
     ensures range { IfOk result IsLine }
 {
-    let name = numbered_stop(name)?;
+    let name = keyword(&NUMBERED_STOPS, name)?;
     let tid = id(tid)?;
     let stop = stop_of(name, number)?;
     Ok(Line::Command(tid, Command::Publish(stop)))
@@ -174,10 +214,10 @@ fn resume_line(tid: &[u8], tracer: &[u8], kind: &[u8], signal: &[u8]) -> Result<
     ensures line { result ≡ resume_line tid.now tracer.now kind.now signal.now }
     ensures range { IfOk result IsLine }
 {
-    let kind = kind_of(kind)?;
+    let kind = keyword(&KINDS, kind)?;
     let tid = id(tid)?;
     let tracer = tracer_of(tracer)?;
-    let signal = number_between(0, 64, signal)? as u8;
+    let signal = number_between(0, u64::from(LAST_SIGNAL), signal)? as u8;
     Ok(Line::Command(tid, Command::Resume(tracer, Resume { kind, signal })))
 }
 
@@ -185,7 +225,7 @@ fn exit_line(tid: &[u8], how: &[u8], number: &[u8]) -> Result<Line, LineFault>
     ensures line { result ≡ exit_line tid.now how.now number.now }
     ensures range { IfOk result IsLine }
 {
-    let how = ending_of(how)?;
+    let how = keyword(&ENDINGS, how)?;
     let tid = id(tid)?;
     let death = death_of(how, number)?;
     Ok(Line::Command(tid, Command::Exit(death)))
@@ -208,7 +248,9 @@ fn stop_of(name: Numbered, number: &[u8]) -> Result<Stop, LineFault>
         Numbered::Fork => Ok(Stop::Fork(id(number)?)),
         Numbered::Clone => Ok(Stop::Clone(id(number)?)),
         Numbered::Exec => Ok(Stop::Exec(id(number)?)),
-        Numbered::Signal => Ok(Stop::Signal(number_between(1, 64, number)? as u8)),
+        Numbered::Signal => Ok(Stop::Signal(
+            number_between(1, u64::from(LAST_SIGNAL), number)? as u8,
+        )),
     }
 }
 
@@ -219,7 +261,7 @@ fn death_of(how: Ending, number: &[u8]) -> Result<Death, LineFault>
     match how {
         Ending::Exited => Ok(Death::Exited(number_between(0, 255, number)? as u8)),
         Ending::Killed => {
-            let signal = number_between(1, 64, number)? as u8;
+            let signal = number_between(1, u64::from(LAST_SIGNAL), number)? as u8;
             Ok(Death::Signaled {
                 signal,
                 core: false,
@@ -240,92 +282,4 @@ fn tracer_of(word: &[u8]) -> Result<u8, LineFault>
     ensures { result ≡ tracer_of word.now }
 {
     Ok(number_between(0, u64::from(TRACERS) - 1, word)? as u8)
-}
-
-/// A number from `low` to `high`.
-fn number_between(low: u64, high: u64, word: &[u8]) -> Result<u64, LineFault>
-    ensures number { result ≡ number_between low high word.now }
-    ensures range { IfOk result (λ n. (low ≤ n) × (n ≤ high)) }
-{
-    match number(word) {
-        Some(n) if low <= n && n <= high => Ok(n),
-        _ => Err(LineFault::BadNumber),
-    }
-}
-
-fn keyword_of(word: &[u8]) -> Result<Keyword, LineFault>
-    ensures { result ≡ keyword_of word.now }
-{
-    if word == b"row".as_slice() {
-        Ok(Keyword::Row)
-    } else if word == b"publish".as_slice() {
-        Ok(Keyword::Publish)
-    } else if word == b"claim".as_slice() {
-        Ok(Keyword::Claim)
-    } else if word == b"resume".as_slice() {
-        Ok(Keyword::Resume)
-    } else if word == b"exit".as_slice() {
-        Ok(Keyword::Exit)
-    } else if word == b"state".as_slice() {
-        Ok(Keyword::State)
-    } else {
-        Err(LineFault::UnknownWord)
-    }
-}
-
-fn plain_stop(word: &[u8]) -> Result<Stop, LineFault>
-    ensures value { result ≡ plain_stop word.now }
-    ensures range { IfOk result IsStop }
-{
-    if word == b"start".as_slice() {
-        Ok(Stop::Start)
-    } else if word == b"enter".as_slice() {
-        Ok(Stop::Enter)
-    } else if word == b"exit".as_slice() {
-        Ok(Stop::Exit)
-    } else {
-        Err(LineFault::UnknownWord)
-    }
-}
-
-fn numbered_stop(word: &[u8]) -> Result<Numbered, LineFault>
-    ensures { result ≡ numbered_stop word.now }
-{
-    if word == b"seccomp".as_slice() {
-        Ok(Numbered::Seccomp)
-    } else if word == b"fork".as_slice() {
-        Ok(Numbered::Fork)
-    } else if word == b"clone".as_slice() {
-        Ok(Numbered::Clone)
-    } else if word == b"exec".as_slice() {
-        Ok(Numbered::Exec)
-    } else if word == b"signal".as_slice() {
-        Ok(Numbered::Signal)
-    } else {
-        Err(LineFault::UnknownWord)
-    }
-}
-
-fn kind_of(word: &[u8]) -> Result<Kind, LineFault>
-    ensures { result ≡ kind_of word.now }
-{
-    if word == b"syscall".as_slice() {
-        Ok(Kind::Syscall)
-    } else if word == b"cont".as_slice() {
-        Ok(Kind::Cont)
-    } else {
-        Err(LineFault::UnknownWord)
-    }
-}
-
-fn ending_of(word: &[u8]) -> Result<Ending, LineFault>
-    ensures { result ≡ ending_of word.now }
-{
-    if word == b"exited".as_slice() {
-        Ok(Ending::Exited)
-    } else if word == b"killed".as_slice() {
-        Ok(Ending::Killed)
-    } else {
-        Err(LineFault::UnknownWord)
-    }
 }

@@ -8,8 +8,6 @@ mod entry;
 mod failure;
 mod grammar;
 mod laws;
-mod lines;
-mod numbers;
 mod order;
 mod reading;
 mod replay;

@@ -1,9 +1,10 @@
 use Rattle.std.proofs.Common.{◌∙◌, ap}
 use Rattle.tracer_cli.specs.Grammar.{line_of}
-use Rattle.tracer_cli.specs.Lines.{words_of}
+use Rattle.text_lines.specs.Lines.{words_in}
 use Rattle.tracer_cli.proofs.SixWords.{first_six}
 use Rattle.tracer_cli.proofs.grammar.read_line.Goals as goal
 
 pub returns-clause-line : goal.returns-clause-line
 returns-clause-line c =
-    c.read_words.ensures.line ∙ ap (line_of c.args.begun) c.first_words-count.ensures.words ∙ first_six c.args.begun (words_of c.args.line.now)
+    c.read_words.ensures.line ∙ ap (line_of c.args.begun) c.first_words-count.ensures.words
+    ∙ first_six c.args.begun (words_in c.args.line.now)

@@ -3,7 +3,7 @@ use Rattle.stop_history.specs.Roster.{first_fault}
 use Rattle.stop_history.specs.declared.limits.TheConstants.{MOST_ROWS}
 use Rattle.tracer_cli.specs.Command.{IsOrder}
 use Rattle.tracer_cli.specs.File.{content_after, nothing}
-use Rattle.tracer_cli.specs.Lines.{lines_of}
+use Rattle.text_lines.specs.Lines.{lines_of}
 use Rattle.tracer_cli.proofs.reading.read_lines.Given as goal
 
 -- what the lines left make of the content so far is what all lines make of nothing
@@ -15,7 +15,8 @@ invariant-loop-rest g l = record {
   few : vec_len l.rows ≤ MOST_ROWS;
   roster : first_fault [] l.rows.items ≡ None;
   range : All IsOrder l.orders.items;
-  read : content_after l.number (record { rows = l.rows.items; orders = l.orders.items }) (lines_of l.rest) ≡ content_after 1 nothing (lines_of l.text);
+  read : content_after l.number (record { rows = l.rows.items; orders = l.orders.items })
+      (lines_of l.rest) ≡ content_after 1 nothing (lines_of l.text);
 }
 
 abbrev pub decreases-loop-rest : goal.decreases-loop-rest

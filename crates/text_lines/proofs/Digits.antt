@@ -1,5 +1,7 @@
 -- What is too large stays so, however many digits follow.
-use Rattle.std.proofs.Common.{refl, ◌≡◌, ◌+◌, ◌*◌, ◌^◌, ◌<◌, ◌≤◌, ◌∷◌, [], ℕ, Bool, true, false, List, Option, Some, None, cond, arith, le-ltb, lt-ltb, nat_lt, suc, length, get_or, drop, drop-cons, if◌then◌else◌, ap, sym, ◌∙◌, inl, inr, mul-le-mul_left}
+use Rattle.std.proofs.Common.{refl, ◌≡◌, ◌+◌, ◌*◌, ◌^◌, ◌<◌, ◌≤◌, ◌∷◌, [], ℕ, Bool, true, false, List, Option, Some}
+use Rattle.std.proofs.Common.{None, cond, arith, le-ltb, lt-ltb, nat_lt, suc, length, get_or, drop, drop-cons}
+use Rattle.std.proofs.Common.{if◌then◌else◌, ap, sym, ◌∙◌, inl, inr, mul-le-mul_left}
 use Rattle.std.proofs.lemmas.Bool.{cases_lt}
 use Rattle.std.proofs.lemmas.Option.{cond_some}
 use Rattle.std.specs.Char.{digit_value}
@@ -34,13 +36,16 @@ overflown n h =
 
 -- a digit that takes the number past 64 bits takes all of the digits past them
 pub too_large_here : (base n k : ℕ) (digits : List ℕ) (digit : ℕ) → 1 ≤ base → k < length digits
-    → (if nat_lt (digit_value (get_or digits k 0)) base then Some (digit_value (get_or digits k 0)) else None) ≡ Some digit
+    → (if nat_lt (digit_value (get_or digits k 0)) base then Some (digit_value (get_or digits k 0)) else None)
+    ≡ Some digit
     → within_u64 (Some (n * base + digit)) ≡ None
     → within_u64 (digits_after base n (drop k digits)) ≡ within_u64 (numeral base digits)
     → within_u64 (numeral base digits) ≡ None
 too_large_here base n k digits digit some within is over so_far =
     let told = cond_some (nat_lt (digit_value (get_or digits k 0)) base) (digit_value (get_or digits k 0)) digit is in
     let read : digits_after base n (drop k digits) ≡ digits_after base (n * base + digit) (drop (suc k) digits) =
-    ap (digits_after base n) (drop-cons digits k 0 within) ∙ rw told.0 (ap (λ d. digits_after base (n * base + d) (drop (suc k) digits)) told.1) in
+    ap (digits_after base n) (drop-cons digits k 0 within)
+    ∙ rw told.0 (ap (λ d. digits_after base (n * base + d) (drop (suc k) digits)) told.1) in
     sym so_far ∙ ap within_u64 read
-    ∙ too_large (n * base + digit) (digits_after base (n * base + digit) (drop (suc k) digits)) (overflown (n * base + digit) over) (grows base (n * base + digit) (drop (suc k) digits) some)
+    ∙ too_large (n * base + digit) (digits_after base (n * base + digit) (drop (suc k) digits))
+    (overflown (n * base + digit) over) (grows base (n * base + digit) (drop (suc k) digits) some)

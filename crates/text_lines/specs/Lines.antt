@@ -14,14 +14,14 @@ without_empty_end [] = []
 without_empty_end (part ∷ []) = filled part
 without_empty_end (part ∷ next ∷ parts) = part ∷ without_empty_end (next ∷ parts)
 
--- what stands between line feeds, without an empty end
+-- what is between line feeds, without an empty end
 abbrev pub lines_of : List ℕ → List (List ℕ)
 lines_of text = without_empty_end (slice_split (λ b. b == 10) text)
 
 abbrev pub has_letters : List ℕ → Bool
 has_letters word = nat_lt 0 (length word)
 
--- what stands between spaces and has letters
+-- what is between spaces and has letters
 abbrev pub words_in : List ℕ → List (List ℕ)
 words_in line = filter has_letters (slice_split (λ b. b == 32) line)
 

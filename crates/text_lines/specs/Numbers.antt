@@ -4,10 +4,11 @@ use Rattle.std.specs.Prelude.{◌==◌, ◌&&◌, ◌+◌, ◌*◌, ◌^◌, ◌
 use Rattle.std.specs.Prelude.{List, drop, Option, Some, None, if◌then◌else◌, slice_index}
 use Rattle.std.specs.Char.{digit_value}
 
--- the number that digits of a base write behind those of n, if all of them are digits
+-- the number that digits of a base write after those of n, if all of them are digits
 abbrev pub digits_after : (base n : ℕ) → List ℕ → Option ℕ
 digits_after base n [] = Some n
-digits_after base n (c ∷ cs) = if nat_lt (digit_value c) base then digits_after base (n * base + digit_value c) cs else None
+digits_after base n (c ∷ cs) =
+    if nat_lt (digit_value c) base then digits_after base (n * base + digit_value c) cs else None
 
 -- the number that one digit or more write
 abbrev pub numeral : ℕ → List ℕ → Option ℕ
@@ -40,4 +41,5 @@ abbrev pub is_negative : List ℕ → Bool
 is_negative word = slice_index word 0 == 45
 
 abbrev pub integer_of : List ℕ → Option ℤ
-integer_of word = if is_negative word then negated_integer (numeral 10 (drop 1 word)) else plain_integer (numeral 10 word)
+integer_of word =
+    if is_negative word then negated_integer (numeral 10 (drop 1 word)) else plain_integer (numeral 10 word)

@@ -1,5 +1,5 @@
-//! What files of lines have in common, whatever their lines say: a line cut off a text, the words of a line, numbers and
-//! keywords as words. It knows no format: which words a line has, and what they mean, is for those that use it.
+//! What files of lines have in common, whatever their lines say: a line cut off a text, the words of a line, numbers
+//! and keywords as words. It knows no format: which words a line has, and what they mean, is for those that use it.
 #![tactic(auto)]
 
 mod fault;

@@ -1,6 +1,7 @@
 //! The lines of a file and the words of a line, as slices of it.
 
-ghost use Rattle.std.specs.Prelude.{◌≡◌, ◌≢◌, ◌==◌, ◌<◌, ◌≤◌, ◌∷◌, [], length, map, position, slice_index, MatchOption, drop, take};
+ghost use Rattle.std.specs.Prelude.{◌≡◌, ◌≢◌, ◌==◌, ◌<◌, ◌≤◌, ◌∷◌, [], length, map, position, slice_index};
+ghost use Rattle.std.specs.Prelude.{MatchOption, drop, take};
 ghost use Rattle.text_lines.specs.Lines.{lines_of, words_in};
 
 /// The first line of a text that is not empty, without its line feed, and what follows it. The last line may lack the
@@ -24,9 +25,9 @@ fn line_feed(text: &[u8]) -> Option<usize>
     text.iter().position(|b| *b == b'\n')
 }
 
-/// Puts the first words of a line into `words`, as many as there is room for, and returns how many there are; the other
-/// places stay as they were. To tell a line of too many words from one that has as many as it may, a format has room for
-/// one more than it allows.
+/// Puts the first words of a line into `words`, as many as there is room for, and returns how many there are; the
+/// other places stay as they were. To find a line of too many words, a format has room for one more than it allows.
+#[inline(never)]
 pub fn first_words<'a>(line: &'a [u8], words: &mut [&'a [u8]]) -> usize
     ensures few { result ≤ length words.old }
     ensures words { map (λ w. w.now) (take result words.new) ≡ take (length words.old) (words_in line.now) }

@@ -17,8 +17,8 @@ pub fn number(word: &[u8]) -> Option<u64>
     }
 }
 
-/// The number that a word writes, with its sign: decimal digits, or `-` and decimal digits, from -2^63 to 2^63 - 1. It is
-/// never hexadecimal, and has no `+`.
+/// The number that a word writes, with its sign: decimal digits, or `-` and decimal digits, from -2^63 to 2^63 - 1. It
+/// is never hexadecimal, and has no `+`.
 pub fn integer(word: &[u8]) -> Option<i64>
     ensures { result ≡ integer_of word.now }
 {
@@ -87,7 +87,7 @@ fn digit(base: u64, c: u8) -> Option<u64>
     }
 }
 
-/// The number with one more digit behind it, if it fits 64 bits.
+/// The number with one more digit after it, if it fits 64 bits.
 fn shifted(base: u64, n: u64, digit: u64) -> Option<u64>
     ensures { result ≡ within_u64 (Some (n * base + digit)) }
 {

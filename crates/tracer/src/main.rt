@@ -3,23 +3,18 @@
 
 use std::process::ExitCode;
 use std::{env, io};
-use tracer_cli::{arguments_failure, program};
+use tracer_cli::process;
 
 /// An error that `main` returned would end the program with status 1, which says that the file is refused. So it
 /// uses no `?`.
 fn main(rt: HostRuntime) -> ExitCode {
-    let mut errors = rt.stderr();
-    let status = match words(&rt) {
-        Ok(words) => program(
-            &rt,
-            words.as_slice(),
-            &mut rt.stdin(),
-            &mut rt.stdout(),
-            &mut errors,
-        ),
-        Err(error) => arguments_failure(&error).tell(&mut errors),
-    };
-    ExitCode::from(status)
+    ExitCode::from(process(
+        &rt,
+        words(&rt),
+        &mut rt.stdin(),
+        &mut rt.stdout(),
+        &mut rt.stderr(),
+    ))
 }
 
 /// The command line, the program's name first.

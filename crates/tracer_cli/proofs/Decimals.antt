@@ -1,5 +1,7 @@
 -- What `decimal` writes is a word, and is read as its number.
-use Rattle.std.proofs.Common.{refl, ◌≡◌, ◌+◌, ◌*◌, ◌^◌, ◌<◌, ◌≤◌, ◌&&◌, ◌∷◌, [], ℕ, Bool, true, false, nat_lt, nat_le, List, Some, None, Ok, length, drop, cond, arith, eqb, ne_eqb, lt-ltb, le-leb, decimal, ap, ◌∙◌}
+use Rattle.std.proofs.Common.{refl, ◌≡◌, ◌+◌, ◌*◌, ◌^◌, ◌<◌, ◌≤◌, ◌&&◌, ◌∷◌, [], ℕ, Bool, true, false, nat_lt, nat_le}
+use Rattle.std.proofs.Common.{List, Some, None, Ok, length, drop, cond, arith, eqb, ne_eqb, lt-ltb, le-leb, decimal}
+use Rattle.std.proofs.Common.{ap, ◌∙◌}
 use Rattle.std.proofs.lemmas.Bool.{and_from}
 use Rattle.std.proofs.lemmas.Fmt.{decimal_is_IsNumeral}
 use Rattle.std.proofs.lemmas.Str.Parse.{digit_from_value}
@@ -19,7 +21,8 @@ digits_above (d ∷ ds) h =
 pub decimal_is_word : (n : ℕ) → n < 2 ^ 64 → is_word (decimal n) ≡ true
 decimal_is_word n small =
     let numeral = (decimal_is_IsNumeral n small).0 in
-    and_from (has_letters (decimal n)) (all_above (decimal n)) (lt-ltb 0 (length (decimal n)) numeral.0) (digits_above (decimal n) numeral.1)
+    and_from (has_letters (decimal n)) (all_above (decimal n)) (lt-ltb 0 (length (decimal n)) numeral.0)
+    (digits_above (decimal n) numeral.1)
 
 neither : (b c : Bool) → c ≡ false → (b && c) ≡ false
 neither true c h = h
@@ -47,7 +50,8 @@ numeral_read (d ∷ ds) h = digits_read 0 (d ∷ ds) h.1
 pub decimal_read : (n : ℕ) → n < 2 ^ 64 → number_of (decimal n) ≡ Some n
 decimal_read n small =
     let known = decimal_is_IsNumeral n small in
-    ap (λ b. within_u64 (cond b (numeral 16 (drop 2 (decimal n))) (numeral 10 (decimal n)))) (not_hex (decimal n) known.0.1)
+    ap (λ b. within_u64 (cond b (numeral 16 (drop 2 (decimal n))) (numeral 10 (decimal n))))
+    (not_hex (decimal n) known.0.1)
     ∙ ap within_u64 (numeral_read (decimal n) known.0 ∙ ap Some known.1)
     ∙ ap (λ b. cond b (Some n) None) (lt-ltb n (2 ^ 64) small)
 

@@ -1,5 +1,7 @@
 -- The words of each row and each command say that row and that command.
-use Rattle.std.proofs.Common.{refl, ◌≡◌, ◌^◌, ◌<◌, ◌≤◌, ◌&&◌, ◌||◌, ℕ, Bool, true, false, not, Option, Some, None, List, Ok, length, arith, cond, eqb, eqb-true, le-leb, leb-true, nat_le, codes, decimal, is_some, ap, sym, ◌∙◌, inl, inr, ◌⊎◌, ◌-◌, lit<}
+use Rattle.std.proofs.Common.{refl, ◌≡◌, ◌^◌, ◌<◌, ◌≤◌, ◌&&◌, ◌||◌, ℕ, Bool, true, false, not, Option, Some, None}
+use Rattle.std.proofs.Common.{List, Ok, length, arith, cond, eqb, eqb-true, le-leb, leb-true, nat_le, codes, decimal}
+use Rattle.std.proofs.Common.{is_some, ap, sym, ◌∙◌, inl, inr, ◌⊎◌, ◌-◌, lit<}
 use Rattle.std.proofs.lemmas.Bool.{and_from, and_parts, not-false, or_cases}
 use Rattle.trace_record.specs.declared.stop.Stop.{Stop}
 use Rattle.trace_record.specs.declared.stop.Stop.TheVariants as stop
@@ -18,7 +20,8 @@ use Rattle.tracer_cli.specs.declared.grammar.Line.TheVariants as line
 use Rattle.tracer_cli.specs.declared.grammar.Numbered.{Numbered}
 use Rattle.tracer_cli.specs.declared.grammar.Numbered.TheVariants as numbered
 use Rattle.tracer_cli.specs.Command.{IsCommand}
-use Rattle.tracer_cli.specs.Grammar.{claim_line, exit_line, id_of, kind_of, line_of, numbered_stop, plain_stop, publish_numbered}
+use Rattle.tracer_cli.specs.Grammar.{claim_line, exit_line, id_of, kind_of, line_of, numbered_stop, plain_stop}
+use Rattle.tracer_cli.specs.Grammar.{publish_numbered}
 use Rattle.tracer_cli.specs.Grammar.{publish_plain, resume_line, row_line, state_line, stop_of, tracer_of}
 use Rattle.text_lines.specs.Ranges.{◌>>=◌, number_between}
 use Rattle.trace_options.specs.declared.signal.TheConstants.{LAST_SIGNAL}
@@ -29,7 +32,8 @@ use Rattle.tracer_cli.proofs.Spelled.{AreWords, is_word}
 -- ---- ids
 
 id_ends : (n : ℕ) → is_id n ≡ true → (1 ≤ n) × (n ≤ LAST_ID)
-id_ends n id = let ends = and_parts (nat_le 1 n) (nat_le n LAST_ID) id in (leb-true 1 n ends.0, leb-true n LAST_ID ends.1)
+id_ends n id = let ends = and_parts (nat_le 1 n) (nat_le n LAST_ID) id in
+    (leb-true 1 n ends.0, leb-true n LAST_ID ends.1)
 
 pub ends_id : (n : ℕ) → 1 ≤ n → n ≤ LAST_ID → is_id n ≡ true
 ends_id n least most = and_from (nat_le 1 n) (nat_le n LAST_ID) (le-leb 1 n least) (le-leb n LAST_ID most)
@@ -78,56 +82,84 @@ passed false fault rest h = refl
 -- a row without a fault has its ids in range
 pub row_ranges : (before : List Row) (row : Row) → fault_after before row ≡ None → HasRanges row
 row_ranges before row h =
-    ranges row (not-false (has_ids row) (passed (not (has_ids row)) (fault.Number (length before)) (cond (is_some (with_tid before row.tid)) (Some (fault.Twice (length before))) (family_fault (length before) row (parent_in before row))) h))
+    ranges row
+    (not-false (has_ids row)
+    (passed (not (has_ids row)) (fault.Number (length before))
+    (cond (is_some (with_tid before row.tid)) (Some (fault.Twice (length before)))
+    (family_fault (length before) row (parent_in before row))) h))
 
-row_said : (a b c d : List ℕ) (row : Row) → id_of a ≡ Ok row.tid → id_of b ≡ Ok row.tgid → id_of c ≡ Ok row.pgid → number_between 0 LAST_ID d ≡ Ok row.parent → row_line a b c d ≡ Ok (line.Row row)
+row_said : (a b c d : List ℕ) (row : Row) → id_of a ≡ Ok row.tid → id_of b ≡ Ok row.tgid → id_of c ≡ Ok row.pgid
+    → number_between 0 LAST_ID d ≡ Ok row.parent → row_line a b c d ≡ Ok (line.Row row)
 row_said a b c d row t g p q =
-    ap (λ r. r >>= λ t. id_of b >>= λ g. id_of c >>= λ p. number_between 0 LAST_ID d >>= λ q. Ok (line.Row (record { tid = t; tgid = g; pgid = p; parent = q }))) t
-    ∙ ap (λ r. r >>= λ g. id_of c >>= λ p. number_between 0 LAST_ID d >>= λ q. Ok (line.Row (record { tid = row.tid; tgid = g; pgid = p; parent = q }))) g
-    ∙ ap (λ r. r >>= λ p. number_between 0 LAST_ID d >>= λ q. Ok (line.Row (record { tid = row.tid; tgid = row.tgid; pgid = p; parent = q }))) p
+    ap (λ r. r >>= λ t. id_of b >>= λ g. id_of c >>= λ p. number_between 0 LAST_ID d >>= λ q. Ok
+    (line.Row (record { tid = t; tgid = g; pgid = p; parent = q }))) t
+    ∙ ap (λ r. r >>= λ g. id_of c >>= λ p. number_between 0 LAST_ID d >>= λ q. Ok
+    (line.Row (record { tid = row.tid; tgid = g; pgid = p; parent = q }))) g
+    ∙ ap (λ r. r >>= λ p. number_between 0 LAST_ID d >>= λ q. Ok
+    (line.Row (record { tid = row.tid; tgid = row.tgid; pgid = p; parent = q }))) p
     ∙ ap (λ r. r >>= λ q. Ok (line.Row (record { tid = row.tid; tgid = row.tgid; pgid = row.pgid; parent = q }))) q
 
 pub row_line_read : (row : Row) → HasRanges row → line_of false (row_words row) ≡ Ok (line.Row row)
 row_line_read row has =
-    row_said (decimal row.tid) (decimal row.tgid) (decimal row.pgid) (decimal row.parent) row (id_read row.tid has.tid) (id_read row.tgid has.tgid) (id_read row.pgid has.pgid)
+    row_said (decimal row.tid) (decimal row.tgid) (decimal row.pgid) (decimal row.parent) row
+    (id_read row.tid has.tid) (id_read row.tgid has.tgid) (id_read row.pgid has.pgid)
     (decimal_between 0 LAST_ID row.parent (omega arith) has.parent (lit< tt))
 
 pub row_are_words : (row : Row) → HasRanges row → AreWords (row_words row)
-row_are_words row has = (refl, (id_word row.tid has.tid, (id_word row.tgid has.tgid, (id_word row.pgid has.pgid, (up_to_last row.parent has.parent, tt)))))
+row_are_words row has = (
+  refl,
+  (
+    id_word row.tid has.tid,
+    (id_word row.tgid has.tgid, (id_word row.pgid has.pgid, (up_to_last row.parent has.parent, tt))),
+  ),
+)
 
 -- ---- commands
 
-plain_said : (tid name : List ℕ) (t : ℕ) (s : Stop) → id_of tid ≡ Ok t → plain_stop name ≡ Ok s → publish_plain tid name ≡ Ok (line.Command t (command.Publish s))
+plain_said : (tid name : List ℕ) (t : ℕ) (s : Stop) → id_of tid ≡ Ok t → plain_stop name ≡ Ok s
+    → publish_plain tid name ≡ Ok (line.Command t (command.Publish s))
 plain_said tid name t s id is =
     ap (λ r. r >>= λ s. id_of tid >>= λ t. Ok (line.Command t (command.Publish s))) is
     ∙ ap (λ r. r >>= λ t. Ok (line.Command t (command.Publish s))) id
 
-numbered_said : (tid name number : List ℕ) (w : Numbered) (t : ℕ) (s : Stop) → id_of tid ≡ Ok t → numbered_stop name ≡ Ok w → stop_of w number ≡ Ok s → publish_numbered tid name number ≡ Ok (line.Command t (command.Publish s))
+numbered_said : (tid name number : List ℕ) (w : Numbered) (t : ℕ) (s : Stop) → id_of tid ≡ Ok t
+    → numbered_stop name ≡ Ok w → stop_of w number ≡ Ok s
+    → publish_numbered tid name number ≡ Ok (line.Command t (command.Publish s))
 numbered_said tid name number w t s id is says =
     ap (λ r. r >>= λ w. id_of tid >>= λ t. stop_of w number >>= λ s. Ok (line.Command t (command.Publish s))) is
     ∙ ap (λ r. r >>= λ t. stop_of w number >>= λ s. Ok (line.Command t (command.Publish s))) id
     ∙ ap (λ r. r >>= λ s. Ok (line.Command t (command.Publish s))) says
 
-claim_said : (tid tracer : List ℕ) (t c : ℕ) → id_of tid ≡ Ok t → tracer_of tracer ≡ Ok c → claim_line tid tracer ≡ Ok (line.Command t (command.Claim c))
+claim_said : (tid tracer : List ℕ) (t c : ℕ) → id_of tid ≡ Ok t → tracer_of tracer ≡ Ok c
+    → claim_line tid tracer ≡ Ok (line.Command t (command.Claim c))
 claim_said tid tracer t c id is =
     ap (λ r. r >>= λ t. tracer_of tracer >>= λ c. Ok (line.Command t (command.Claim c))) id
     ∙ ap (λ r. r >>= λ c. Ok (line.Command t (command.Claim c))) is
 
-resume_said : (tid tracer name signal : List ℕ) (t c : ℕ) (how : Resume) → id_of tid ≡ Ok t → tracer_of tracer ≡ Ok c → kind_of name ≡ Ok how.kind → number_between 0 LAST_SIGNAL signal ≡ Ok how.signal → resume_line tid tracer name signal ≡ Ok (line.Command t (command.Resume c how))
+resume_said : (tid tracer name signal : List ℕ) (t c : ℕ) (how : Resume) → id_of tid ≡ Ok t → tracer_of tracer ≡ Ok c
+    → kind_of name ≡ Ok how.kind → number_between 0 LAST_SIGNAL signal ≡ Ok how.signal
+    → resume_line tid tracer name signal ≡ Ok (line.Command t (command.Resume c how))
 resume_said tid tracer name signal t c how id is kind handed =
-    ap (λ r. r >>= λ k. id_of tid >>= λ t. tracer_of tracer >>= λ c. number_between 0 LAST_SIGNAL signal >>= λ s. Ok (line.Command t (command.Resume c (record { kind = k; signal = s })))) kind
-    ∙ ap (λ r. r >>= λ t. tracer_of tracer >>= λ c. number_between 0 LAST_SIGNAL signal >>= λ s. Ok (line.Command t (command.Resume c (record { kind = how.kind; signal = s })))) id
-    ∙ ap (λ r. r >>= λ c. number_between 0 LAST_SIGNAL signal >>= λ s. Ok (line.Command t (command.Resume c (record { kind = how.kind; signal = s })))) is
+    ap (λ r. r >>= λ k. id_of tid >>= λ t. tracer_of tracer >>= λ c. number_between 0 LAST_SIGNAL signal >>= λ s. Ok
+    (line.Command t (command.Resume c (record { kind = k; signal = s })))) kind
+    ∙ ap (λ r. r >>= λ t. tracer_of tracer >>= λ c. number_between 0 LAST_SIGNAL signal >>= λ s. Ok
+    (line.Command t (command.Resume c (record { kind = how.kind; signal = s })))) id
+    ∙ ap (λ r. r >>= λ c. number_between 0 LAST_SIGNAL signal >>= λ s. Ok
+    (line.Command t (command.Resume c (record { kind = how.kind; signal = s })))) is
     ∙ ap (λ r. r >>= λ s. Ok (line.Command t (command.Resume c (record { kind = how.kind; signal = s })))) handed
 
-exited_said : (tid number : List ℕ) (t n : ℕ) → id_of tid ≡ Ok t → number_between 0 255 number ≡ Ok n → exit_line tid (codes "exited") number ≡ Ok (line.Command t (command.Exit (death.Exited n)))
+exited_said : (tid number : List ℕ) (t n : ℕ) → id_of tid ≡ Ok t → number_between 0 255 number ≡ Ok n
+    → exit_line tid (codes "exited") number ≡ Ok (line.Command t (command.Exit (death.Exited n)))
 exited_said tid number t n id is =
-    ap (λ r. r >>= λ t. (number_between 0 255 number >>= λ n. Ok (death.Exited n)) >>= λ d. Ok (line.Command t (command.Exit d))) id
+    ap (λ r. r >>= λ t. (number_between 0 255 number >>= λ n. Ok (death.Exited n)) >>= λ d. Ok
+    (line.Command t (command.Exit d))) id
     ∙ ap (λ r. (r >>= λ n. Ok (death.Exited n)) >>= λ d. Ok (line.Command t (command.Exit d))) is
 
-killed_said : (tid number : List ℕ) (t n : ℕ) → id_of tid ≡ Ok t → number_between 1 LAST_SIGNAL number ≡ Ok n → exit_line tid (codes "killed") number ≡ Ok (line.Command t (command.Exit (death.Signaled n false)))
+killed_said : (tid number : List ℕ) (t n : ℕ) → id_of tid ≡ Ok t → number_between 1 LAST_SIGNAL number ≡ Ok n
+    → exit_line tid (codes "killed") number ≡ Ok (line.Command t (command.Exit (death.Signaled n false)))
 killed_said tid number t n id is =
-    ap (λ r. r >>= λ t. (number_between 1 LAST_SIGNAL number >>= λ n. Ok (death.Signaled n false)) >>= λ d. Ok (line.Command t (command.Exit d))) id
+    ap (λ r. r >>= λ t. (number_between 1 LAST_SIGNAL number >>= λ n. Ok (death.Signaled n false)) >>= λ d. Ok
+    (line.Command t (command.Exit d))) id
     ∙ ap (λ r. (r >>= λ n. Ok (death.Signaled n false)) >>= λ d. Ok (line.Command t (command.Exit d))) is
 
 state_said : (tid : List ℕ) (t : ℕ) → id_of tid ≡ Ok t → state_line tid ≡ Ok (line.Command t command.State)
@@ -144,37 +176,50 @@ kind_is_word kind.Cont = refl
 id_stop : (w : ℕ → Stop) (n : ℕ) → is_id n ≡ true → (id_of (decimal n) >>= λ n. Ok (w n)) ≡ Ok (w n)
 id_stop w n id = ap (λ r. r >>= λ n. Ok (w n)) (id_read n id)
 
-range_stop : (w : ℕ → Stop) (low high n : ℕ) → low ≤ n → n ≤ high → high < 2 ^ 64 → (number_between low high (decimal n) >>= λ n. Ok (w n)) ≡ Ok (w n)
+range_stop : (w : ℕ → Stop) (low high n : ℕ) → low ≤ n → n ≤ high → high < 2 ^ 64
+    → (number_between low high (decimal n) >>= λ n. Ok (w n)) ≡ Ok (w n)
 range_stop w low high n least most small = ap (λ r. r >>= λ n. Ok (w n)) (decimal_between low high n least most small)
 
 -- the words of a command say it
-command_read : (tid : ℕ) (c : Command) → is_id tid ≡ true → IsCommand c → IsSpelled c → line_of false (command_words tid c) ≡ Ok (line.Command tid c)
-command_read tid (command.Publish stop.Start) id range spelled = plain_said (decimal tid) (codes "start") tid stop.Start (id_read tid id) refl
-command_read tid (command.Publish stop.Enter) id range spelled = plain_said (decimal tid) (codes "enter") tid stop.Enter (id_read tid id) refl
-command_read tid (command.Publish stop.Exit) id range spelled = plain_said (decimal tid) (codes "exit") tid stop.Exit (id_read tid id) refl
+command_read : (tid : ℕ) (c : Command) → is_id tid ≡ true → IsCommand c → IsSpelled c
+    → line_of false (command_words tid c) ≡ Ok (line.Command tid c)
+command_read tid (command.Publish stop.Start) id range spelled =
+    plain_said (decimal tid) (codes "start") tid stop.Start (id_read tid id) refl
+command_read tid (command.Publish stop.Enter) id range spelled =
+    plain_said (decimal tid) (codes "enter") tid stop.Enter (id_read tid id) refl
+command_read tid (command.Publish stop.Exit) id range spelled =
+    plain_said (decimal tid) (codes "exit") tid stop.Exit (id_read tid id) refl
 command_read tid (command.Publish (stop.Seccomp n)) id range spelled =
-    numbered_said (decimal tid) (codes "seccomp") (decimal n) numbered.Seccomp tid (stop.Seccomp n) (id_read tid id) refl (range_stop (λ n. stop.Seccomp n) 0 65535 n (omega arith) (omega arith) (lit< tt))
+    numbered_said (decimal tid) (codes "seccomp") (decimal n) numbered.Seccomp tid (stop.Seccomp n) (id_read tid id)
+    refl (range_stop (λ n. stop.Seccomp n) 0 65535 n (omega arith) (omega arith) (lit< tt))
 command_read tid (command.Publish (stop.Fork n)) id range spelled =
-    numbered_said (decimal tid) (codes "fork") (decimal n) numbered.Fork tid (stop.Fork n) (id_read tid id) refl (id_stop (λ n. stop.Fork n) n spelled)
+    numbered_said (decimal tid) (codes "fork") (decimal n) numbered.Fork tid (stop.Fork n) (id_read tid id) refl
+    (id_stop (λ n. stop.Fork n) n spelled)
 command_read tid (command.Publish (stop.Clone n)) id range spelled =
-    numbered_said (decimal tid) (codes "clone") (decimal n) numbered.Clone tid (stop.Clone n) (id_read tid id) refl (id_stop (λ n. stop.Clone n) n spelled)
+    numbered_said (decimal tid) (codes "clone") (decimal n) numbered.Clone tid (stop.Clone n) (id_read tid id) refl
+    (id_stop (λ n. stop.Clone n) n spelled)
 command_read tid (command.Publish (stop.Exec n)) id range spelled =
-    numbered_said (decimal tid) (codes "exec") (decimal n) numbered.Exec tid (stop.Exec n) (id_read tid id) refl (id_stop (λ n. stop.Exec n) n spelled)
+    numbered_said (decimal tid) (codes "exec") (decimal n) numbered.Exec tid (stop.Exec n) (id_read tid id) refl
+    (id_stop (λ n. stop.Exec n) n spelled)
 command_read tid (command.Publish (stop.Signal n)) id range spelled =
-    numbered_said (decimal tid) (codes "signal") (decimal n) numbered.Signal tid (stop.Signal n) (id_read tid id) refl (range_stop (λ n. stop.Signal n) 1 LAST_SIGNAL n range.0 range.1 (lit< tt))
+    numbered_said (decimal tid) (codes "signal") (decimal n) numbered.Signal tid (stop.Signal n) (id_read tid id) refl
+    (range_stop (λ n. stop.Signal n) 1 LAST_SIGNAL n range.0 range.1 (lit< tt))
 command_read tid (command.Claim c) id range spelled =
     claim_said (decimal tid) (decimal c) tid c (id_read tid id) (tracer_read c spelled)
 command_read tid (command.Resume c how) id range spelled =
-    resume_said (decimal tid) (decimal c) (kind_word how.kind) (decimal how.signal) tid c how (id_read tid id) (tracer_read c spelled) (kind_read how.kind)
+    resume_said (decimal tid) (decimal c) (kind_word how.kind) (decimal how.signal) tid c how (id_read tid id)
+    (tracer_read c spelled) (kind_read how.kind)
     (decimal_between 0 LAST_SIGNAL how.signal (omega arith) range (lit< tt))
 command_read tid (command.Exit (death.Exited n)) id range spelled =
-    exited_said (decimal tid) (decimal n) tid n (id_read tid id) (decimal_between 0 255 n (omega arith) (omega arith) (lit< tt))
+    exited_said (decimal tid) (decimal n) tid n (id_read tid id)
+    (decimal_between 0 255 n (omega arith) (omega arith) (lit< tt))
 command_read tid (command.Exit (death.Signaled n core)) id range spelled =
-    killed_said (decimal tid) (decimal n) tid n (id_read tid id) (decimal_between 1 LAST_SIGNAL n range.0 range.1 (lit< tt))
+    killed_said (decimal tid) (decimal n) tid n (id_read tid id)
+    (decimal_between 1 LAST_SIGNAL n range.0 range.1 (lit< tt))
     ∙ ap (λ b. Ok (line.Command tid (command.Exit (death.Signaled n b)))) (sym spelled)
 command_read tid command.State id range spelled = state_said (decimal tid) tid (id_read tid id)
 
--- a command is said alike before and behind the first of them
+-- a command reads the same before and after the first of them
 said_again : (tid : ℕ) (c : Command) → line_of true (command_words tid c) ≡ line_of false (command_words tid c)
 said_again tid (command.Publish s) = refl
 said_again tid (command.Claim c) = refl
@@ -182,21 +227,36 @@ said_again tid (command.Resume c how) = refl
 said_again tid (command.Exit d) = refl
 said_again tid command.State = refl
 
-pub command_line_read : (begun : Bool) (tid : ℕ) (c : Command) → is_id tid ≡ true → IsCommand c → IsSpelled c → line_of begun (command_words tid c) ≡ Ok (line.Command tid c)
+pub command_line_read : (begun : Bool) (tid : ℕ) (c : Command) → is_id tid ≡ true → IsCommand c → IsSpelled c
+    → line_of begun (command_words tid c) ≡ Ok (line.Command tid c)
 command_line_read true tid c id range spelled = said_again tid c ∙ command_read tid c id range spelled
 command_line_read false tid c id range spelled = command_read tid c id range spelled
 
-pub command_are_words : (tid : ℕ) (c : Command) → is_id tid ≡ true → IsCommand c → IsSpelled c → AreWords (command_words tid c)
+pub command_are_words : (tid : ℕ) (c : Command) → is_id tid ≡ true → IsCommand c → IsSpelled c
+    → AreWords (command_words tid c)
 command_are_words tid (command.Publish stop.Start) id range spelled = (refl, (id_word tid id, (refl, tt)))
 command_are_words tid (command.Publish stop.Enter) id range spelled = (refl, (id_word tid id, (refl, tt)))
 command_are_words tid (command.Publish stop.Exit) id range spelled = (refl, (id_word tid id, (refl, tt)))
-command_are_words tid (command.Publish (stop.Seccomp n)) id range spelled = (refl, (id_word tid id, (refl, (up_to_last n (omega arith), tt))))
-command_are_words tid (command.Publish (stop.Fork n)) id range spelled = (refl, (id_word tid id, (refl, (id_word n spelled, tt))))
-command_are_words tid (command.Publish (stop.Clone n)) id range spelled = (refl, (id_word tid id, (refl, (id_word n spelled, tt))))
-command_are_words tid (command.Publish (stop.Exec n)) id range spelled = (refl, (id_word tid id, (refl, (id_word n spelled, tt))))
-command_are_words tid (command.Publish (stop.Signal n)) id range spelled = (refl, (id_word tid id, (refl, (up_to_last n (omega arith), tt))))
+command_are_words tid (command.Publish (stop.Seccomp n)) id range spelled =
+    (refl, (id_word tid id, (refl, (up_to_last n (omega arith), tt))))
+command_are_words tid (command.Publish (stop.Fork n)) id range spelled =
+    (refl, (id_word tid id, (refl, (id_word n spelled, tt))))
+command_are_words tid (command.Publish (stop.Clone n)) id range spelled =
+    (refl, (id_word tid id, (refl, (id_word n spelled, tt))))
+command_are_words tid (command.Publish (stop.Exec n)) id range spelled =
+    (refl, (id_word tid id, (refl, (id_word n spelled, tt))))
+command_are_words tid (command.Publish (stop.Signal n)) id range spelled =
+    (refl, (id_word tid id, (refl, (up_to_last n (omega arith), tt))))
 command_are_words tid (command.Claim c) id range spelled = (refl, (id_word tid id, (up_to_last c (omega arith), tt)))
-command_are_words tid (command.Resume c how) id range spelled = (refl, (id_word tid id, (up_to_last c (omega arith), (kind_is_word how.kind, (up_to_last how.signal (omega arith), tt)))))
-command_are_words tid (command.Exit (death.Exited n)) id range spelled = (refl, (id_word tid id, (refl, (up_to_last n (omega arith), tt))))
-command_are_words tid (command.Exit (death.Signaled n core)) id range spelled = (refl, (id_word tid id, (refl, (up_to_last n (omega arith), tt))))
+command_are_words tid (command.Resume c how) id range spelled = (
+  refl,
+  (
+    id_word tid id,
+    (up_to_last c (omega arith), (kind_is_word how.kind, (up_to_last how.signal (omega arith), tt))),
+  ),
+)
+command_are_words tid (command.Exit (death.Exited n)) id range spelled =
+    (refl, (id_word tid id, (refl, (up_to_last n (omega arith), tt))))
+command_are_words tid (command.Exit (death.Signaled n core)) id range spelled =
+    (refl, (id_word tid id, (refl, (up_to_last n (omega arith), tt))))
 command_are_words tid command.State id range spelled = (refl, (id_word tid id, tt))

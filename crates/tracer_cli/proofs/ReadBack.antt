@@ -1,5 +1,7 @@
 -- A spelled content is read back, row by row and then order by order.
-use Rattle.std.proofs.Common.{◌≡◌, ◌+◌, ◌<◌, ◌≤◌, ◌++◌, ◌∷◌, [], ℕ, Bool, true, false, None, Some, Option, List, Ok, length, length-append, arith, cond, le-leb, lt-ltb, append_assoc, append-nil, ap, sym, ◌∙◌}
+use Rattle.std.proofs.Common.{◌≡◌, ◌+◌, ◌<◌, ◌≤◌, ◌++◌, ◌∷◌, [], ℕ, Bool, true, false, None, Some, Option, List, Ok}
+use Rattle.std.proofs.Common.{length, length-append, arith, cond, le-leb, lt-ltb, append_assoc, append-nil, ap, sym}
+use Rattle.std.proofs.Common.{◌∙◌}
 use Rattle.std.proofs.lemmas.List.Elements.{All-head, All-tail}
 use Rattle.std.specs.List.{All, join_with_byte}
 use Rattle.stop_history.specs.declared.roster.Row.{Row}
@@ -13,9 +15,12 @@ use Rattle.tracer_cli.specs.declared.grammar.Line.TheVariants as line
 use Rattle.text_lines.specs.Ranges.{◌>>=◌}
 use Rattle.tracer_cli.specs.Grammar.{line_of}
 use Rattle.text_lines.specs.Lines.{lines_of}
-use Rattle.tracer_cli.specs.File.{ReplayContent, content_after, content_of, has_begun, line_added, line_read, most_bytes, order_added, row_added, with_cause}
-use Rattle.tracer_cli.specs.Spelling.{IsContent, IsOrderOf, line_text, order_words, orders_text, row_words, rows_text, spelling}
-use Rattle.tracer_cli.proofs.LinesBack.{command_are_words, command_line_read, ends_id, row_are_words, row_line_read, row_ranges}
+use Rattle.tracer_cli.specs.File.{ReplayContent, content_after, content_of, has_begun, line_added, line_read}
+use Rattle.tracer_cli.specs.File.{most_bytes, order_added, row_added, with_cause}
+use Rattle.tracer_cli.specs.Spelling.{IsContent, IsOrderOf, line_text, order_words, orders_text, row_words, rows_text}
+use Rattle.tracer_cli.specs.Spelling.{spelling}
+use Rattle.tracer_cli.proofs.LinesBack.{command_are_words, command_line_read, ends_id, row_are_words, row_line_read}
+use Rattle.tracer_cli.proofs.LinesBack.{row_ranges}
 use Rattle.tracer_cli.proofs.LinesRead.{all_read, goes_on}
 use Rattle.tracer_cli.proofs.Spelled.{AreWords, line_ended, words_in_line, words_joined}
 
@@ -25,9 +30,11 @@ first_line : (n : ℕ) (so_far new : ReplayContent) (words : List (List ℕ)) (s
     → content_after n so_far (lines_of (line_text words ++ rest)) ≡ content_after (n + 1) new (lines_of rest)
 first_line n so_far new words said rest are says added =
     let cut : lines_of (line_text words ++ rest) ≡ join_with_byte 32 words ∷ lines_of rest =
-    ap lines_of (append_assoc (join_with_byte 32 words) (10 ∷ []) rest) ∙ line_ended (join_with_byte 32 words) rest (words_in_line words are) in
+    ap lines_of (append_assoc (join_with_byte 32 words) (10 ∷ []) rest)
+    ∙ line_ended (join_with_byte 32 words) rest (words_in_line words are) in
     let read : line_read so_far (join_with_byte 32 words) ≡ Ok new =
-    ap (λ ws. with_cause (line_of (has_begun so_far) ws) >>= line_added so_far) (words_joined words are) ∙ ap (λ r. with_cause r >>= line_added so_far) says ∙ added in
+    ap (λ ws. with_cause (line_of (has_begun so_far) ws) >>= line_added so_far) (words_joined words are)
+    ∙ ap (λ r. with_cause r >>= line_added so_far) says ∙ added in
     ap (content_after n so_far) cut ∙ goes_on n so_far new (join_with_byte 32 words) (lines_of rest) read
 
 abbrev only_rows : List Row → ReplayContent
@@ -36,39 +43,51 @@ only_rows rows = record { rows = rows; orders = [] }
 abbrev with_orders : List Row → List Order → ReplayContent
 with_orders rows orders = record { rows = rows; orders = orders }
 
-row_takes : (before : List Row) (row : Row) → length before < MOST_ROWS → fault_after before row ≡ None → line_added (only_rows before) (line.Row row) ≡ Ok (only_rows (before ++ row ∷ []))
+row_takes : (before : List Row) (row : Row) → length before < MOST_ROWS → fault_after before row ≡ None
+    → line_added (only_rows before) (line.Row row) ≡ Ok (only_rows (before ++ row ∷ []))
 row_takes before row room fits =
     ap (row_added (only_rows before) row) fits ∙ rw (lt-ltb (length before) MOST_ROWS room)
 
--- rows are read behind those before them
-rows_read : (before rows : List Row) (rest : List ℕ) (all : ReplayContent) → first_fault before rows ≡ None → length before + length rows ≤ MOST_ROWS
+-- rows are read after those before them
+rows_read : (before rows : List Row) (rest : List ℕ) (all : ReplayContent) → first_fault before rows ≡ None
+    → length before + length rows ≤ MOST_ROWS
     → ((n : ℕ) → content_after n (only_rows (before ++ rows)) (lines_of rest) ≡ Ok all)
     → (n : ℕ) → content_after n (only_rows before) (lines_of (rows_text rows ++ rest)) ≡ Ok all
-rows_read before [] rest all fine few then n = ap (λ rows. content_after n (only_rows rows) (lines_of rest)) (sym (append-nil before)) ∙ then n
+rows_read before [] rest all fine few then n =
+    ap (λ rows. content_after n (only_rows rows) (lines_of rest)) (sym (append-nil before)) ∙ then n
 rows_read before (row ∷ rows) rest all fine few then n =
     let parts = both_none (fault_after before row) (first_fault (before ++ row ∷ []) rows) fine in
     let has = row_ranges before row parts.0 in
-    ap (λ text. content_after n (only_rows before) (lines_of text)) (append_assoc (line_text (row_words row)) (rows_text rows) rest)
-    ∙ first_line n (only_rows before) (only_rows (before ++ row ∷ [])) (row_words row) (line.Row row) (rows_text rows ++ rest) (row_are_words row has) (row_line_read row has)
+    ap (λ text. content_after n (only_rows before) (lines_of text))
+    (append_assoc (line_text (row_words row)) (rows_text rows) rest)
+    ∙ first_line n (only_rows before) (only_rows (before ++ row ∷ [])) (row_words row) (line.Row row)
+    (rows_text rows ++ rest) (row_are_words row has) (row_line_read row has)
     (row_takes before row (omega arith) parts.0)
     ∙ rows_read (before ++ row ∷ []) rows rest all parts.1 (let size = length-append before (row ∷ []) in omega arith)
-    (λ m. ap (λ rows. content_after m (only_rows rows) (lines_of rest)) (append_assoc before (row ∷ []) rows) ∙ then m) (n + 1)
+    (λ m. ap (λ rows. content_after m (only_rows rows) (lines_of rest)) (append_assoc before (row ∷ []) rows)
+    ∙ then m) (n + 1)
 
 order_takes : (rows : List Row) (before : List Order) (order : Order) → IsRoster rows → order.row < length rows
-    → line_added (with_orders rows before) (line.Command (row_at rows order.row).tid order.command) ≡ Ok (with_orders rows (before ++ order ∷ []))
-order_takes rows before order roster there = ap (order_added (with_orders rows before) order.command) (row_of-tid rows roster order.row there)
+    → line_added (with_orders rows before) (line.Command (row_at rows order.row).tid order.command) ≡ Ok
+    (with_orders rows (before ++ order ∷ []))
+order_takes rows before order roster there =
+    ap (order_added (with_orders rows before) order.command) (row_of-tid rows roster order.row there)
 
--- orders are read behind those before them
+-- orders are read after those before them
 orders_read : (rows : List Row) (before orders : List Order) → IsRoster rows → All (IsOrderOf rows) orders → (n : ℕ)
-    → content_after n (with_orders rows before) (lines_of (orders_text rows orders)) ≡ Ok (with_orders rows (before ++ orders))
-orders_read rows before [] roster all n = all_read n (with_orders rows before) ∙ ap (λ os. Ok (with_orders rows os)) (sym (append-nil before))
+    → content_after n (with_orders rows before) (lines_of (orders_text rows orders)) ≡ Ok
+    (with_orders rows (before ++ orders))
+orders_read rows before [] roster all n = all_read n (with_orders rows before)
+    ∙ ap (λ os. Ok (with_orders rows os)) (sym (append-nil before))
 orders_read rows before (order ∷ orders) roster all n =
     let is : IsOrderOf rows order = All-head (IsOrderOf rows) order orders all in
     let ends = tid_in_range rows roster order.row is.there in
     let tid = ends_id (row_at rows order.row).tid ends.0 ends.1 in
-    first_line n (with_orders rows before) (with_orders rows (before ++ order ∷ [])) (order_words rows order) (line.Command (row_at rows order.row).tid order.command) (orders_text rows orders)
+    first_line n (with_orders rows before) (with_orders rows (before ++ order ∷ [])) (order_words rows order)
+    (line.Command (row_at rows order.row).tid order.command) (orders_text rows orders)
     (command_are_words (row_at rows order.row).tid order.command tid is.in_range is.spelled)
-    (command_line_read (has_begun (with_orders rows before)) (row_at rows order.row).tid order.command tid is.in_range is.spelled)
+    (command_line_read (has_begun (with_orders rows before)) (row_at rows order.row).tid order.command tid is.in_range
+    is.spelled)
     (order_takes rows before order roster is.there)
     ∙ orders_read rows (before ++ order ∷ []) orders roster (All-tail (IsOrderOf rows) order orders all) (n + 1)
     ∙ ap (λ os. Ok (with_orders rows os)) (append_assoc before (order ∷ []) orders)
@@ -83,5 +102,6 @@ read_back content is =
     let small : length (spelling content) ≤ most_bytes = is.size in
     let few : length content.rows ≤ MOST_ROWS = few_rows content.rows is.roster in
     rw (le-leb (length (spelling content)) most_bytes small)
-    (rows_read [] content.rows (orders_text content.rows content.orders) content (no_fault _ _ _ is.roster) (omega arith)
+    (rows_read [] content.rows (orders_text content.rows content.orders) content (no_fault _ _ _ is.roster)
+    (omega arith)
     (orders_read content.rows [] content.orders is.roster is.orders) 1)

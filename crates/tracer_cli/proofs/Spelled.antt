@@ -1,5 +1,6 @@
 -- Words, joined by spaces and ended by a line feed, are cut again where they were joined.
-use Rattle.std.proofs.Common.{refl, ◌≡◌, ◌<◌, ◌≤◌, ◌++◌, ◌∷◌, [], ℕ, Bool, true, false, ◌&&◌, nat_lt, List, filter, arith, eqb, ne_eqb, ltb-true, ap, ◌∙◌, lit≤}
+use Rattle.std.proofs.Common.{refl, ◌≡◌, ◌<◌, ◌≤◌, ◌++◌, ◌∷◌, [], ℕ, Bool, true, false, ◌&&◌, nat_lt, List, filter}
+use Rattle.std.proofs.Common.{arith, eqb, ne_eqb, ltb-true, ap, ◌∙◌, lit≤}
 use Rattle.std.proofs.lemmas.Bool.{and_parts}
 use Rattle.std.proofs.lemmas.List.Elements.{All-nil, All-cons, All-append}
 use Rattle.std.proofs.lemmas.List.Splits.{slice_split_at, slice_split_none, length-slice_split}
@@ -29,20 +30,24 @@ lacks c small (b ∷ bs) h =
 word_parts : (word : List ℕ) → is_word word ≡ true → (has_letters word ≡ true) × (all_above word ≡ true)
 word_parts word h = let parts = and_parts (has_letters word) (all_above word) h in (parts.0, parts.1)
 
-kept : (word : List ℕ) (parts : List (List ℕ)) → has_letters word ≡ true → filter has_letters (word ∷ parts) ≡ word ∷ filter has_letters parts
+kept : (word : List ℕ) (parts : List (List ℕ)) → has_letters word ≡ true
+    → filter has_letters (word ∷ parts) ≡ word ∷ filter has_letters parts
 kept word parts h = rw h
 
 -- a line ends at its line feed
-pub line_ended : (line rest : List ℕ) → All (λ b. eqb b 10 ≡ false) line → lines_of (line ++ 10 ∷ rest) ≡ line ∷ lines_of rest
+pub line_ended : (line rest : List ℕ) → All (λ b. eqb b 10 ≡ false) line
+    → lines_of (line ++ 10 ∷ rest) ≡ line ∷ lines_of rest
 line_ended line rest h =
     ap without_empty_end (slice_split_at (λ b. eqb b 10) line 10 rest h refl)
-    ∙ keeps_first line (slice_split (λ b. eqb b 10) rest) (let some = length-slice_split (λ b. eqb b 10) rest in omega arith)
+    ∙ keeps_first line (slice_split (λ b. eqb b 10) rest)
+    (let some = length-slice_split (λ b. eqb b 10) rest in omega arith)
 
 pub words_in_line : (words : List (List ℕ)) → AreWords words → All (λ b. eqb b 10 ≡ false) (join_with_byte 32 words)
 words_in_line [] h = All-nil (λ b. eqb b 10 ≡ false)
 words_in_line (word ∷ []) h = lacks 10 (lit≤ tt) word (word_parts word h.0).1
 words_in_line (word ∷ next ∷ words) h =
-    All-append (λ b. eqb b 10 ≡ false) word (32 ∷ join_with_byte 32 (next ∷ words)) (lacks 10 (lit≤ tt) word (word_parts word h.0).1)
+    All-append (λ b. eqb b 10 ≡ false) word (32 ∷ join_with_byte 32 (next ∷ words))
+    (lacks 10 (lit≤ tt) word (word_parts word h.0).1)
     (All-cons (λ b. eqb b 10 ≡ false) 32 (join_with_byte 32 (next ∷ words)) refl (words_in_line (next ∷ words) h.1))
 
 -- words joined by spaces are those words
@@ -50,9 +55,12 @@ pub words_joined : (words : List (List ℕ)) → AreWords words → words_in (jo
 words_joined [] h = refl
 words_joined (word ∷ []) h =
     let parts = word_parts word h.0 in
-    ap (filter has_letters) (slice_split_none (λ b. eqb b 32) word (lacks 32 (lit≤ tt) word parts.1)) ∙ kept word [] parts.0
+    ap (filter has_letters) (slice_split_none (λ b. eqb b 32) word (lacks 32 (lit≤ tt) word parts.1))
+    ∙ kept word [] parts.0
 words_joined (word ∷ next ∷ words) h =
     let parts = word_parts word h.0 in
-    ap (filter has_letters) (slice_split_at (λ b. eqb b 32) word 32 (join_with_byte 32 (next ∷ words)) (lacks 32 (lit≤ tt) word parts.1) refl)
+    ap (filter has_letters)
+    (slice_split_at (λ b. eqb b 32) word 32 (join_with_byte 32 (next ∷ words)) (lacks 32 (lit≤ tt) word parts.1)
+    refl)
     ∙ kept word (slice_split (λ b. eqb b 32) (join_with_byte 32 (next ∷ words))) parts.0
     ∙ ap (λ ws. word ∷ ws) (words_joined (next ∷ words) h.1)

@@ -1,4 +1,4 @@
--- The causes of a refusal: their names, and the cause that a fault of a line or of a roster is told as.
+-- The causes of a refusal: their names, and the cause that a fault of a line or of a roster is reported as.
 use Rattle.std.specs.Prelude.{ℕ, List, codes}
 use Rattle.stop_history.specs.declared.roster.RosterError.{RosterError}
 use Rattle.stop_history.specs.declared.roster.RosterError.TheVariants as fault

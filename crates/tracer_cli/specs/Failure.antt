@@ -1,4 +1,4 @@
--- The exit status of each failure, what is told of it on standard error, and the failure of a refused file.
+-- The exit status of each failure, its text on standard error, and the failure of a refused file.
 use Rattle.std.specs.Prelude.{◌++◌, ℕ, List, codes, string_bytes}
 use Rattle.std.specs.declared.io.ErrorKind.{ErrorKind}
 use Rattle.std.specs.declared.io.ErrorKind.TheVariants.{OutOfMemory}
@@ -7,7 +7,8 @@ use Rattle.tracer_cli.specs.declared.cause.Cause.TheVariants as cause
 use Rattle.tracer_cli.specs.declared.cause.CaseError.{CaseError}
 use Rattle.tracer_cli.specs.CaseError.{case_error_text}
 use Rattle.tracer_cli.specs.declared.failure.Failure.{Failure}
-use Rattle.tracer_cli.specs.declared.failure.Failure.TheVariants.{Refused, Usage, NoText, NoMemory, CannotRead, CannotWrite}
+use Rattle.tracer_cli.specs.declared.failure.Failure.TheVariants.{Refused, Usage, NoText, NoMemory, CannotRead}
+use Rattle.tracer_cli.specs.declared.failure.Failure.TheVariants.{CannotWrite}
 
 abbrev pub failure_status : Failure → ℕ
 failure_status (Refused error) = 1
@@ -26,12 +27,12 @@ failure_text NoMemory = codes "tracer: no memory\n"
 failure_text CannotRead = codes "tracer: cannot read\n"
 failure_text CannotWrite = codes "tracer: cannot write\n"
 
--- an error of the system is told as want of memory, or else as this failure
+-- the failure at an error of the system: out of memory, or this one
 abbrev pub failure_at : ErrorKind → Failure → Failure
 failure_at OutOfMemory other = NoMemory
 failure_at kind other = other
 
--- want of memory while a file is read is no refusal of the file
+-- out of memory while a file is read is not a refusal of the file
 abbrev pub failure_by : Cause → CaseError → Failure
 failure_by cause.NoMemory error = NoMemory
 failure_by other error = Refused error

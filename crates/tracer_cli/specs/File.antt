@@ -1,5 +1,6 @@
 -- What a replay file says: its rows and its orders, or its first fault, with the line.
-use Rattle.std.specs.Prelude.{◌≡◌, ◌+◌, ◌<◌, ◌≤◌, ◌++◌, ◌∷◌, [], ℕ, Bool, max, nat_le, nat_lt, List, length, Option, Some, None, Result, Ok, Err, IfErr, IsOk, if◌then◌else◌}
+use Rattle.std.specs.Prelude.{◌≡◌, ◌+◌, ◌<◌, ◌≤◌, ◌++◌, ◌∷◌, [], ℕ, Bool, max, nat_le, nat_lt, List, length, Option}
+use Rattle.std.specs.Prelude.{Some, None, Result, Ok, Err, IfErr, IsOk, if◌then◌else◌}
 use Rattle.stop_history.specs.declared.roster.Row.{Row}
 use Rattle.stop_history.specs.declared.roster.RosterError.{RosterError}
 use Rattle.stop_history.specs.Roster.{fault_after, row_of}
@@ -38,9 +39,10 @@ abbrev pub with_row : ReplayContent → Row → ReplayContent
 with_row so_far row = record { rows = so_far.rows ++ row ∷ []; orders = so_far.orders }
 
 abbrev pub with_order : ReplayContent → (row : ℕ) → Command → ReplayContent
-with_order so_far row command = record { rows = so_far.rows; orders = so_far.orders ++ (record { row = row; command = command }) ∷ [] }
+with_order so_far row command =
+    record { rows = so_far.rows; orders = so_far.orders ++ (record { row = row; command = command }) ∷ [] }
 
--- a row that has no fault behind those before it, where there is room
+-- a row that has no fault after those before it, where there is room
 abbrev pub row_added : ReplayContent → Row → Option RosterError → Result ReplayContent Cause
 row_added so_far row (Some fault) = Err (cause_of fault)
 row_added so_far row None = if nat_lt (length so_far.rows) MOST_ROWS then Ok (with_row so_far row) else Err TooMany
@@ -69,32 +71,36 @@ abbrev pub at_line : {A : Type 0} → ℕ → Result A Cause → Result A CaseEr
 at_line n (Ok x) = Ok x
 at_line n (Err cause) = Err (record { line = n; cause = cause })
 
-abbrev pub and_lines : Result ReplayContent CaseError → (ReplayContent → Result ReplayContent CaseError) → Result ReplayContent CaseError
+abbrev pub and_lines : Result ReplayContent CaseError → (ReplayContent → Result ReplayContent CaseError)
+    → Result ReplayContent CaseError
 and_lines (Ok so_far) rest = rest so_far
 and_lines (Err error) rest = Err error
 
 unfoldable pub content_after : (n : ℕ) → ReplayContent → List (List ℕ) → Result ReplayContent CaseError
 content_after n so_far [] = Ok so_far
-content_after n so_far (line ∷ lines) = and_lines (at_line n (line_read so_far line)) (λ more. content_after (n + 1) more lines)
+content_after n so_far (line ∷ lines) =
+    and_lines (at_line n (line_read so_far line)) (λ more. content_after (n + 1) more lines)
 
 -- the content of a file, or its first fault
 abbrev pub content_of : List ℕ → Result ReplayContent CaseError
 content_of text =
-    if nat_le (length text) most_bytes then content_after 1 nothing (lines_of text) else Err (record { line = 1; cause = TooMany })
+    if nat_le (length text) most_bytes then content_after 1 nothing (lines_of text)
+    else Err (record { line = 1; cause = TooMany })
 
--- want of memory is answered on a line of the file that has no fault and before which there is none; of an empty
--- file on line 1
-pub record IsWant {A : Type 0} (text : List ℕ) (line : ℕ) (read : Result A CaseError) : Type 0 where
+-- out of memory is reported on a line of the file that has no fault and before which no line has one; of an empty
+-- file on line 1. `lines` is what the lines say one by one: a fault that is found after the last line is none of it
+pub record IsOutOfMemory {A : Type 0} (text : List ℕ) (line : ℕ) (lines : Result A CaseError) : Type 0 where
   pub first : 1 ≤ line
   pub last : line ≤ max 1 (length (lines_of text))
-  pub before : IfErr read (λ fault. line < fault.line)
+  pub before : IfErr lines (λ fault. line < fault.line)
 
--- a refusal is the file's first fault, or want of memory
-abbrev pub Refuses : {A : Type 0} → List ℕ → Cause → (line : ℕ) → Result A CaseError → Type 0
-Refuses text NoMemory line read = IsWant text line read
-Refuses text cause line read = read ≡ Err (record { line = line; cause = cause })
+-- a refusal is the first fault of the file, or out of memory, which only faults of lines come before
+abbrev pub Refuses : {A B : Type 0} → List ℕ → Cause → (line : ℕ) → (lines : Result A CaseError)
+    → (file : Result B CaseError) → Type 0
+Refuses text NoMemory line lines file = IsOutOfMemory text line lines
+Refuses text cause line lines file = file ≡ Err (record { line = line; cause = cause })
 
--- what a line made of the content: the definition's content or its fault; want of memory only where it has no fault
+-- what a line made of the content: the definition's content or its fault; out of memory only where it has no fault
 abbrev pub TakesLine : Result (Unit {0}) Cause → ReplayContent → Result ReplayContent Cause → Type 0
 TakesLine (Ok done) new read = read ≡ Ok new
 TakesLine (Err NoMemory) new read = IsOk read

@@ -1,10 +1,10 @@
 -- What a line of a replay file says, by its words: the first fault of the line in the order of causes, or what it
 -- says. All words are tested (UnknownWord) before any number (BadNumber).
-use Rattle.std.specs.Prelude.{◌==◌, ◌-◌, ◌∷◌, [], ℕ, Bool, true, false, List, length, map, Result, Ok, Err, if◌then◌else◌, slice_index}
+use Rattle.std.specs.Prelude.{◌==◌, ◌-◌, ◌∷◌, [], ℕ, Bool, true, false, List, length, map, Result, Ok, Err}
+use Rattle.std.specs.Prelude.{if◌then◌else◌, slice_index}
 use Rattle.trace_record.specs.declared.stop.Stop.{Stop}
 use Rattle.trace_record.specs.declared.stop.Stop.TheVariants as stop
 use Rattle.trace_record.specs.declared.resume.Kind.{Kind}
-use Rattle.trace_record.specs.declared.resume.Kind.TheVariants as kind
 use Rattle.trace_record.specs.declared.death.Death.{Death}
 use Rattle.trace_record.specs.declared.death.Death.TheVariants as death
 use Rattle.stop_history.specs.declared.limits.TheConstants.{LAST_ID, TRACERS}
@@ -133,11 +133,14 @@ publish_line words =
 -- what follows the first word of a line
 abbrev pub rest_of : Keyword → List (List ℕ) → Result Line LineFault
 rest_of keyword.Row words =
-    if length words == 4 then row_line (nth_word words 0) (nth_word words 1) (nth_word words 2) (nth_word words 3) else Err UnknownWord
+    if length words == 4 then row_line (nth_word words 0) (nth_word words 1) (nth_word words 2) (nth_word words 3)
+    else Err UnknownWord
 rest_of keyword.Publish words = publish_line words
-rest_of keyword.Claim words = if length words == 2 then claim_line (nth_word words 0) (nth_word words 1) else Err UnknownWord
+rest_of keyword.Claim words =
+    if length words == 2 then claim_line (nth_word words 0) (nth_word words 1) else Err UnknownWord
 rest_of keyword.Resume words =
-    if length words == 4 then resume_line (nth_word words 0) (nth_word words 1) (nth_word words 2) (nth_word words 3) else Err UnknownWord
+    if length words == 4 then resume_line (nth_word words 0) (nth_word words 1) (nth_word words 2) (nth_word words 3)
+    else Err UnknownWord
 rest_of keyword.Exit words =
     if length words == 3 then exit_line (nth_word words 0) (nth_word words 1) (nth_word words 2) else Err UnknownWord
 rest_of keyword.State words = if length words == 1 then state_line (nth_word words 0) else Err UnknownWord

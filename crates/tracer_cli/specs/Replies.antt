@@ -46,7 +46,7 @@ got_text rows (Ok (got.Stop number status)) = codes "stop " ++ at_status number 
 got_text rows (Ok (got.Ended number status)) = codes "ended " ++ at_status number status
 got_text rows (Err refusal) = refusal_text rows refusal
 
--- a call that answers nothing but that it is done
+-- a call whose only answer is that it is done
 abbrev pub done_text : List ℕ → List Row → Result (Unit {0}) Refused → List ℕ
 done_text word rows (Ok done) = word
 done_text word rows (Err refusal) = refusal_text rows refusal
@@ -69,15 +69,20 @@ reply_text rows h row (command.Resume tracer how) = done_text (codes "resumed") 
 reply_text rows h row (command.Exit death) = done_text (codes "exited") rows (exit_answer rows h row)
 reply_text rows h row command.State = state_text (state_after rows h row)
 
--- the history behind a command: with its event, unless it was refused
+-- the history after a command: with its event, unless it was refused
 abbrev pub history_after_command : List Row → History → (row : ℕ) → Command → History
-history_after_command rows h row (command.Publish stop) = goes_on (publish_answer rows h row stop) (event.Publish row (last_number h row + 1) stop) h
-history_after_command rows h row (command.Claim tracer) = goes_on (claim_answer rows h row tracer) (event.Claim row (last_number h row) tracer) h
-history_after_command rows h row (command.Resume tracer how) = goes_on (resume_answer rows h row tracer) (event.Resume row (last_number h row) how tracer) h
+history_after_command rows h row (command.Publish stop) =
+    goes_on (publish_answer rows h row stop) (event.Publish row (last_number h row + 1) stop) h
+history_after_command rows h row (command.Claim tracer) =
+    goes_on (claim_answer rows h row tracer) (event.Claim row (last_number h row) tracer) h
+history_after_command rows h row (command.Resume tracer how) =
+    goes_on (resume_answer rows h row tracer) (event.Resume row (last_number h row) how tracer) h
 history_after_command rows h row (command.Exit death) = goes_on (exit_answer rows h row) (event.Exit row death) h
 history_after_command rows h row command.State = h
 
 -- the replies to orders from a history on, each on a line
 unfoldable pub replies : List Row → History → List Order → List ℕ
 replies rows h [] = []
-replies rows h (order ∷ orders) = reply_text rows h order.row order.command ++ 10 ∷ replies rows (history_after_command rows h order.row order.command) orders
+replies rows h (order ∷ orders) =
+    reply_text rows h order.row order.command
+    ++ 10 ∷ replies rows (history_after_command rows h order.row order.command) orders

@@ -1,4 +1,4 @@
--- A content as a file: one line for each row, then one for each order. Numbers are decimal, one space stands between
+-- A content as a file: one line for each row, then one for each order. Numbers are decimal, one space is between
 -- words, and a line feed ends each line.
 use Rattle.std.specs.Prelude.{◌≡◌, ◌<◌, ◌≤◌, ◌++◌, ◌∷◌, [], ℕ, false, IsTrue, List, length, codes, decimal}
 use Rattle.std.specs.List.{All, join_with_byte}
@@ -44,7 +44,8 @@ death_words (death.Signaled signal core) = codes "killed" ∷ decimal signal ∷
 abbrev pub command_words : (tid : ℕ) → Command → List (List ℕ)
 command_words tid (command.Publish stop) = codes "publish" ∷ decimal tid ∷ stop_words stop
 command_words tid (command.Claim tracer) = codes "claim" ∷ decimal tid ∷ decimal tracer ∷ []
-command_words tid (command.Resume tracer how) = codes "resume" ∷ decimal tid ∷ decimal tracer ∷ kind_word how.kind ∷ decimal how.signal ∷ []
+command_words tid (command.Resume tracer how) =
+    codes "resume" ∷ decimal tid ∷ decimal tracer ∷ kind_word how.kind ∷ decimal how.signal ∷ []
 command_words tid (command.Exit death) = codes "exit" ∷ decimal tid ∷ death_words death
 command_words tid command.State = codes "state" ∷ decimal tid ∷ []
 

@@ -1,9 +1,9 @@
 //! The command line.
 
-ghost use Rattle.std.specs.Prelude.{◌≡◌, ℕ, List, codes, map, IfErr, IfOk, option_and_then, option_map};
+ghost use Rattle.std.specs.Prelude.{◌≡◌, ℕ, List, codes, map, IfErr, IfOk, IsTrue, option_and_then, option_map};
 ghost use Rattle.clap.specs.Words.{app_of, first_of, kind_of, subcommand_rows_of};
-ghost use Rattle.tracer_cli.specs.Arguments.{AsksForInput, replay_words, tracer_app};
-ghost use Rattle.tracer_cli.specs.Run.{IsWordsFailure};
+ghost use Rattle.tracer_cli.specs.Arguments.{AsksForInput, IsAskedBy, IsFailureBy, IsHelp, replay_words, shows_text};
+ghost use Rattle.tracer_cli.specs.Arguments.{tracer_app};
 
 use crate::failure::Failure;
 use clap::error::ErrorKind;
@@ -13,7 +13,7 @@ use std::alloc::{AllocError, Global};
 /// What the command line asks for.
 #[derive(Debug, Drop)]
 pub enum Request<'a> {
-    /// The replies to a replay file; standard input where it names none.
+    /// The replies to a replay file; standard input where it names none. A file `-` is a file of that name.
     Replay { file: Option<&'a str> },
     /// Help, with its text.
     Help(String),
@@ -21,7 +21,7 @@ pub enum Request<'a> {
 
 /// What the words ask for, the program's name first.
 pub fn read_arguments<'a>(alloc: Global, words: &'a [&'a str]) -> Result<Request<'a>, Failure>
-    ensures failure { IfErr result IsWordsFailure }
+    ensures words { IsAskedBy (map (λ word. word.now) words.now) result }
     ensures input { (name : List ℕ) → map (λ word. word.now) words.now ≡ replay_words name → AsksForInput result }
 {
     let command = tracer(alloc)?;
@@ -35,7 +35,8 @@ pub fn read_arguments<'a>(alloc: Global, words: &'a [&'a str]) -> Result<Request
 
 /// The file that the words name.
 fn file_in<'a>(matches: &ArgMatches<'a>) -> Option<&'a str>
-    ensures { option_map (λ file. file.now) result ≡ option_and_then (λ found. first_of (codes "FILE") found.1) (subcommand_rows_of matches.now) }
+    ensures { option_map (λ file. file.now) result
+        ≡ option_and_then (λ found. first_of (codes "FILE") found.1) (subcommand_rows_of matches.now) }
 {
     match matches.subcommand() {
         Some((_, replay)) => replay.get_str("FILE"),
@@ -45,8 +46,9 @@ fn file_in<'a>(matches: &ArgMatches<'a>) -> Option<&'a str>
 
 /// Help was asked for, or the words are wrong.
 fn without_matches<'a>(alloc: Global, error: &Error) -> Result<Request<'a>, Failure>
-    ensures failure { IfErr result IsWordsFailure }
     ensures memory { kind_of error.now ≡ ErrorKind.OutOfMemory → result ≡ Err Failure.NoMemory }
+    ensures help { IfOk result (λ request. IsHelp request × IsTrue (shows_text (kind_of error.now))) }
+    ensures usage { IfErr result (IsFailureBy (kind_of error.now)) }
 {
     if error.kind() == ErrorKind::OutOfMemory {
         return Err(Failure::NoMemory);

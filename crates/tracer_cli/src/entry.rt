@@ -3,20 +3,47 @@
 ghost use Rattle.std.specs.Prelude.{◌≡◌, ◌≤◌, ◌⊎◌, ℕ, List, IfErr, IfOk, IfSome, OnOk, map, string_bytes};
 ghost use Rattle.std.specs.Io.KnownBytes.{Appends};
 ghost use Rattle.tracer_cli.specs.Arguments.{replay_words};
-ghost use Rattle.tracer_cli.specs.Run.{Answers, Ends, IsReadFailure, IsReadOf, IsUnwritten, Replays};
+ghost use Rattle.std.specs.IoError.{error_kind};
+ghost use Rattle.tracer_cli.specs.Failure.{failure_at, failure_status};
+ghost use Rattle.tracer_cli.specs.Run.{Answers, Ends, EndsWith, IsReadFailure, IsReadOf, IsUnwritten, Replays};
 
 use crate::arguments::{Request, read_arguments};
-use crate::failure::{Failure, read_failure};
+use crate::failure::{Failure, arguments_failure, read_failure};
 use crate::reading::MOST_BYTES;
 use crate::replay::replay_text;
 use std::alloc::{AllocError, Global};
 use std::fs;
-use std::io::{Read, Write};
+use std::io::{self, Read, Write};
 use std::rt::Files;
 
-/// Runs the program on its words, the program's name first, with standard input, output and error. Answers the
-/// exit status: 0 where it is done or help was asked for, 1 where the file is refused, 2 for a wrong command line,
-/// 3 else. A failed write to standard error changes no status.
+/// Runs the program as a process does: on the words of its command line, or where these cannot be had, it reports why.
+/// Returns the exit status, as `program` does; 2 also where an argument is not valid UTF-8.
+pub fn process<H: Files + AllocGlobal, R: Read, W: Write, E: Write>(
+    rt: &H,
+    words: io::Result<Vec<String>>,
+    input: &mut R,
+    output: &mut W,
+    errors: &mut E,
+) -> u8
+    ensures status { result ≤ 3 }
+    ensures failed { IfErr words (λ error. result ≡ failure_status (failure_at (error_kind error) Failure.NoText)) }
+    ensures unread { IfErr words (λ error. input.new ≡ input.old) }
+    ensures unwritten { IfErr words (λ error. output.new ≡ output.old) }
+    ensures output { EndsWith output.old output.new result }
+
+    // The words of a replay of standard input, where what it has is known.
+    ensures replay { (name : List ℕ) → IfOk words (λ words. map string_bytes words.items ≡ replay_words name →
+        IfSome (R.remaining input.old) (λ text. Ends text (W.contents output.old) (W.contents output.new) result)) }
+{
+    match words {
+        Ok(words) => program(rt, words.as_slice(), input, output, errors),
+        Err(error) => fail(&arguments_failure(&error), errors),
+    }
+}
+
+/// Runs the program on its words, the program's name first, with standard input, output and error. Returns the exit
+/// status: 0 where it is done or help was asked for, 1 where the file is refused, 2 for a wrong command line, 3
+/// otherwise. A failed write to standard error does not change it.
 pub fn program<H: Files + AllocGlobal, R: Read, W: Write, E: Write>(
     rt: &H,
     words: &[String],
@@ -26,6 +53,7 @@ pub fn program<H: Files + AllocGlobal, R: Read, W: Write, E: Write>(
 ) -> u8
     ensures status { result ≤ 3 }
     ensures unwritten { (result ≡ 1) ⊎ (result ≡ 2) → output.new ≡ output.old }
+    ensures output { EndsWith output.old output.new result }
 
     // The words of a replay of standard input, where what it has is known.
     ensures replay { (name : List ℕ) → map string_bytes words.now ≡ replay_words name →
@@ -33,8 +61,16 @@ pub fn program<H: Files + AllocGlobal, R: Read, W: Write, E: Write>(
 {
     match run(rt, words, input, output) {
         Ok(()) => 0,
-        Err(failure) => failure.tell(errors),
+        Err(failure) => fail(&failure, errors),
     }
+}
+
+/// Reports a failure, and returns its exit status, whether or not it could be written.
+fn fail<E: Write>(failure: &Failure, errors: &mut E) -> u8
+    ensures { result ≡ failure_status failure.now }
+{
+    let _ = failure.report(errors);
+    failure.status()
 }
 
 /// Finds the faults of the command line, of reading, of the file and of writing, in this order.
@@ -68,7 +104,8 @@ fn answer<H: Files + AllocGlobal, R: Read, W: Write>(
     input: &mut R,
     output: &mut W,
 ) -> Result<(), Failure>
-    ensures answer { Answers request.now (R.remaining input.old) (W.contents output.old) (W.contents output.new) result }
+    ensures answer { Answers request.now (R.remaining input.old) (W.contents output.old) (W.contents output.new)
+        result }
     ensures unwritten { IsUnwritten output.old output.new result }
 {
     match request {

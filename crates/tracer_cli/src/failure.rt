@@ -14,11 +14,11 @@ use std::io::{self, ErrorKind, Write};
 pub enum Failure {
     /// The file is refused.
     Refused(CaseError),
-    /// The words are no command line, with clap's text.
+    /// The command line is wrong, with clap's text.
     Usage(String),
-    /// An argument is no text.
+    /// An argument is not valid UTF-8.
     NoText,
-    /// A growth was refused.
+    /// The program is out of memory.
     NoMemory,
     /// The file, or standard input, cannot be read.
     CannotRead,
@@ -27,9 +27,11 @@ pub enum Failure {
 }
 
 impl Failure {
-    ghost use Rattle.tracer_cli.specs.Failure.{failure_status};
+    ghost use Rattle.std.specs.Prelude.{OnOk};
+    ghost use Rattle.std.specs.Io.KnownBytes.{Appends};
+    ghost use Rattle.tracer_cli.specs.Failure.{failure_status, failure_text};
 
-    /// The exit status: 1 for a refused file, 2 for the command line, 3 else.
+    /// The exit status: 1 for a refused file, 2 for the command line, 3 otherwise.
     pub fn status(&self) -> u8
         ensures { result ≡ failure_status self.now }
     {
@@ -40,12 +42,11 @@ impl Failure {
         }
     }
 
-    /// Tells the failure on standard error, and answers the exit status. A failed write does not change it.
-    pub fn tell<E: Write>(&self, errors: &mut E) -> u8
-        ensures { result ≡ failure_status self.now }
+    /// Writes the failure's text, on standard error as a rule. Where a write fails, some of the text may be written.
+    pub fn report<E: Write>(&self, errors: &mut E) -> io::Result<()>
+        ensures { OnOk result (Appends (E.contents errors.old) (E.contents errors.new) (failure_text self.now)) }
     {
-        let _ = write!(errors, "{self}");
-        self.status()
+        write!(errors, "{self}")
     }
 }
 
@@ -100,22 +101,26 @@ impl From<CaseError> for Failure {
     }
 }
 
-/// Why the arguments cannot be had: there is no memory for them, or one is no text.
+/// Why the arguments cannot be had: there is no memory for them, or one is not valid UTF-8.
 pub fn arguments_failure(error: &io::Error) -> Failure
     ensures { result ≡ failure_at (error_kind error.now) Failure.NoText }
 {
-    match error.kind() {
-        ErrorKind::OutOfMemory => Failure::NoMemory,
-        _ => Failure::NoText,
-    }
+    failure_at(error, Failure::NoText)
 }
 
 /// Why reading failed.
 pub fn read_failure(error: &io::Error) -> Failure
     ensures { result ≡ failure_at (error_kind error.now) Failure.CannotRead }
 {
+    failure_at(error, Failure::CannotRead)
+}
+
+/// The failure at an error of the system: out of memory, or this one.
+fn failure_at(error: &io::Error, other: Failure) -> Failure
+    ensures { result ≡ failure_at (error_kind error.now) other }
+{
     match error.kind() {
         ErrorKind::OutOfMemory => Failure::NoMemory,
-        _ => Failure::CannotRead,
+        _ => other,
     }
 }

@@ -5,7 +5,8 @@ ghost use Rattle.trace_record.specs.Death.{IsDeath};
 ghost use Rattle.trace_record.specs.Stop.{IsStop};
 ghost use Rattle.text_lines.specs.Lines.{words_in};
 ghost use Rattle.tracer_cli.specs.Grammar.{IsLine, claim_line, death_of, exit_line, id_of, in_place, line_of};
-ghost use Rattle.tracer_cli.specs.Grammar.{publish_line, publish_numbered, publish_plain, rest_of, resume_line, row_line};
+ghost use Rattle.tracer_cli.specs.Grammar.{publish_line, publish_numbered, publish_plain, rest_of, resume_line};
+ghost use Rattle.tracer_cli.specs.Grammar.{row_line};
 ghost use Rattle.tracer_cli.specs.Grammar.{state_line, stop_of, tracer_of};
 
 use crate::command::Command;
@@ -247,7 +248,9 @@ fn stop_of(name: Numbered, number: &[u8]) -> Result<Stop, LineFault>
         Numbered::Fork => Ok(Stop::Fork(id(number)?)),
         Numbered::Clone => Ok(Stop::Clone(id(number)?)),
         Numbered::Exec => Ok(Stop::Exec(id(number)?)),
-        Numbered::Signal => Ok(Stop::Signal(number_between(1, u64::from(LAST_SIGNAL), number)? as u8)),
+        Numbered::Signal => Ok(Stop::Signal(
+            number_between(1, u64::from(LAST_SIGNAL), number)? as u8,
+        )),
     }
 }
 

@@ -14,7 +14,7 @@ mod replay;
 mod replies;
 
 pub use cause::{CaseError, Cause};
-pub use entry::program;
-pub use failure::{Failure, arguments_failure};
+pub use entry::{process, program};
+pub use failure::Failure;
 pub use laws::what_is_spelled_is_read;
 pub use replay::replay_text;

@@ -4,10 +4,10 @@ ghost use Rattle.std.specs.Prelude.{◌≡◌, ◌≤◌, [], All, IfErr, IfOk, 
 ghost use Rattle.tracer_cli.specs.declared.order.Order.{Order};
 ghost use Rattle.tracer_cli.specs.Cause.{cause_of};
 ghost use Rattle.tracer_cli.specs.Command.{IsCommand, IsOrder};
-ghost use Rattle.tracer_cli.specs.File.{Refuses, TakesLine, content_after, content_of, line_read, most_bytes, nothing, order_added, row_added};
+ghost use Rattle.tracer_cli.specs.File.{Refuses, TakesLine, content_after, content_of, line_read, most_bytes};
+ghost use Rattle.tracer_cli.specs.File.{nothing, order_added, row_added};
 ghost use Rattle.text_lines.specs.Lines.{lines_of};
 ghost use Rattle.stop_history.specs.Roster.{IsRoster, fault_after, first_fault, row_of};
-ghost use Rattle.stop_history.specs.declared.limits.TheConstants.{MOST_ROWS};
 
 use crate::cause::{CaseError, Cause};
 use crate::command::Command;
@@ -30,7 +30,7 @@ pub struct Script<A: Allocator> {
     pub orders: Vec<Order, A>,
 }
 
-/// Takes one more line into the rows and the orders so far, or answers its first fault. `left` bytes follow it.
+/// Takes one more line into the rows and the orders so far, or returns its first fault. `left` bytes follow it.
 fn take_line<A: Allocator>(
     rows: &mut Vec<Row, A>,
     orders: &mut Vec<Order, A>,
@@ -102,7 +102,7 @@ fn take_order<A: Allocator>(
     Ok(())
 }
 
-/// The cause that a roster's fault is told as.
+/// The cause that a roster's fault is reported as.
 fn cause_of(fault: RosterError) -> Cause
     ensures { result ≡ cause_of fault }
 {
@@ -118,8 +118,10 @@ fn cause_of(fault: RosterError) -> Cause
 
 /// What a file says, or its first fault.
 pub fn read<A: Allocator + Copy>(alloc: A, text: &[u8]) -> Result<Script<A>, CaseError>
-    ensures ok { IfOk result (λ script. content_of text.now ≡ Ok (record { rows = script.rows.items; orders = script.orders.items })) }
-    ensures err { IfErr result (λ error. Refuses text.now error.cause error.line (content_of text.now)) }
+    ensures ok { IfOk result (λ script. content_of text.now
+        ≡ Ok (record { rows = script.rows.items; orders = script.orders.items })) }
+    ensures err { let read = content_of text.now in
+        IfErr result (λ error. Refuses text.now error.cause error.line read read) }
     ensures roster { IfOk result (λ script. IsRoster script.rows.items) }
     ensures range { IfOk result (λ script. All IsOrder script.orders.items) }
 {
@@ -134,8 +136,10 @@ pub fn read<A: Allocator + Copy>(alloc: A, text: &[u8]) -> Result<Script<A>, Cas
 
 fn read_lines<A: Allocator + Copy>(alloc: A, text: &[u8]) -> Result<Script<A>, CaseError>
     requires { length text.now ≤ most_bytes }
-    ensures ok { IfOk result (λ script. content_after 1 nothing (lines_of text.now) ≡ Ok (record { rows = script.rows.items; orders = script.orders.items })) }
-    ensures err { IfErr result (λ error. Refuses text.now error.cause error.line (content_after 1 nothing (lines_of text.now))) }
+    ensures ok { IfOk result (λ script. content_after 1 nothing (lines_of text.now)
+        ≡ Ok (record { rows = script.rows.items; orders = script.orders.items })) }
+    ensures err { let read = content_after 1 nothing (lines_of text.now) in
+        IfErr result (λ error. Refuses text.now error.cause error.line read read) }
     ensures roster { IfOk result (λ script. IsRoster script.rows.items) }
     ensures range { IfOk result (λ script. All IsOrder script.orders.items) }
 {

@@ -3,7 +3,7 @@
 ghost use Rattle.std.specs.Prelude.{◌≡◌, ◌<◌, ◌^◌, [], All, IfErr, IfOk, Ok, length, max};
 ghost use Rattle.stop_history.specs.Roster.{IsRoster};
 ghost use Rattle.tracer_cli.specs.Command.{IsOrder};
-ghost use Rattle.tracer_cli.specs.File.{Refuses};
+ghost use Rattle.tracer_cli.specs.File.{Refuses, content_of};
 ghost use Rattle.text_lines.specs.Lines.{lines_of};
 ghost use Rattle.tracer_cli.specs.Replay.{replay_of};
 ghost use Rattle.tracer_cli.specs.Replies.{replies};
@@ -20,11 +20,12 @@ use text_lines::cut_line;
 const LONGEST: usize = b"refused GroupAlive 4194303\n".len();
 
 /// The replies of the one-thread stop board to the commands of a replay file, a line each, or why the file is
-/// refused: its first faulty line, with the least cause of that line. Want of memory is told on a line that has no
-/// fault and before which there is none, at most the last line.
+/// refused: its first faulty line, with the first cause of that line. Out of memory is reported on a line that has no
+/// fault and before which no line has one, at most the last line.
 pub fn replay_text<A: Allocator + Copy>(alloc: A, text: &[u8]) -> Result<Vec<u8, A>, CaseError>
     ensures ok { IfOk result (λ bytes. replay_of text.now ≡ Ok bytes.items) }
-    ensures err { IfErr result (λ error. Refuses text.now error.cause error.line (replay_of text.now)) }
+    ensures err { IfErr result (λ error.
+        Refuses text.now error.cause error.line (content_of text.now) (replay_of text.now)) }
 {
     let script = read(alloc, text)?;
     match run(alloc, script.rows.as_slice(), script.orders.as_slice()) {

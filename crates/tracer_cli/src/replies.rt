@@ -2,7 +2,8 @@
 
 ghost use Rattle.std.specs.Prelude.{◌≡◌, ◌++◌, ◌≤◌, ◌∷◌, [], length, All, OnOk, codes, decimal, string_bytes};
 ghost use Rattle.tracer_cli.specs.Command.{IsOrder};
-ghost use Rattle.tracer_cli.specs.Replies.{done_text, got_text, history_after_command, published_text, refusal_text, replies, reply_text, state_text};
+ghost use Rattle.tracer_cli.specs.Replies.{done_text, got_text, history_after_command, published_text, refusal_text};
+ghost use Rattle.tracer_cli.specs.Replies.{replies, reply_text, state_text};
 ghost use Rattle.stop_history.specs.Roster.{row_at};
 ghost use Rattle.stop_history.specs.declared.limits.TheConstants.{MOST_ROWS, TRACERS};
 ghost use Rattle.stop_board.specs.World.{Moment, StandsAt};
@@ -73,7 +74,8 @@ fn write_refusal<A: Allocator>(
 
 /// A leader's exit that another row of its group holds back, by that row's thread id.
 fn write_group_alive<A: Allocator>(out: &mut String<A>, tid: u32) -> Result<(), NoMemory>
-    ensures { OnOk result (string_bytes out.new ≡ string_bytes out.old ++ ((codes "refused GroupAlive " ++ decimal tid) ++ 10 ∷ [])) }
+    ensures { OnOk result (string_bytes out.new
+        ≡ string_bytes out.old ++ ((codes "refused GroupAlive " ++ decimal tid) ++ 10 ∷ [])) }
 {
     write!(out, "refused GroupAlive {tid}\n")?;
     Ok(())
@@ -95,7 +97,8 @@ fn write_done<A: Allocator>(
     done: &str,
     answer: Result<(), Refused>,
 ) -> Result<(), NoMemory>
-    ensures { OnOk result (string_bytes out.new ≡ string_bytes out.old ++ (done_text done.now rows.now answer ++ 10 ∷ [])) }
+    ensures { OnOk result (string_bytes out.new
+        ≡ string_bytes out.old ++ (done_text done.now rows.now answer ++ 10 ∷ [])) }
 {
     match answer {
         Ok(()) => {
@@ -133,8 +136,10 @@ fn reply<A: Allocator, B: Allocator>(
     requires few { length rows.now ≤ MOST_ROWS }
     requires tracers { world.old.tracers ≡ TRACERS }
     ensures text { (m : Moment) → StandsAt world.old m →
-        OnOk result (string_bytes out.new ≡ string_bytes out.old ++ (reply_text rows.now m.history order.row order.command ++ 10 ∷ [])) }
-    ensures stands { (m : Moment) → StandsAt world.old m → HasHistory world.new (history_after_command rows.now m.history order.row order.command) }
+        OnOk result (string_bytes out.new
+        ≡ string_bytes out.old ++ (reply_text rows.now m.history order.row order.command ++ 10 ∷ [])) }
+    ensures stands { (m : Moment) → StandsAt world.old m →
+        HasHistory world.new (history_after_command rows.now m.history order.row order.command) }
     ensures rows { world.new.rows ≡ world.old.rows }
     ensures tracers { world.new.tracers ≡ world.old.tracers }
 {

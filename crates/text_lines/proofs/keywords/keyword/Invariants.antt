@@ -4,4 +4,6 @@ use Rattle.text_lines.proofs.keywords.keyword.Given as goal
 
 -- none of the names so far is the word
 abbrev pub invariant-loop-name : goal.invariant-loop-name
-invariant-loop-name g l = value_beside (map (λ row. (row.0.now, row.1)) (drop l.name-index l.table)) l.word ≡ value_beside (map (λ row. (row.0.now, row.1)) l.table) l.word
+invariant-loop-name g l =
+    value_beside (map (λ row. (row.0.now, row.1)) (drop l.name-index l.table)) l.word
+    ≡ value_beside (map (λ row. (row.0.now, row.1)) l.table) l.word

@@ -12,4 +12,5 @@ behind id rows (Some p) same = let inner : rows ≡ p.1 = cc in ap (first_of id)
 
 pub returns-in-Some : goal.returns-in-Some
 returns-in-Some c =
-    c.get_str.ensures ∙ first_value-rows (found_of c.in-Some.replay.now) (codes "FILE") ∙ behind (codes "FILE") _ (subcommand_rows_of c.args.matches.now) c.in-Some.ensures.rows
+    c.get_str.ensures ∙ first_value-rows (found_of c.in-Some.replay.now) (codes "FILE")
+    ∙ behind (codes "FILE") _ (subcommand_rows_of c.args.matches.now) c.in-Some.ensures.rows

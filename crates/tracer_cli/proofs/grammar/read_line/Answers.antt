@@ -6,4 +6,5 @@ use Rattle.tracer_cli.proofs.grammar.read_line.Goals as goal
 
 pub returns-clause-line : goal.returns-clause-line
 returns-clause-line c =
-    c.read_words.ensures.line ∙ ap (line_of c.args.begun) c.first_words-count.ensures.words ∙ first_six c.args.begun (words_in c.args.line.now)
+    c.read_words.ensures.line ∙ ap (line_of c.args.begun) c.first_words-count.ensures.words
+    ∙ first_six c.args.begun (words_in c.args.line.now)

@@ -10,7 +10,8 @@ returns-in-Err-clause-err g c =
     let new : ReplayContent = record { rows = c.take_line.new.rows.items; orders = c.take_line.new.orders.items } in
     let counted = ap (λ (ls : List (List ℕ)). length ls) c.cut_line.ensures.lines in
     rw (← c.loop-rest.invariant.read, c.cut_line.ensures.lines) (
-    ends_here c.args.text.now c.loop-rest.number so_far new c.cut_line.result.0.now (lines_of c.cut_line.result.1.now) c.in-Err.cause
+    ends_here c.args.text.now c.loop-rest.number so_far new c.cut_line.result.0.now (lines_of c.cut_line.result.1.now)
+    c.in-Err.cause
     c.loop-rest.invariant.first (omega (arith, counted, c.loop-rest.invariant.counted)) c.in-Err.ensures.line)
 
 pub loop-rest-preserved : goal.loop-rest-preserved
@@ -25,10 +26,14 @@ loop-rest-preserved g c =
       few = c.take_line.ensures.few;
       roster = c.take_line.ensures.roster c.loop-rest.invariant.roster;
       range = c.take_line.ensures.range c.loop-rest.invariant.range;
-      read = sym (goes_on c.loop-rest.number so_far new c.cut_line.result.0.now (lines_of c.cut_line.result.1.now) c.in_default.ensures.line)
+      read = sym
+          (goes_on c.loop-rest.number so_far new c.cut_line.result.0.now (lines_of c.cut_line.result.1.now)
+          c.in_default.ensures.line)
           ∙ ap (content_after c.loop-rest.number so_far) (sym c.cut_line.ensures.lines) ∙ c.loop-rest.invariant.read;
     }
 
 pub returns-clause-ok : goal.returns-clause-ok
 returns-clause-ok g c =
-    sym c.loop-rest.invariant.read ∙ ends c.loop-rest.number (record { rows = c.loop-rest.rows.items; orders = c.loop-rest.orders.items }) c.loop-rest.rest.now c.loop-rest-test.ensures
+    sym c.loop-rest.invariant.read
+    ∙ ends c.loop-rest.number (record { rows = c.loop-rest.rows.items; orders = c.loop-rest.orders.items })
+    c.loop-rest.rest.now c.loop-rest-test.ensures

@@ -15,7 +15,8 @@ invariant-loop-rest g l = record {
   few : vec_len l.rows ≤ MOST_ROWS;
   roster : first_fault [] l.rows.items ≡ None;
   range : All IsOrder l.orders.items;
-  read : content_after l.number (record { rows = l.rows.items; orders = l.orders.items }) (lines_of l.rest) ≡ content_after 1 nothing (lines_of l.text);
+  read : content_after l.number (record { rows = l.rows.items; orders = l.orders.items })
+      (lines_of l.rest) ≡ content_after 1 nothing (lines_of l.text);
 }
 
 abbrev pub decreases-loop-rest : goal.decreases-loop-rest

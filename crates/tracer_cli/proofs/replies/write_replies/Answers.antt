@@ -12,8 +12,10 @@ loop-order-preserved g c = record {
       let behind = c.in_ok-reply.ensures.stands at.0 at.1 in (
         behind.0,
         behind.1,
-        ap (λ h. string_bytes c.reply.new.out ++ replies c.args.rows.now h (drop (c.loop-order.order-index + 1) c.args.orders.now)) behind.2
-            ∙ one_more c.args.rows.now at.0.history c.args.orders.now c.loop-order.order-index _ (string_bytes c.loop-order.out) (string_bytes c.reply.new.out) c.loop-order-test.true
+        ap (λ h. string_bytes c.reply.new.out ++ replies c.args.rows.now h
+            (drop (c.loop-order.order-index + 1) c.args.orders.now)) behind.2
+            ∙ one_more c.args.rows.now at.0.history c.args.orders.now c.loop-order.order-index _
+            (string_bytes c.loop-order.out) (string_bytes c.reply.new.out) c.loop-order-test.true
             (c.in_ok-reply.ensures.text at.0 at.1)
             ∙ at.2,
       );
@@ -22,4 +24,5 @@ loop-order-preserved g c = record {
 pub returns : goal.returns
 returns g c = λ m s.
     let at = c.loop-order.invariant.so_far m s in
-    sym (none_left c.args.rows.now at.0.history c.args.orders.now c.loop-order.order-index (string_bytes c.loop-order.out) c.loop-order-test.false) ∙ at.2
+    sym (none_left c.args.rows.now at.0.history c.args.orders.now c.loop-order.order-index
+    (string_bytes c.loop-order.out) c.loop-order-test.false) ∙ at.2

@@ -8,5 +8,8 @@ abbrev pub invariant-loop-order : goal.invariant-loop-order
 invariant-loop-order g l = record {
   rows : l.rows ≡ l.world.rows;
   tracers : l.world.tracers ≡ l.fn.world.tracers;
-  so_far : (start : Moment) → StandsAt l.fn.world start → (m : Moment) × StandsAt l.world m × (string_bytes l.out ++ replies l.rows m.history (drop l.order-index l.orders) ≡ string_bytes l.fn.out ++ replies l.rows start.history l.orders);
+  so_far : (start : Moment) → StandsAt l.fn.world start
+      → (m : Moment) × StandsAt l.world m
+      × (string_bytes l.out ++ replies l.rows m.history (drop l.order-index l.orders) ≡ string_bytes l.fn.out
+      ++ replies l.rows start.history l.orders);
 }

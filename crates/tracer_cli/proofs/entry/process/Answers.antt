@@ -1,0 +1,7 @@
+use Rattle.std.proofs.Common.{Err}
+use Rattle.tracer_cli.proofs.Runs.{untouched}
+use Rattle.tracer_cli.proofs.entry.process.Goals as goal
+
+pub returns-in-Err-clause-output : goal.returns-in-Err-clause-output
+returns-in-Err-clause-output g c =
+    (Err c.arguments_failure.result, c.fail.ensures, untouched c.args.output.now (Err c.arguments_failure.result))

@@ -22,7 +22,7 @@ failure_status CannotWrite = 3
 abbrev pub failure_text : Failure → List ℕ
 failure_text (Refused error) = codes "tracer: " ++ (case_error_text error ++ codes "\n")
 failure_text (Usage text) = string_bytes text
-failure_text NoText = codes "tracer: an argument is no text\n"
+failure_text NoText = codes "tracer: an argument is not valid UTF-8\n"
 failure_text NoMemory = codes "tracer: no memory\n"
 failure_text CannotRead = codes "tracer: cannot read\n"
 failure_text CannotWrite = codes "tracer: cannot write\n"

@@ -60,7 +60,7 @@ impl fmt::Display for Failure {
         match self {
             Failure::Refused(error) => write!(f, "tracer: {error}\n"),
             Failure::Usage(text) => write!(f, "{text}"),
-            Failure::NoText => write!(f, "tracer: an argument is no text\n"),
+            Failure::NoText => write!(f, "tracer: an argument is not valid UTF-8\n"),
             Failure::NoMemory => write!(f, "tracer: no memory\n"),
             Failure::CannotRead => write!(f, "tracer: cannot read\n"),
             Failure::CannotWrite => write!(f, "tracer: cannot write\n"),

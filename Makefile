@@ -7,6 +7,8 @@ RUSTC ?= rustc
 PYTHON ?= python3
 PREFIX ?= /usr/local
 OUT = bench/out
+# Takes the name and the status from a line of rt's report.
+ENDED = s/^case=\(.*\) run=ended status=\([0-9]*\) .*/\1: status \2/
 
 .PHONY: all kit demo examples check test bench tools install clean
 
@@ -33,8 +35,12 @@ demo: kit
 examples:
 	@echo "examples: running the program on each file of examples/, without waiting for the proofs (half a minute)"
 	@for file in first thread; do echo "examples/replay/$$file:"; cat examples/replay/$$file; echo "prints:"; cat examples/replay/$$file.stdout; done
-	@cd crates/tracer && $(RT) try --cases ../../examples/replay -- replay
-	@echo "examples: each file printed the text that stands beside it"
+	@found="$$(cd crates/tracer && $(RT) try --cases ../../examples/replay -- replay 2>&1)" \
+	  || { echo "$$found"; echo "examples: FAILED: a file printed another text than the one beside it" >&2; exit 1; }; \
+	echo "$$found" | sed -n -e '$(ENDED)' -e '/^== /,/: status /{p;b' -e '}' -e '/: status /p' \
+	  | diff -u examples/statuses - \
+	  || { echo "examples: FAILED: a status or a message is not that of examples/statuses (- wanted, + found)" >&2; exit 1; }
+	@echo "examples: each file printed the text that stands beside it, and ended with its status in examples/statuses"
 
 check: kit
 	@echo "check: proving every crate from nothing, then the must-fail edits, tests and programs (docs/STATUS.md has the time)"

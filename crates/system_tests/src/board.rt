@@ -1,23 +1,9 @@
-//! The one-thread stop board, on two lives worked out by hand from ptrace(2) and waitid(2).
+//! The one-thread stop board, on lives worked out by hand from ptrace(2) and waitid(2), up to its greatest sizes.
 
+use crate::rows::{ROOT, THREAD, family, roots};
 use std::test::Fail;
-use stop_board::{Board, Got, Refused, Roster, Row, State};
+use stop_board::{Board, Got, Refused, Roster, State};
 use trace_record::{Death, Kind, Resume, Stop};
-
-const ROOT: Row = Row {
-    tid: 100,
-    tgid: 100,
-    pgid: 77,
-    parent: 0,
-};
-
-/// A thread of the root's group.
-const THREAD: Row = Row {
-    tid: 101,
-    tgid: 100,
-    pgid: 77,
-    parent: 100,
-};
 
 const SYSCALL: Resume = Resume {
     kind: Kind::Syscall,
@@ -43,7 +29,7 @@ fn a_second_claim_gets_nothing(rt: HostRuntime) -> Result<(), Fail> {
 }
 
 #[test]
-fn a_thread_is_borne_and_its_leader_exits_last(rt: HostRuntime) -> Result<(), Fail> {
+fn a_thread_is_created_and_its_leader_exits_last(rt: HostRuntime) -> Result<(), Fail> {
     let roster = Roster::new(rt.alloc(), &[ROOT, THREAD])?;
     let mut board = Board::new(rt.alloc(), &roster)?;
     assert_eq!(rt; board.publish(1, Stop::Start), Err(Refused::Unborn));
@@ -100,6 +86,58 @@ fn a_row_that_never_stopped_dies_with_number_0(rt: HostRuntime) -> Result<(), Fa
     assert_eq!(rt; board.publish(0, Stop::Start), Err(Refused::NotRunning));
     assert_eq!(rt; board.claim(0, 15), Ok(Got::Ended(0, 0x00008b)));
     assert_eq!(rt; board.state(0), State::Reaped);
+    Ok(())
+}
+
+#[test]
+fn a_board_keeps_64_rows(rt: HostRuntime) -> Result<(), Fail> {
+    let rows = roots(rt.alloc(), 64)?;
+    let roster = Roster::new(rt.alloc(), rows.as_slice())?;
+    let mut board = Board::new(rt.alloc(), &roster)?;
+    for row in 0..64 {
+        assert_eq!(rt; board.publish(row, Stop::Start), Ok(1));
+        assert_eq!(rt; board.claim(row, row % 16), Ok(Got::Stop(1, 0x80057f)));
+    }
+    for row in 0..64 {
+        assert_eq!(rt; board.state(row), State::Claimed(1, row % 16));
+        assert_eq!(rt; board.resume(row, row % 16, SYSCALL), Ok(()));
+        assert_eq!(rt; board.exit(row, Death::Exited(255)), Ok(()));
+        assert_eq!(rt; board.claim(row, 15), Ok(Got::Ended(1, 0x00ff00)));
+    }
+    assert_eq!(rt; board.state(63), State::Reaped);
+    assert_eq!(rt; board.state(64), State::Absent);
+    Ok(())
+}
+
+#[test]
+fn a_row_creates_63_children(rt: HostRuntime) -> Result<(), Fail> {
+    let rows = family(rt.alloc(), 63)?;
+    let roster = Roster::new(rt.alloc(), rows.as_slice())?;
+    let mut board = Board::new(rt.alloc(), &roster)?;
+    for child in 1..64 {
+        assert_eq!(rt; board.state(child), State::Unborn);
+        assert_eq!(rt; board.publish(0, Stop::Fork(child + 1)), Ok(child));
+        assert_eq!(rt; board.state(child), State::Running);
+        assert_eq!(rt; board.claim(0, 0), Ok(Got::Stop(child, 0x01057f)));
+        assert_eq!(rt; board.resume(0, 0, CONT), Ok(()));
+    }
+    assert_eq!(rt; board.publish(0, Stop::Fork(64)), Err(Refused::NotNext));
+    assert_eq!(rt; board.publish(0, Stop::Fork(65)), Err(Refused::NotNext));
+    assert_eq!(rt; board.publish(0, Stop::Enter), Ok(64));
+    Ok(())
+}
+
+#[test]
+fn a_row_stops_100000_times(rt: HostRuntime) -> Result<(), Fail> {
+    let roster = Roster::new(rt.alloc(), &[ROOT])?;
+    let mut board = Board::new(rt.alloc(), &roster)?;
+    for number in 1..100_001 {
+        assert_eq!(rt; board.publish(0, Stop::Exit), Ok(number));
+        assert_eq!(rt; board.claim(0, 0), Ok(Got::Stop(number, 0x00857f)));
+        assert_eq!(rt; board.resume(0, 0, CONT), Ok(()));
+    }
+    assert_eq!(rt; board.exit(0, Death::Exited(0)), Ok(()));
+    assert_eq!(rt; board.state(0), State::Dead(100_000, 0x000000));
     Ok(())
 }
 

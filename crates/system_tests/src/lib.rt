@@ -5,9 +5,13 @@
 #[cfg(test)]
 mod board;
 #[cfg(test)]
+mod definitions;
+#[cfg(test)]
 mod expected_words;
 #[cfg(test)]
 mod growth;
+#[cfg(test)]
+mod memory;
 #[cfg(test)]
 mod program;
 #[cfg(test)]
@@ -16,6 +20,8 @@ mod readme;
 mod replay;
 #[cfg(test)]
 mod roster;
+#[cfg(test)]
+mod rows;
 #[cfg(test)]
 mod word;
 #[cfg(test)]

@@ -4,21 +4,45 @@ use std::alloc::AllocError;
 use std::io::{self, ErrorKind, Read, Write};
 use std::rt::Files;
 use std::test::Fail;
-use tracer_cli::program;
+use std::{fs, str};
+use tracer_cli::{arguments_failure, program};
 
-/// A stream that can be neither read nor written.
+/// A stream that hands over a text in parts of at most this many bytes, and fails once behind it.
 #[derive(Drop)]
-struct Broken;
+struct Source<'a> {
+    rest: &'a [u8],
+    most: u64,
+    fault: Option<ErrorKind>,
+}
 
-impl Read for Broken {
-    fn read(&mut self, _buffer: &mut [u8]) -> io::Result<usize> {
-        Err(io::Error::from(ErrorKind::BrokenPipe))
+impl Read for Source<'_> {
+    fn read(&mut self, buffer: &mut [u8]) -> io::Result<usize> {
+        if self.rest.is_empty() {
+            if let Some(kind) = self.fault.take() {
+                return Err(io::Error::from(kind));
+            }
+        }
+        self.rest.by_ref().take(self.most).read(buffer)
     }
 }
 
-impl Write for Broken {
-    fn write(&mut self, _bytes: &[u8]) -> io::Result<usize> {
-        Err(io::Error::from(ErrorKind::BrokenPipe))
+/// A stream that takes a byte at a time, and no more than there is room for.
+#[derive(Drop)]
+struct Sink {
+    taken: Vec<u8>,
+    room: usize,
+}
+
+impl Write for Sink {
+    fn write(&mut self, bytes: &[u8]) -> io::Result<usize> {
+        match bytes.first() {
+            None => Ok(0),
+            Some(_) if self.taken.len() >= self.room => Err(io::Error::from(ErrorKind::BrokenPipe)),
+            Some(byte) => {
+                self.taken.push(*byte)?;
+                Ok(1)
+            }
+        }
     }
 
     fn flush(&mut self) -> io::Result<()> {
@@ -26,13 +50,11 @@ impl Write for Broken {
     }
 }
 
-/// A stream whose reader finds no memory.
-#[derive(Drop)]
-struct Exhausted;
-
-impl Read for Exhausted {
-    fn read(&mut self, _buffer: &mut [u8]) -> io::Result<usize> {
-        Err(io::Error::from(ErrorKind::OutOfMemory))
+/// A stream with room for this many bytes.
+fn narrow(rt: &impl AllocGlobal, room: usize) -> Sink {
+    Sink {
+        taken: Vec::new(rt.alloc()),
+        room,
     }
 }
 
@@ -44,21 +66,27 @@ struct Ended {
     errors: Vec<u8>,
 }
 
-/// Runs the program on words, without its name, and on what stands on standard input.
-fn run_with<H: Files + AllocGlobal, R: Read>(
-    rt: &H,
-    words: &[&str],
-    input: &mut R,
-) -> Result<Ended, AllocError> {
+/// A command line of these words, behind the program's name.
+fn command_line(rt: &impl AllocGlobal, words: &[&str]) -> Result<Vec<String>, AllocError> {
     let alloc = rt.alloc();
     let mut all = Vec::new(alloc);
     all.push(String::from_str(alloc, "tracer")?)?;
     for word in words {
         all.push(String::from_str(alloc, word)?)?;
     }
-    let mut output = Vec::new(alloc);
-    let mut errors = Vec::new(alloc);
-    let status = program(rt, all.as_slice(), input, &mut output, &mut errors);
+    Ok(all)
+}
+
+/// Runs the program on words, without its name, and on what stands on standard input.
+fn run_with<H: Files + AllocGlobal, R: Read>(
+    rt: &H,
+    words: &[&str],
+    input: &mut R,
+) -> Result<Ended, AllocError> {
+    let words = command_line(rt, words)?;
+    let mut output = Vec::new(rt.alloc());
+    let mut errors = Vec::new(rt.alloc());
+    let status = program(rt, words.as_slice(), input, &mut output, &mut errors);
     Ok(Ended {
         status,
         output,
@@ -66,7 +94,21 @@ fn run_with<H: Files + AllocGlobal, R: Read>(
     })
 }
 
+/// Whether a text has another one in it.
+fn has_text(bytes: &[u8], part: &str) -> bool {
+    str::from_utf8(bytes).is_ok_and(|text| text.contains(part))
+}
+
 const FILE: &[u8] = b"row 100 100 77 0\nstate 100\n";
+
+const CANNOT_READ: &[u8] = b"tracer: cannot read\n";
+
+const CANNOT_WRITE: &[u8] = b"tracer: cannot write\n";
+
+const NO_MEMORY: &[u8] = b"tracer: no memory\n";
+
+/// What each usage and each help says.
+const USAGE: &str = "Usage: tracer";
 
 #[test]
 fn a_file_is_replayed_from_standard_input(rt: HostRuntime) -> Result<(), Fail> {
@@ -78,11 +120,78 @@ fn a_file_is_replayed_from_standard_input(rt: HostRuntime) -> Result<(), Fail> {
 }
 
 #[test]
-fn a_file_that_is_named_is_read(rt: HostRuntime) -> Result<(), Fail> {
-    let ended = run_with(&rt, &["replay", "/dev/null"], &mut FILE)?;
+fn standard_input_is_read_to_its_end_or_its_first_failure(rt: HostRuntime) -> Result<(), Fail> {
+    let table = [
+        (FILE, None, 0, b"running\n".as_slice(), b"".as_slice()),
+        (FILE, Some(ErrorKind::Interrupted), 0, b"running\n", b""),
+        (FILE, Some(ErrorKind::BrokenPipe), 3, b"", CANNOT_READ),
+        (b"", Some(ErrorKind::BrokenPipe), 3, b"", CANNOT_READ),
+        (FILE, Some(ErrorKind::OutOfMemory), 3, b"", NO_MEMORY),
+        (b"", Some(ErrorKind::OutOfMemory), 3, b"", NO_MEMORY),
+    ];
+    for (rest, fault, status, output, errors) in table {
+        for most in [1, 3, 4096] {
+            let mut input = Source { rest, most, fault };
+            let ended = run_with(&rt, &["replay"], &mut input)?;
+            assert_eq!(rt; ended.status, status, "{fault:?}, {most}");
+            assert_eq!(rt; ended.output.as_slice(), output, "{fault:?}, {most}");
+            assert_eq!(rt; ended.errors.as_slice(), errors, "{fault:?}, {most}");
+        }
+    }
+    Ok(())
+}
+
+#[test]
+fn a_file_that_is_named_is_read_in_place_of_standard_input(rt: HostRuntime) -> Result<(), Fail> {
+    for name in ["a regular file", "-"] {
+        fs::write(&rt, name, b"row 7 7 7 0\nexit 7 exited 0\n".as_slice())?;
+        let mut input = FILE;
+        let there = run_with(&rt, &["replay", name], &mut input);
+        fs::remove_file(&rt, name)?;
+        let there = there?;
+        assert_eq!(rt; there.status, 0, "{name}");
+        assert_eq!(rt; there.output.as_slice(), b"exited\n".as_slice(), "{name}");
+        assert_eq!(rt; there.errors.as_slice(), [].as_slice(), "{name}");
+        let gone = run_with(&rt, &["replay", name], &mut input)?;
+        assert_eq!(rt; gone.status, 3, "{name}");
+        assert_eq!(rt; gone.output.as_slice(), [].as_slice(), "{name}");
+        assert_eq!(rt; gone.errors.as_slice(), CANNOT_READ, "{name}");
+        assert_eq!(rt; input, FILE, "{name}");
+    }
+    Ok(())
+}
+
+#[test]
+fn a_file_is_read_to_its_end(rt: HostRuntime) -> Result<(), Fail> {
+    let mut text = String::from_str(rt.alloc(), "row 7 7 7 0\n")?;
+    let mut replies = String::new(rt.alloc());
+    for _ in 0..100_000 {
+        text.push_str("state 7\n")?;
+        replies.push_str("running\n")?;
+    }
+    fs::write(&rt, "a long file", text.as_str())?;
+    let ended = run_with(&rt, &["replay", "a long file"], &mut FILE);
+    fs::remove_file(&rt, "a long file")?;
+    let ended = ended?;
     assert_eq!(rt; ended.status, 0);
-    assert_eq!(rt; ended.output.as_slice(), [].as_slice());
-    assert_eq!(rt; ended.errors.as_slice(), [].as_slice());
+    assert!(rt;
+        ended.output.as_slice() == replies.as_bytes(),
+        "another text"
+    );
+    Ok(())
+}
+
+#[test]
+fn a_file_that_cannot_be_read_is_reported(rt: HostRuntime) -> Result<(), Fail> {
+    for name in ["there is no such file", ".", "/", ""] {
+        let ended = run_with(&rt, &["replay", name], &mut FILE)?;
+        assert_eq!(rt; ended.status, 3, "{name}");
+        assert_eq!(rt; ended.output.as_slice(), [].as_slice(), "{name}");
+        assert_eq!(rt; ended.errors.as_slice(), CANNOT_READ, "{name}");
+    }
+    let empty = run_with(&rt, &["replay", "/dev/null"], &mut FILE)?;
+    assert_eq!(rt; empty.status, 0);
+    assert_eq!(rt; empty.output.as_slice(), [].as_slice());
     Ok(())
 }
 
@@ -103,7 +212,7 @@ fn a_refused_file_prints_its_line_and_cause_alone(rt: HostRuntime) -> Result<(),
 }
 
 #[test]
-fn a_wrong_command_line_is_told_by_its_usage(rt: HostRuntime) -> Result<(), Fail> {
+fn a_wrong_command_line_is_answered_by_the_usage(rt: HostRuntime) -> Result<(), Fail> {
     for words in [
         ["run"].as_slice(),
         &["replay", "--fast"],
@@ -113,7 +222,7 @@ fn a_wrong_command_line_is_told_by_its_usage(rt: HostRuntime) -> Result<(), Fail
         let ended = run_with(&rt, words, &mut FILE)?;
         assert_eq!(rt; ended.status, 2, "{words:?}");
         assert_eq!(rt; ended.output.as_slice(), [].as_slice(), "{words:?}");
-        assert!(rt; !ended.errors.is_empty(), "{words:?}");
+        assert!(rt; has_text(ended.errors.as_slice(), USAGE), "{words:?}");
     }
     Ok(())
 }
@@ -130,32 +239,9 @@ fn help_is_no_failure(rt: HostRuntime) -> Result<(), Fail> {
     ] {
         let ended = run_with(&rt, words, &mut FILE)?;
         assert_eq!(rt; ended.status, 0, "{words:?}");
-        assert!(rt; !ended.output.is_empty(), "{words:?}");
+        assert!(rt; has_text(ended.output.as_slice(), USAGE), "{words:?}");
         assert_eq!(rt; ended.errors.as_slice(), [].as_slice(), "{words:?}");
     }
-    Ok(())
-}
-
-#[test]
-fn what_cannot_be_read_is_told(rt: HostRuntime) -> Result<(), Fail> {
-    let told = b"tracer: cannot read\n".as_slice();
-    let missing = run_with(&rt, &["replay", "there is no such file"], &mut FILE)?;
-    assert_eq!(rt; missing.status, 3);
-    assert_eq!(rt; missing.output.as_slice(), [].as_slice());
-    assert_eq!(rt; missing.errors.as_slice(), told);
-    let broken = run_with(&rt, &["replay"], &mut Broken)?;
-    assert_eq!(rt; broken.status, 3);
-    assert_eq!(rt; broken.output.as_slice(), [].as_slice());
-    assert_eq!(rt; broken.errors.as_slice(), told);
-    Ok(())
-}
-
-#[test]
-fn want_of_memory_is_told_apart_from_a_failed_read(rt: HostRuntime) -> Result<(), Fail> {
-    let ended = run_with(&rt, &["replay"], &mut Exhausted)?;
-    assert_eq!(rt; ended.status, 3);
-    assert_eq!(rt; ended.output.as_slice(), [].as_slice());
-    assert_eq!(rt; ended.errors.as_slice(), b"tracer: no memory\n".as_slice());
     Ok(())
 }
 
@@ -171,27 +257,28 @@ fn a_file_without_an_end_is_read_no_further_than_it_may_go(rt: HostRuntime) -> R
     Ok(())
 }
 
-/// The words of a replay from standard input, or of asking for help.
-fn words_of(rt: &impl AllocGlobal, word: &str) -> Result<Vec<String>, AllocError> {
-    let alloc = rt.alloc();
-    let mut words = Vec::new(alloc);
-    words.push(String::from_str(alloc, "tracer")?)?;
-    words.push(String::from_str(alloc, word)?)?;
-    Ok(words)
-}
-
 #[test]
-fn what_cannot_be_written_is_told(rt: HostRuntime) -> Result<(), Fail> {
-    for word in ["replay", "help"] {
-        let words = words_of(&rt, word)?;
+fn what_cannot_be_written_is_reported(rt: HostRuntime) -> Result<(), Fail> {
+    for (words, room, status) in [
+        (["replay"].as_slice(), 0, 3),
+        (&["replay"], 1, 3),
+        (&["replay"], 7, 3),
+        (&["replay"], 8, 0),
+        (&["help"], 0, 3),
+        (&["replay", "--help"], 20, 3),
+    ] {
+        let words = command_line(&rt, words)?;
+        let mut output = narrow(&rt, room);
         let mut errors = Vec::new(rt.alloc());
-        let status = program(&rt, words.as_slice(), &mut FILE, &mut Broken, &mut errors);
-        assert_eq!(rt; status, 3, "{word}");
-        assert_eq!(rt;
-            errors.as_slice(),
-            b"tracer: cannot write\n".as_slice(),
-            "{word}"
-        );
+        let ended = program(&rt, words.as_slice(), &mut FILE, &mut output, &mut errors);
+        assert_eq!(rt; ended, status, "{words:?}, {room}");
+        assert_eq!(rt; output.taken.len(), room, "{words:?}");
+        let expected = if status == 0 {
+            b"".as_slice()
+        } else {
+            CANNOT_WRITE
+        };
+        assert_eq!(rt; errors.as_slice(), expected, "{words:?}, {room}");
     }
     Ok(())
 }
@@ -203,10 +290,33 @@ fn a_failed_write_to_standard_error_changes_no_status(rt: HostRuntime) -> Result
         ("run", FILE, 2),
         ("replay", b"row 1 1 1 0\nstate 1\n", 3),
     ] {
-        let words = words_of(&rt, word)?;
-        let mut file = file;
-        let ended = program(&rt, words.as_slice(), &mut file, &mut Broken, &mut Broken);
-        assert_eq!(rt; ended, status, "{word}");
+        for room in [0, 3] {
+            let words = command_line(&rt, &[word])?;
+            let mut file = file;
+            let mut errors = narrow(&rt, room);
+            let ended = program(
+                &rt,
+                words.as_slice(),
+                &mut file,
+                &mut narrow(&rt, 0),
+                &mut errors,
+            );
+            assert_eq!(rt; ended, status, "{word}");
+            assert_eq!(rt; errors.taken.len(), room, "{word}");
+        }
     }
     Ok(())
+}
+
+#[test]
+fn arguments_that_cannot_be_had_are_reported(rt: HostRuntime) {
+    for (kind, status, text) in [
+        (ErrorKind::InvalidData, 2, "tracer: an argument is "),
+        (ErrorKind::OutOfMemory, 3, "tracer: no memory\n"),
+    ] {
+        let mut errors = Vec::new(rt.alloc());
+        let ended = arguments_failure(&io::Error::from(kind)).tell(&mut errors);
+        assert_eq!(rt; ended, status);
+        assert!(rt; has_text(errors.as_slice(), text), "{kind:?}");
+    }
 }

@@ -1,32 +1,12 @@
 //! Rosters that are accepted, and each fault at its place.
 
-use std::alloc::{AllocError, Allocator};
+use crate::rows::{ROOT, THREAD, roots, row};
 use std::test::Fail;
-use stop_board::{Roster, RosterError, Row, fault_after, place_of};
-
-const ROOT: Row = Row {
-    tid: 100,
-    tgid: 100,
-    pgid: 77,
-    parent: 0,
-};
-
-/// A row of these ids.
-fn row(tid: u32, tgid: u32, pgid: u32, parent: u32) -> Row {
-    Row {
-        tid,
-        tgid,
-        pgid,
-        parent,
-    }
-}
+use stop_board::{Roster, RosterError, fault_after, place_of};
 
 #[test]
 fn a_roster_gives_its_rows_back(rt: HostRuntime) -> Result<(), Fail> {
-    let roster = Roster::new(
-        rt.alloc(),
-        &[ROOT, row(101, 100, 77, 100), row(4194303, 4194303, 77, 101)],
-    )?;
+    let roster = Roster::new(rt.alloc(), &[ROOT, THREAD, row(4194303, 4194303, 77, 101)])?;
     assert_eq!(rt; roster.len(), 3);
     assert_eq!(rt; roster.rows().len(), 3);
     assert_eq!(rt; roster.row_of(101), Some(1));
@@ -39,11 +19,10 @@ fn a_roster_gives_its_rows_back(rt: HostRuntime) -> Result<(), Fail> {
 
 #[test]
 fn a_row_is_read_at_its_place(rt: HostRuntime) -> Result<(), Fail> {
-    let thread = row(101, 100, 77, 100);
-    let roster = Roster::new(rt.alloc(), &[ROOT, thread])?;
+    let roster = Roster::new(rt.alloc(), &[ROOT, THREAD])?;
     if 1 < roster.len() {
         assert_eq!(rt; roster.row(0), ROOT);
-        assert_eq!(rt; roster.row(1), thread);
+        assert_eq!(rt; roster.row(1), THREAD);
         return Ok(());
     }
     assert!(rt; false, "there are two rows");
@@ -51,7 +30,7 @@ fn a_row_is_read_at_its_place(rt: HostRuntime) -> Result<(), Fail> {
 }
 
 #[test]
-fn each_fault_is_told_at_its_place(rt: HostRuntime) {
+fn each_fault_is_reported_at_its_place(rt: HostRuntime) {
     for (second, fault) in [
         (row(0, 100, 77, 100), RosterError::Number(1)),
         (row(4194304, 100, 77, 100), RosterError::Number(1)),
@@ -77,21 +56,11 @@ fn each_fault_is_told_at_its_place(rt: HostRuntime) {
 }
 
 #[test]
-fn the_first_row_with_a_fault_is_told(rt: HostRuntime) {
+fn the_first_row_with_a_fault_is_reported(rt: HostRuntime) {
     let told = Roster::new(rt.alloc(), &[ROOT, ROOT, row(0, 0, 0, 0)]);
     assert!(rt; matches!(told, Err(RosterError::Twice(1))));
     let told = Roster::new(rt.alloc(), &[row(101, 101, 77, 100), ROOT]);
     assert!(rt; matches!(told, Err(RosterError::ParentLater(0))));
-}
-
-/// So many roots.
-fn roots<A: Allocator>(alloc: A, count: u32) -> Result<Vec<Row, A>, AllocError> {
-    let mut rows = Vec::new(alloc);
-    for tid in 0..count {
-        let tid = tid.wrapping_add(1);
-        rows.push(row(tid, tid, 77, 0))?;
-    }
-    Ok(rows)
 }
 
 #[test]
@@ -112,7 +81,7 @@ fn no_more_than_64_rows_are_accepted(rt: HostRuntime) -> Result<(), Fail> {
 
 #[test]
 fn one_more_row_is_tested_behind_others(rt: HostRuntime) {
-    let rows = [ROOT, row(101, 100, 77, 100)];
+    let rows = [ROOT, THREAD];
     assert_eq!(rt; fault_after(&rows, row(102, 100, 77, 101)), None);
     assert_eq!(rt;
         fault_after(&rows, row(101, 101, 77, 100)),

@@ -1,24 +1,15 @@
-//! The interleaving model, on runs worked out by hand.
+//! The interleaving model, on runs worked out by hand, up to its greatest sizes.
+
+ghost use Rattle.std.specs.Prelude.{All, IfOk};
+ghost use Rattle.stop_board.specs.Action.{IsAction};
+ghost use Rattle.trace_record.specs.Resume.{IsResume};
 
 use crate::expected_words::{OPENING, dead_before_any_stop, stopped_at_fork, stopped_at_start};
+use crate::rows::{CHILD, ROOT, roots};
+use std::alloc::{AllocError, Allocator};
 use std::test::Fail;
 use stop_board::{Action, Phase, Refused, Reply, Roster, Row, State, Word, World};
 use trace_record::{Death, Kind, Resume, Stop};
-
-const ROOT: Row = Row {
-    tid: 100,
-    tgid: 100,
-    pgid: 77,
-    parent: 0,
-};
-
-/// A child of the root.
-const CHILD: Row = Row {
-    tid: 101,
-    tgid: 101,
-    pgid: 77,
-    parent: 100,
-};
 
 const SYSCALL: Resume = Resume {
     kind: Kind::Syscall,
@@ -193,5 +184,116 @@ fn a_run_answers_each_turn_in_order(rt: HostRuntime) -> Result<(), Fail> {
     ];
     assert_eq!(rt; replies.as_slice(), expected.as_slice());
     assert_eq!(rt; world.state(0), State::Claimed(1, 0));
+    Ok(())
+}
+
+/// A thread of the root's group, behind another child of the root.
+const SECOND: Row = Row {
+    tid: 102,
+    tgid: 100,
+    pgid: 77,
+    parent: 100,
+};
+
+const NOT_TAKEN: Reply = Reply::Refused(Refused::NotTaken);
+
+const NOT_NEXT: Reply = Reply::Refused(Refused::NotNext);
+
+const NOT_RUNNING: Reply = Reply::Refused(Refused::NotRunning);
+
+/// The row at place 1 holds its leader back.
+const GROUP_ALIVE: Reply = Reply::Refused(Refused::GroupAlive(1));
+
+/// Whether a tracer claims the stop of a row and resumes it.
+fn lets_go<A: Allocator>(world: &mut World<A>, tracer: u32, row: u32, how: Resume) -> bool
+    requires { IsResume how }
+{
+    let _ = world.step(tracer, Action::Look(row));
+    matches!(world.step(tracer, Action::Claim(row)), Reply::Got(_))
+        && world.step(tracer, Action::Resume(row, how)) == Reply::Done
+}
+
+#[test]
+fn what_is_not_taken_up_is_refused_before_a_wrong_child(rt: HostRuntime) -> Result<(), Fail> {
+    let roster = Roster::new(rt.alloc(), &[ROOT, CHILD, SECOND])?;
+    let mut world = World::new(rt.alloc(), &roster, 1)?;
+    let table = [
+        (Action::Publish(Stop::Clone(102)), NOT_TAKEN),
+        (Action::TakeUp, Reply::Took(CONT)),
+        (Action::Publish(Stop::Clone(102)), NOT_NEXT),
+        (Action::Publish(Stop::Fork(103)), NOT_NEXT),
+        (Action::Publish(Stop::Fork(101)), Reply::Number(1)),
+        (Action::Publish(Stop::Clone(102)), NOT_RUNNING),
+        (Action::Exit(Death::Exited(0)), NOT_RUNNING),
+    ];
+    for (action, reply) in table {
+        assert_eq!(rt; world.step(0, action), reply);
+    }
+    Ok(())
+}
+
+#[test]
+fn a_restart_is_taken_up_with_its_signal(rt: HostRuntime) -> Result<(), Fail> {
+    let roster = Roster::new(rt.alloc(), &[ROOT, SECOND])?;
+    let mut world = World::new(rt.alloc(), &roster, 1)?;
+    assert_eq!(rt; world.step(0, Action::TakeUp), Reply::Took(CONT));
+    for (stop, kind, signal) in [
+        (Stop::Clone(102), Kind::Cont, 15),
+        (Stop::Enter, Kind::Syscall, 64),
+        (Stop::Signal(9), Kind::Cont, 1),
+    ] {
+        let how = Resume { kind, signal };
+        assert!(rt; matches!(world.step(0, Action::Publish(stop)), Reply::Number(_)));
+        assert!(rt; lets_go(&mut world, 2, 0, how));
+        // The second row is a live thread of the first, which is tested after whether the first is taken up.
+        assert_eq!(rt; world.step(0, Action::Exit(Death::Exited(0))), NOT_TAKEN);
+        assert_eq!(rt; world.step(0, Action::TakeUp), Reply::Took(how));
+        assert_eq!(rt; world.step(0, Action::Exit(Death::Exited(0))), GROUP_ALIVE);
+    }
+    Ok(())
+}
+
+#[test]
+fn a_world_keeps_64_rows_and_16_tracers(rt: HostRuntime) -> Result<(), Fail> {
+    let rows = roots(rt.alloc(), 64)?;
+    let roster = Roster::new(rt.alloc(), rows.as_slice())?;
+    let mut world = World::new(rt.alloc(), &roster, 16)?;
+    for row in 0..64 {
+        assert_eq!(rt; world.step(row, Action::TakeUp), Reply::Took(CONT));
+        assert_eq!(rt;
+            world.step(row, Action::Publish(Stop::Start)),
+            Reply::Number(1)
+        );
+    }
+    for row in 0..64 {
+        assert!(rt; lets_go(&mut world, 64 + row % 16, row, SYSCALL));
+        assert_eq!(rt; world.step(row, Action::TakeUp), Reply::Took(SYSCALL));
+    }
+    assert_eq!(rt; world.step(80, Action::Look(0)), NO_ROW);
+    Ok(())
+}
+
+/// This many turns of the first tracee, each to take its row up.
+fn take_ups<A: Allocator>(alloc: A, count: usize) -> Result<Vec<(u32, Action), A>, AllocError>
+    ensures { IfOk result (λ turns. All (λ turn. IsAction turn.1) turns.items) }
+{
+    vec![in alloc; (0u32, Action::TakeUp); count]
+}
+
+#[test]
+fn a_run_answers_100000_turns(rt: HostRuntime) -> Result<(), Fail> {
+    let roster = Roster::new(rt.alloc(), &[ROOT])?;
+    let mut world = World::new(rt.alloc(), &roster, 1)?;
+    let turns = take_ups(rt.alloc(), 100_000)?;
+    let replies = world.run(turns.as_slice())?;
+    assert_eq!(rt; replies.len(), 100_000);
+    for (turn, reply) in replies.iter().enumerate() {
+        let expected = if turn == 0 {
+            Reply::Took(CONT)
+        } else {
+            Reply::Refused(Refused::NotRunning)
+        };
+        assert_eq!(rt; *reply, expected, "turn {turn}");
+    }
     Ok(())
 }

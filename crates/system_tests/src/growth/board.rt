@@ -1,23 +1,12 @@
 //! Each growth of a roster and of a board refused in turn.
 
+use crate::rows::{ROOT, THREAD, roots};
 use refusing_allocator::RefusingAllocator;
 use std::alloc::Allocator;
+use std::test::Fail;
 use stop_board::{Board, NoMemory, Roster, RosterError, Row, State};
 
-const ROWS: [Row; 2] = [
-    Row {
-        tid: 100,
-        tgid: 100,
-        pgid: 77,
-        parent: 0,
-    },
-    Row {
-        tid: 101,
-        tgid: 100,
-        pgid: 77,
-        parent: 100,
-    },
-];
+const ROWS: [Row; 2] = [ROOT, THREAD];
 
 /// More than any call here has growths.
 const MOST: u64 = 20;
@@ -43,12 +32,21 @@ fn a_roster_wants_memory_once(rt: HostRuntime) {
 }
 
 #[test]
-fn a_fault_of_the_rows_is_told_before_memory_is_wanted(rt: HostRuntime) {
-    let heap = RefusingAllocator::new(rt.alloc(), 0);
-    let [root, _] = ROWS;
-    let told = Roster::new(&heap, &[root, root]);
-    assert!(rt; matches!(told, Err(RosterError::Twice(1))));
-    assert!(rt; !heap.has_refused());
+fn a_fault_of_the_rows_is_found_before_a_growth(rt: HostRuntime) -> Result<(), Fail> {
+    let many = roots(rt.alloc(), 65)?;
+    for (rows, fault) in [
+        ([ROOT, ROOT].as_slice(), RosterError::Twice(1)),
+        (&[THREAD], RosterError::ParentLater(0)),
+        (many.as_slice(), RosterError::TooMany),
+    ] {
+        let heap = RefusingAllocator::new(rt.alloc(), 0);
+        match Roster::new(&heap, rows) {
+            Ok(_) => assert!(rt; false, "accepted: {fault:?}"),
+            Err(found) => assert_eq!(rt; found, fault),
+        }
+        assert!(rt; !heap.has_refused());
+    }
+    Ok(())
 }
 
 /// The state of the first row of a new board.

@@ -1,5 +1,6 @@
 //! The growths of a tracee's memory.
 
+use crate::memory::fill;
 use refusing_allocator::RefusingAllocator;
 use std::alloc::Allocator;
 use trace_pages::{MapError, Memory, NoMemory};
@@ -99,4 +100,26 @@ fn the_only_error_of_a_copy_is_no_memory(rt: HostRuntime) {
     assert_eq!(rt; memory.map(0), Ok(()));
     assert!(rt; matches!(memory.copy(), Err(NoMemory)));
     assert!(rt; heap.has_refused());
+}
+
+#[test]
+fn a_page_that_cannot_be_mapped_needs_no_growth(rt: HostRuntime) {
+    let mut spent = false;
+    for granted in 0..64 {
+        let heap = RefusingAllocator::new(rt.alloc(), granted);
+        let mut memory = Memory::new(&heap);
+        if !fill(&mut memory) {
+            assert!(rt; heap.has_refused());
+            continue;
+        }
+        // What is granted is spent, and the next growth is the one that is refused.
+        assert_eq!(rt; memory.map(0), Err(MapError::Mapped));
+        assert_eq!(rt; memory.map(256 * 4096), Err(MapError::TooMany));
+        assert!(rt; !heap.has_refused());
+        assert!(rt; memory.copy().is_err());
+        assert!(rt; heap.has_refused());
+        spent = true;
+        break;
+    }
+    assert!(rt; spent, "256 pages were never granted");
 }

@@ -1,16 +1,10 @@
 //! Each growth of a World and of a run refused in turn.
 
+use crate::rows::ROOT;
 use refusing_allocator::RefusingAllocator;
 use std::alloc::Allocator;
-use stop_board::{Action, NoMemory, Reply, Roster, Row, World};
+use stop_board::{Action, NoMemory, Reply, Roster, World};
 use trace_record::{Kind, Resume, Stop};
-
-const ROWS: [Row; 1] = [Row {
-    tid: 100,
-    tgid: 100,
-    pgid: 77,
-    parent: 0,
-}];
 
 const TURNS: [(u32, Action); 2] = [(0, Action::TakeUp), (0, Action::Publish(Stop::Start))];
 
@@ -48,7 +42,7 @@ fn run_twice<A: Allocator + Copy, B: Allocator>(
 
 #[test]
 fn a_world_wants_memory_three_times_and_a_run_once(rt: HostRuntime) {
-    let Ok(roster) = Roster::new(rt.alloc(), &ROWS) else {
+    let Ok(roster) = Roster::new(rt.alloc(), &[ROOT]) else {
         return assert!(rt; false, "there is memory");
     };
     let mut refusals = 0u32;

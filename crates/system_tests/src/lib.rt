@@ -9,9 +9,13 @@ mod definitions;
 #[cfg(test)]
 mod expected_words;
 #[cfg(test)]
+mod families;
+#[cfg(test)]
 mod growth;
 #[cfg(test)]
 mod memory;
+#[cfg(test)]
+mod one_thread;
 #[cfg(test)]
 mod program;
 #[cfg(test)]
@@ -24,5 +28,7 @@ mod roster;
 mod rows;
 #[cfg(test)]
 mod word;
+#[cfg(test)]
+mod word_steps;
 #[cfg(test)]
 mod world;

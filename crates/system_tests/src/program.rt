@@ -5,7 +5,7 @@ use std::io::{self, ErrorKind, Read, Write};
 use std::rt::Files;
 use std::test::Fail;
 use std::{fs, str};
-use tracer_cli::{arguments_failure, program};
+use tracer_cli::{process, program};
 
 /// A stream that hands over a text in parts of at most this many bytes, and fails once behind it.
 #[derive(Drop)]
@@ -311,12 +311,24 @@ fn a_failed_write_to_standard_error_changes_no_status(rt: HostRuntime) -> Result
 #[test]
 fn arguments_that_cannot_be_had_are_reported(rt: HostRuntime) {
     for (kind, status, text) in [
-        (ErrorKind::InvalidData, 2, "tracer: an argument is "),
+        (
+            ErrorKind::InvalidData,
+            2,
+            "tracer: an argument is not valid UTF-8\n",
+        ),
         (ErrorKind::OutOfMemory, 3, "tracer: no memory\n"),
     ] {
+        let mut output = Vec::new(rt.alloc());
         let mut errors = Vec::new(rt.alloc());
-        let ended = arguments_failure(&io::Error::from(kind)).tell(&mut errors);
+        let ended = process(
+            &rt,
+            Err(io::Error::from(kind)),
+            &mut FILE,
+            &mut output,
+            &mut errors,
+        );
         assert_eq!(rt; ended, status);
-        assert!(rt; has_text(errors.as_slice(), text), "{kind:?}");
+        assert!(rt; output.is_empty());
+        assert_eq!(rt; errors.as_slice(), text.as_bytes(), "{kind:?}");
     }
 }

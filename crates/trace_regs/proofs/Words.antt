@@ -1,5 +1,6 @@
 -- Words of 64 bits and their bytes.
-use Rattle.std.proofs.Common.{◌≡◌, ℕ, zero, suc, ◌+◌, ◌*◌, ◌<◌, ◌^◌, List, [], ◌∷◌, ◌++◌, length, get_or, set, take, drop, refl, sym, ap, ◌∙◌, lit<, arith}
+use Rattle.std.proofs.Common.{◌≡◌, ℕ, zero, suc, ◌+◌, ◌*◌, ◌<◌, ◌^◌, List, [], ◌∷◌, ◌++◌, length, get_or, set, take}
+use Rattle.std.proofs.Common.{drop, refl, sym, ap, ◌∙◌, lit<, arith}
 use Rattle.std.specs.Prelude.{map, replicate, All}
 use Rattle.std.specs.Int.{w64, to_le_bytes, from_le_bytes}
 use Rattle.std.specs.List.{flat_map, range_with_len}
@@ -33,22 +34,33 @@ pub read_more : (words bytes : List ℕ) (i word : ℕ) → i < length words
     → bytes_of_all (take (i + 1) (set words i word)) ≡ take (8 * (i + 1)) bytes
 read_more words bytes i word inside same read =
     let next : 8 * (i + 1) ≡ 8 * i + 8 = omega arith in
-    rw (next, take-add (8 * i) 8 bytes, take_more_set words i word inside, flat_map-append (to_le_bytes w64) (take i words) (word ∷ []), read) (ap (λ (xs : List ℕ). take (8 * i) bytes ++ xs) same)
+    rw (
+      next,
+      take-add (8 * i) 8 bytes,
+      take_more_set words i word inside,
+      flat_map-append (to_le_bytes w64) (take i words) (word ∷ []),
+      read,
+    )
+    (ap (λ (xs : List ℕ). take (8 * i) bytes ++ xs) same)
 
 -- two words with the same bytes are one
 word_told : (a b : ℕ) → a < 2 ^ 64 → b < 2 ^ 64 → to_le_bytes w64 a ≡ to_le_bytes w64 b → a ≡ b
-word_told a b la lb same = sym (from_le_bytes-to_le_bytes_8 a la) ∙ ap (from_le_bytes w64) same ∙ from_le_bytes-to_le_bytes_8 b lb
+word_told a b la lb same =
+    sym (from_le_bytes-to_le_bytes_8 a la) ∙ ap (from_le_bytes w64) same ∙ from_le_bytes-to_le_bytes_8 b lb
 
 -- so are two lists of them
-pub words_told : (xs ys : List ℕ) → length xs ≡ length ys → All (λ word. word < 2 ^ 64) xs → All (λ word. word < 2 ^ 64) ys
+pub words_told : (xs ys : List ℕ) → length xs ≡ length ys → All (λ word. word < 2 ^ 64) xs
+    → All (λ word. word < 2 ^ 64) ys
     → bytes_of_all xs ≡ bytes_of_all ys → xs ≡ ys
 words_told [] [] long lx ly same = refl
 words_told [] (y ∷ ys) long lx ly same = absurd (omega arith)
 words_told (x ∷ xs) [] long lx ly same = absurd (omega arith)
 words_told (x ∷ xs) (y ∷ ys) long lx ly same =
-    let joined : to_le_bytes w64 x ++ bytes_of_all xs ≡ to_le_bytes w64 y ++ bytes_of_all ys = sym (flat_map-cons (to_le_bytes w64) x xs) ∙ same ∙ flat_map-cons (to_le_bytes w64) y ys in
+    let joined : to_le_bytes w64 x ++ bytes_of_all xs ≡ to_le_bytes w64 y
+    ++ bytes_of_all ys = sym (flat_map-cons (to_le_bytes w64) x xs) ∙ same ∙ flat_map-cons (to_le_bytes w64) y ys in
     let first : x ≡ y = word_told x y (lx 0 0 (omega arith)) (ly 0 0 (omega arith)) (ap (take 8) joined) in
-    let rest : xs ≡ ys = words_told xs ys (omega arith) (λ k d inside. lx (suc k) d (omega arith)) (λ k d inside. ly (suc k) d (omega arith)) (ap (drop 8) joined) in
+    let rest : xs ≡ ys = words_told xs ys (omega arith) (λ k d inside. lx (suc k) d (omega arith))
+    (λ k d inside. ly (suc k) d (omega arith)) (ap (drop 8) joined) in
     cc
 
 -- registers with the same words are the same

@@ -4,4 +4,11 @@ use Rattle.stop_history.proofs.Words.{death_reported}
 use Rattle.system_tests.proofs.expected_words.dead_before_any_stop.Goals as goal
 
 pub invariant_of-result : goal.invariant_of-result
-invariant_of-result c = record { of_phase = death_reported (death.Exited 3) (omega arith); few = omega arith; last = omega arith; fresh = λ is. cc }
+invariant_of-result c =
+    record {
+      of_phase = death_reported (death.Exited 3)
+          (omega arith);
+      few = omega arith;
+      last = omega arith;
+      fresh = λ is. cc;
+    }

@@ -4,4 +4,5 @@ use Rattle.stop_history.proofs.Words.{stop_reported}
 use Rattle.system_tests.proofs.expected_words.stopped_at_start.Goals as goal
 
 pub invariant_of-result : goal.invariant_of-result
-invariant_of-result c = record { of_phase = stop_reported stop.Start tt; few = omega arith; last = omega arith; fresh = λ is. cc }
+invariant_of-result c =
+    record { of_phase = stop_reported stop.Start tt; few = omega arith; last = omega arith; fresh = λ is. cc }

@@ -14,4 +14,7 @@ returns-clause-told c = ap (flat_map (to_le_bytes w64)) c.from_words.ensures ∙
 pub returns-clause-each : goal.returns-clause-each
 unfolding bytes_of
 returns-clause-each c = λ regs fit same.
-    regs_told c.from_words.result regs (words_told (words_of c.from_words.result) (words_of regs) refl (subst (All (λ word. word < 2 ^ 64)) (sym c.from_words.ensures) c.read_words.ensures.fit) fit (returns-clause-told c ∙ sym same))
+    regs_told c.from_words.result regs
+    (words_told (words_of c.from_words.result) (words_of regs) refl
+    (subst (All (λ word. word < 2 ^ 64)) (sym c.from_words.ensures) c.read_words.ensures.fit) fit
+    (returns-clause-told c ∙ sym same))

@@ -1,1 +1,3 @@
 mod Members
+mod Rows
+mod Tables

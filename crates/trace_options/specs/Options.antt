@@ -32,8 +32,8 @@ all_options = known_bits option_table
 abbrev pub Has : ℕ → Options → Type 0
 Has options option = bit_and options (option_bits option) ≡ option_bits option
 
--- the sets that a tracer takes: syscall-stops are told apart, forks and clones are followed alike, and no vfork, end
--- of a vfork or exit stops its caller
+-- the sets that a tracer takes: syscall-stops are reported apart, forks and clones are followed alike, and no vfork,
+-- end of a vfork or exit stops its caller
 pub record IsTaken (options : ℕ) : Type 0 where
   pub good : Has options TRACESYSGOOD
   pub alike : Has options TRACEFORK ↔ Has options TRACECLONE

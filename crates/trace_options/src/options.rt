@@ -70,7 +70,7 @@ impl Flags for Options {
 }
 
 impl Options {
-    /// A syscall-stop is told from a SIGTRAP.
+    /// Syscall-stops are reported apart from those by SIGTRAP.
     pub const TRACESYSGOOD: Options = Options(0x1);
     /// A fork stops its caller, and its child is traced.
     pub const TRACEFORK: Options = Options(0x2);
@@ -117,8 +117,8 @@ impl Options {
     }
 }
 
-/// Whether a tracer can be had with these options. It wants TRACESYSGOOD, follows forks and clones alike or neither,
-/// and has no vfork and no stop at an exit; else EINVAL.
+/// Whether a tracer takes these options: TRACESYSGOOD is among them, TRACEFORK and TRACECLONE both or neither, and
+/// none of TRACEVFORK, TRACEVFORKDONE and TRACEEXIT. Otherwise EINVAL.
 pub fn check(options: Options) -> Result<(), Errno>
     ensures taken { IsOk result ↔ IsTaken (option_bits options) }
     ensures invalid { IfErr result (λ error. error ≡ Errno.EINVAL) }

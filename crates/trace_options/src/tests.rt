@@ -1,3 +1,6 @@
+use super::ArgumentKind::{
+    Address, CString, Hexadecimal, InBuffer, InIovecs, Int, Mode, OutBuffer, OutIovecs, Unsigned,
+};
 use super::*;
 
 /// The events and their numbers, from ptrace(2) and `<sys/ptrace.h>`.
@@ -145,4 +148,93 @@ fn calls_are_added_one_by_one(rt: HostRuntime) {
         ret_data: 0xffff,
     };
     assert!(rt; filter.calls.contains(59));
+}
+
+/// The system calls and their numbers, from `<asm/unistd_64.h>`, and the types of their parameters, from section 2 of
+/// the manual. Of clone(2) the flags alone are printed, of execve(2) the two arrays by their addresses.
+const CALLS: [(u64, &[u8], &[ArgumentKind]); 15] = [
+    (0, b"read", &[Int, OutBuffer, Unsigned]),
+    (1, b"write", &[Int, InBuffer, Unsigned]),
+    (3, b"close", &[Int]),
+    (19, b"readv", &[Int, OutIovecs, Unsigned]),
+    (20, b"writev", &[Int, InIovecs, Unsigned]),
+    (39, b"getpid", &[]),
+    (56, b"clone", &[Hexadecimal]),
+    (57, b"fork", &[]),
+    (59, b"execve", &[CString, Address, Address]),
+    (60, b"exit", &[Int]),
+    (80, b"chdir", &[CString]),
+    (82, b"rename", &[CString, CString]),
+    (83, b"mkdir", &[CString, Mode]),
+    (84, b"rmdir", &[CString]),
+    (87, b"unlink", &[CString]),
+];
+
+#[test]
+fn a_system_call_is_found_by_number_and_by_name(rt: HostRuntime) {
+    for (number, name, arguments) in CALLS {
+        let call = Some(Syscall {
+            number,
+            name,
+            arguments,
+        });
+        assert_eq!(rt; Syscall::from_number(number), call, "{number}");
+        assert_eq!(rt; Syscall::from_name(name), call, "{number}");
+    }
+}
+
+#[test]
+fn what_is_no_known_call_is_not_found(rt: HostRuntime) {
+    for number in [2, 58, 61, 88, 231, u64::MAX] {
+        assert_eq!(rt; Syscall::from_number(number), None, "{number}");
+    }
+    let names: [&[u8]; 6] = [b"", b"rea", b"reads", b"READ", b"open", b"syscall_2"];
+    for name in names {
+        assert_eq!(rt; Syscall::from_name(name), None, "{name:?}");
+    }
+}
+
+#[test]
+fn an_error_has_the_name_of_its_number(rt: HostRuntime) {
+    let errors: [(u16, &[u8]); 7] = [
+        (1, b"EPERM"),
+        (2, b"ENOENT"),
+        (5, b"EIO"),
+        (11, b"EAGAIN"),
+        (22, b"EINVAL"),
+        (32, b"EPIPE"),
+        (39, b"ENOTEMPTY"),
+    ];
+    for (number, name) in errors {
+        assert_eq!(rt; error_name(number), Some(name), "{number}");
+    }
+    for number in [0, 6, 15, 23, 40, 258, 4095] {
+        assert_eq!(rt; error_name(number), None, "{number}");
+    }
+}
+
+#[test]
+fn a_standard_signal_has_a_name(rt: HostRuntime) {
+    let signals: [(u8, &[u8]); 7] = [
+        (1, b"SIGHUP"),
+        (5, b"SIGTRAP"),
+        (9, b"SIGKILL"),
+        (15, b"SIGTERM"),
+        (17, b"SIGCHLD"),
+        (29, b"SIGIO"),
+        (31, b"SIGSYS"),
+    ];
+    for (number, name) in signals {
+        assert_eq!(rt; signal_name(number), Some(name), "{number}");
+    }
+    for number in [0, 32, LAST_SIGNAL, 65, 255] {
+        assert_eq!(rt; signal_name(number), None, "{number}");
+    }
+}
+
+#[test]
+fn the_laws_hold() {
+    syscalls_are_one_to_one();
+    errors_rise();
+    signals_have_names();
 }

@@ -1,4 +1,4 @@
--- What PTRACE_GET_SYSCALL_INFO tells of a stop (ptrace(2), struct ptrace_syscall_info), and its layout.
+-- What PTRACE_GET_SYSCALL_INFO gives of a stop (ptrace(2), struct ptrace_syscall_info), and its layout.
 use Rattle.std.specs.Int.{bytes_low_first}
 use Rattle.std.specs.Prelude.{◌≡◌, ◌+◌, ◌<◌, ◌^◌, ℕ, FitsSigned, if◌then◌else◌, List, [], ◌∷◌, ◌++◌, All}
 use Rattle.std.specs.Prelude.{length, slice_index}

@@ -1,5 +1,5 @@
 -- Wait statuses: the word that wait(2) stores of a tracee, and what it means. The cases are those of the
--- macros of wait(2) (WIFEXITED, WIFSIGNALED, WIFSTOPPED), with the stops that ptrace(2) tells by it.
+-- macros of wait(2) (WIFEXITED, WIFSIGNALED, WIFSTOPPED), with the stops of ptrace(2).
 use Rattle.std.specs.Prelude.{◌≡◌, ◌+◌, ◌*◌, ◌<◌, ◌≤◌, ℕ, if◌then◌else◌, Option, Some, None}
 use Rattle.trace_options.specs.Event.{code_of}
 use Rattle.trace_options.specs.declared.event.Event.{Event}

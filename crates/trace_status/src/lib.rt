@@ -1,4 +1,4 @@
-//! Wait statuses of traced threads: what wait(2) tells of a tracee, and the word that tells it.
+//! Wait statuses of traced threads: what wait(2) reports of a tracee, and the word that it reports it in.
 #![tactic(auto)]
 
 mod draft;

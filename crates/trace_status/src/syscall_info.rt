@@ -1,4 +1,4 @@
-//! The information of a stop that `PTRACE_GET_SYSCALL_INFO` tells, and its layout.
+//! The information of a stop that `PTRACE_GET_SYSCALL_INFO` gives, and its layout.
 //!
 //! All numbers are little-endian. The first byte is the op, which says which part follows the head:
 //! - the head has the op, three bytes of padding, the architecture, the instruction and the stack pointer;
@@ -16,7 +16,7 @@ ghost use Rattle.trace_status.specs.declared.syscall_info.SyscallInfo.{SyscallIn
 
 use crate::draft::{Draft, LONGEST};
 
-/// What `PTRACE_GET_SYSCALL_INFO` tells of a stop (ptrace(2), `struct ptrace_syscall_info`).
+/// What `PTRACE_GET_SYSCALL_INFO` gives of a stop (ptrace(2), `struct ptrace_syscall_info`).
 #[derive(Clone, Copy, Debug, PartialEq, Eq, Hash)]
 pub struct SyscallInfo {
     /// The architecture of the tracee (`AUDIT_ARCH_*`).
@@ -66,8 +66,8 @@ impl SyscallInfo {
         bytes.len()
     }
 
-    /// The information that a whole layout tells, or None where the bytes are none: they have not the length that the
-    /// op wants, the padding is not zero, or `is_error` is neither 0 nor 1.
+    /// The information of a whole layout, or None where the bytes are no layout: their length is not that of the op,
+    /// the padding is not zero, or `is_error` is neither 0 nor 1.
     pub fn read(bytes: &[u8]) -> Option<SyscallInfo>
         ensures told { IfSome result (λ info. info_bytes info ≡ bytes.now) }
         ensures each { (info : SyscallInfo) → IsInfo info → info_bytes info ≡ bytes.now → result ≡ Some info }

@@ -1,13 +1,12 @@
 //! The wait status and its raw value.
 //!
-//! wait(2) tells a status by one word. Its low byte says which kind it is: 0 for an exit, with the code in
-//! the second byte; 0x7f for a stop, with the signal in the second byte; else the signal that killed the
-//! tracee, with 0x80 added where it dumped core. Of ptrace(2)'s stops, a syscall-stop is told by signal
-//! 0x85 (SIGTRAP with PTRACE_O_TRACESYSGOOD's bit), an event stop by SIGTRAP and the event's number in the
-//! third byte.
+//! wait(2) reports a status in one word. Its low byte says which kind it is: 0 for an exit, with the code in
+//! the second byte; [`STOPPED`] for a stop, with the signal in the second byte; otherwise the signal that killed
+//! the tracee, with [`CORE_DUMPED`] added where it dumped core. Of ptrace(2)'s stops, a syscall-stop is reported
+//! with the signal [`SYSCALL_TRAP`], an event stop with [`SIGTRAP`] and the event's number in the third byte.
 //!
-//! Not here: WIFCONTINUED, and system-call stops without PTRACE_O_TRACESYSGOOD, which wait(2) cannot tell
-//! from a SIGTRAP.
+//! Not here: WIFCONTINUED, and system-call stops without PTRACE_O_TRACESYSGOOD, which wait(2) reports like any
+//! SIGTRAP.
 
 ghost use Rattle.std.specs.Prelude.{◌≡◌, ◌↔◌, ℕ, IfSome, IsTrue};
 ghost use Rattle.trace_status.specs.WaitStatus.{Encodes, IsEvent, IsSignal, pid_of};
@@ -35,17 +34,17 @@ pub enum WaitStatus {
     Exited(u32, u8),
     /// This signal, 1 to 64, killed it; whether it dumped core (`WIFSIGNALED`).
     Signaled(u32, u8, bool),
-    /// It stands at a stop by this signal, 1 to 64 (`WIFSTOPPED`): a signal-delivery-stop.
+    /// It is stopped by this signal, 1 to 64 (`WIFSTOPPED`): a signal-delivery-stop.
     Stopped(u32, u8),
-    /// It stands at an event stop, by SIGTRAP (5) and the event's number, 1 to 7 or 128 (`PTRACE_EVENT_*`).
+    /// It is at an event stop, by SIGTRAP (5) and the event's number, 1 to 7 or 128 (`PTRACE_EVENT_*`).
     PtraceEvent(u32, u8, u8),
-    /// It stands at a syscall-enter-stop or a syscall-exit-stop.
+    /// It is at a syscall-enter-stop or a syscall-exit-stop.
     PtraceSyscall(u32),
-    /// There is nothing to report yet (`WNOHANG`). No raw value tells it.
+    /// There is nothing to report yet (`WNOHANG`). It has no raw value.
     StillAlive,
 }
 
-/// The status of the tracee `pid` that a raw value tells, or None where no status has this value
+/// The status of the tracee `pid` that a raw value reports, or None where no status has this value
 /// (wait(2), ptrace(2), "Syscall-stops" and "PTRACE_EVENT stops").
 pub fn decode(pid: u32, raw: u32) -> Option<WaitStatus>
     ensures told { IfSome result (λ status. (pid_of status ≡ Some pid) × Encodes status raw) }
@@ -67,7 +66,7 @@ pub fn decode(pid: u32, raw: u32) -> Option<WaitStatus>
     }
 }
 
-/// The raw value that tells a status, or None where none does: for `StillAlive`, a signal outside 1 to 64,
+/// The raw value that reports a status, or None where none does: for `StillAlive`, a signal outside 1 to 64,
 /// an event stop whose signal is not SIGTRAP or whose event is none of ptrace(2)'s.
 pub fn encode(status: &WaitStatus) -> Option<u32>
     ensures told { IfSome result (λ raw. Encodes status.now raw) }

@@ -1,0 +1,11 @@
+use Rattle.std.proofs.Common.{◌≡◌, ◌==◌, find, length, map}
+use Rattle.trace_options.specs.Syscalls.{row_in}
+use Rattle.trace_options.proofs.syscall.first_numbered.Given as goal
+
+abbrev pub invariant-loop-rows : goal.invariant-loop-rows
+invariant-loop-rows l =
+    find (λ row. row.number == l.number) (map row_in l.rows)
+    ≡ find (λ row. row.number == l.number) (map row_in l.initial.rows)
+
+abbrev pub decreases-loop-rows : goal.decreases-loop-rows
+decreases-loop-rows l = length l.rows

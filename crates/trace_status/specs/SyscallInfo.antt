@@ -52,17 +52,17 @@ AreInPlace from [] end = from ≡ end
 AreInPlace from (field ∷ fields) end = (field.0 ≡ from) × AreInPlace (from + field.1) fields end
 
 -- the ranges of the fields, which any information of the program is in
-abbrev pub IsWord : ℕ → Type 0
-IsWord word = word < 2 ^ 64
+abbrev pub FitsU64 : ℕ → Type 0
+FitsU64 word = word < 2 ^ 64
 
 abbrev pub AreArguments : List ℕ → Type 0
-AreArguments args = (length args ≡ 6) × All IsWord args
+AreArguments args = (length args ≡ 6) × All FitsU64 args
 
 abbrev pub IsPart : Part → Type 0
 IsPart Quiet = Unit {0}
-IsPart (Entry nr args) = IsWord nr × AreArguments args
+IsPart (Entry nr args) = FitsU64 nr × AreArguments args
 IsPart (Exit rval is_error) = FitsSigned w64 rval
-IsPart (Seccomp nr args ret_data) = IsWord nr × AreArguments args × (ret_data < 2 ^ 32)
+IsPart (Seccomp nr args ret_data) = FitsU64 nr × AreArguments args × (ret_data < 2 ^ 32)
 
 abbrev pub IsInfo : SyscallInfo → Type 0
-IsInfo info = (info.arch < 2 ^ 32) × IsWord info.ip × IsWord info.sp × IsPart info.part
+IsInfo info = (info.arch < 2 ^ 32) × FitsU64 info.ip × FitsU64 info.sp × IsPart info.part

@@ -11,7 +11,7 @@ ghost use Rattle.std.specs.Prelude.{◌≡◌, ◌+◌, ◌<◌, ◌≤◌, ◌^
 ghost use Rattle.std.specs.Prelude.{IfSome, Some, All, length, take, drop, slice_range};
 ghost use Rattle.std.specs.Int.{w32, w64, cast_unsigned, to_le_bytes};
 ghost use Rattle.std.specs.List.{flat_map};
-ghost use Rattle.trace_status.specs.SyscallInfo.{AreArguments, IsInfo, IsWord, info_bytes};
+ghost use Rattle.trace_status.specs.SyscallInfo.{AreArguments, IsInfo, FitsU64, info_bytes};
 ghost use Rattle.trace_status.specs.declared.syscall_info.SyscallInfo.{SyscallInfo};
 
 use crate::draft::{Draft, LONGEST};
@@ -201,7 +201,7 @@ fn args_at(bytes: &[u8]) -> [u64; 6]
 /// The word of eight bytes from a place on.
 fn word_at(bytes: &[u8], at: usize) -> u64
     requires { at + 8 ≤ length bytes.now }
-    ensures { (word : ℕ) → IsWord word → to_le_bytes w64 word ≡ slice_range bytes.now at (at + 8) → result ≡ word }
+    ensures { (word : ℕ) → FitsU64 word → to_le_bytes w64 word ≡ slice_range bytes.now at (at + 8) → result ≡ word }
 {
     let mut word = [0; 8];
     word.copy_from_slice(&bytes[at..at + 8]);

@@ -1,3 +1,4 @@
+-- The law is checked row by row of the table.
 use Rattle.std.proofs.Common.{◌≡◌, ◌==◌, Some, bytes_eq, map, refl}
 use Rattle.trace_options.specs.Syscalls.{SyscallRow, syscall_named, syscall_numbered, syscall_table}
 use Rattle.trace_options.proofs.Rows.{found_by_name, found_by_number}

@@ -1,3 +1,4 @@
+-- The law is a lemma on flat memory.
 use Rattle.trace_pages.proofs.Memories.{is_mapped, is_stored, mapped_is, same_memory, stored_is}
 use Rattle.trace_pages.proofs.laws.changes_determine_memory.Goals as goal
 

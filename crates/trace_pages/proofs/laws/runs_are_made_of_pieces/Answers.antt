@@ -1,3 +1,4 @@
+-- The law is a lemma on flat memory.
 use Rattle.trace_pages.proofs.Runs.{run-past, run-within, run_end-past, run_end-piece}
 use Rattle.trace_pages.proofs.laws.runs_are_made_of_pieces.Goals as goal
 

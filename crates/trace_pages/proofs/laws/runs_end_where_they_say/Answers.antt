@@ -1,3 +1,4 @@
+-- The law is a lemma on flat memory.
 use Rattle.trace_pages.proofs.Runs.{length-run-Absent, length-run-Full, length-run-Top, run_end-whole}
 use Rattle.trace_pages.proofs.laws.runs_end_where_they_say.Goals as goal
 

@@ -1,3 +1,4 @@
+-- The law is a lemma on flat memory.
 use Rattle.trace_pages.proofs.Memories.{same_run_end, stored_same}
 use Rattle.trace_pages.proofs.laws.stores_keep_addresses.Goals as goal
 

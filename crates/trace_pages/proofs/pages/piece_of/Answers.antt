@@ -1,3 +1,4 @@
+-- A piece is what its page has from the address on.
 use Rattle.std.proofs.Common.{◌≡◌, ◌+◌, ◌-◌, ◌*◌, ◌%◌, arith}
 use Rattle.trace_pages.proofs.Places.{IsPiece-part, byte_at-absent}
 use Rattle.trace_pages.proofs.pages.piece_of.Goals as goal

@@ -1,3 +1,4 @@
+-- A write within a page changes the bytes at its addresses alone.
 use Rattle.std.proofs.Common.{arith}
 use Rattle.trace_pages.proofs.Changes.{Overwrites-put_mid, byte_at-stored}
 use Rattle.trace_pages.proofs.Places.{byte_at-absent}

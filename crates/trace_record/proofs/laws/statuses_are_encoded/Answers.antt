@@ -1,3 +1,4 @@
+-- The law is a lemma on raw statuses.
 use Rattle.std.proofs.Common.{ℕ, refl}
 use Rattle.trace_options.specs.declared.event.Event.TheVariants as event
 use Rattle.trace_status.specs.WaitStatus.{Encodes}

@@ -1,3 +1,4 @@
+-- One more call is in the set, and every other is as it was.
 use Rattle.trace_options.specs.Calls.{Calls}
 use Rattle.trace_options.proofs.Members.{has_call-add}
 use Rattle.trace_options.proofs.call_set.CallSet.add.Goals as goal

@@ -1,3 +1,4 @@
+-- Every call is in the set of all.
 use Rattle.trace_options.proofs.Members.{has_call-all}
 use Rattle.trace_options.proofs.call_set.CallSet.all.Goals as goal
 

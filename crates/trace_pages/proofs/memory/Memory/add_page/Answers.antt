@@ -1,3 +1,4 @@
+-- A page of zeros is added to the lists, and to the flat memory.
 use Rattle.trace_pages.proofs.Changes.{ArePages-pushed, byte_at-pushed, len-pushed}
 use Rattle.trace_pages.proofs.memory.Memory.add_page.Goals as goal
 

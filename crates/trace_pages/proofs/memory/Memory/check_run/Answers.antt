@@ -1,3 +1,4 @@
+-- The run of addresses, page by page: whole, or ended where a page is absent.
 use Rattle.std.proofs.Common.{◌≡◌, ◌≤◌, ◌+◌, ◌^◌, length, sym, ap, ◌∙◌, arith}
 use Rattle.trace_pages.specs.FlatMemory.{run_end}
 use Rattle.trace_pages.specs.Memory.{store_answer}

@@ -1,3 +1,4 @@
+-- The run so far is mapped, and what is left decides the answer.
 use Rattle.std.proofs.Common.{◌≡◌, ◌<◌, ◌^◌}
 use Rattle.trace_pages.specs.FlatMemory.{run_end}
 use Rattle.trace_pages.proofs.memory.Memory.check_run.Given as goal

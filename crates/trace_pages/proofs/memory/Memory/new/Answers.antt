@@ -1,3 +1,4 @@
+-- No page is the empty memory.
 use Rattle.trace_pages.proofs.Counts.{flat_of-none}
 use Rattle.trace_pages.proofs.memory.Memory.new.Goals as goal
 

@@ -1,3 +1,4 @@
+-- The bytes are written page by page, and nothing else.
 use Rattle.std.proofs.Common.{◌≡◌, ◌+◌, ◌-◌, ◌≤◌, length, arith}
 use Rattle.trace_pages.proofs.Runs.{byte_at-stored_before, byte_at-stored_more, run_end-Full}
 use Rattle.trace_pages.proofs.memory.Memory.write_run.Goals as goal

@@ -1,3 +1,4 @@
+-- The bytes so far are stored, and the rest of the run is mapped.
 use Rattle.std.proofs.Common.{◌≡◌, ◌≤◌, ◌-◌, ℕ, length, take}
 use Rattle.trace_pages.specs.FlatMemory.{byte_after_store, byte_at}
 use Rattle.trace_pages.proofs.memory.Memory.write_run.Given as goal

@@ -1,3 +1,4 @@
+-- A raw status is decoded, and of what it reports only deaths are kept.
 use Rattle.std.proofs.Common.{◌≡◌, ℕ, Some, refl, sym}
 use Rattle.trace_status.specs.WaitStatus.{Encodes, pid_of}
 use Rattle.trace_record.specs.Death.{IsDeath, death_status, death_wait_status}

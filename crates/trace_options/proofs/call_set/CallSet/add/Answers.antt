@@ -1,3 +1,4 @@
+-- The call that is added is in the set, and the others are as before.
 use Rattle.trace_options.specs.Calls.{Calls}
 use Rattle.trace_options.proofs.Members.{has_call-add}
 use Rattle.trace_options.proofs.call_set.CallSet.add.Goals as goal

@@ -1,4 +1,4 @@
--- The law is checked row by row of the table.
+-- The table of errors is in order.
 use Rattle.std.proofs.Common.{map, refl}
 use Rattle.trace_options.specs.ErrorNames.{error_table}
 use Rattle.trace_options.specs.Names.{Named}

@@ -1,4 +1,4 @@
--- The law is checked row by row of the table.
+-- The table of system calls is in order, and each call of it is found by its name and by its number.
 use Rattle.std.proofs.Common.{◌≡◌, ◌==◌, Some, bytes_eq, map, refl}
 use Rattle.trace_options.specs.Syscalls.{SyscallRow, syscall_named, syscall_numbered, syscall_table}
 use Rattle.trace_options.proofs.Rows.{found_by_name, found_by_number}

@@ -1,3 +1,4 @@
+-- The rows that were passed over have other numbers.
 use Rattle.std.proofs.Common.{◌≡◌, length, map}
 use Rattle.trace_options.specs.Names.{name_in, named}
 use Rattle.trace_options.proofs.names.name_in.Given as goal

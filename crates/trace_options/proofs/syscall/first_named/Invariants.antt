@@ -1,3 +1,4 @@
+-- The rows that were passed over have other names.
 use Rattle.std.proofs.Common.{◌≡◌, bytes_eq, find, length, map}
 use Rattle.trace_options.specs.Syscalls.{row_in}
 use Rattle.trace_options.proofs.syscall.first_named.Given as goal

@@ -1,3 +1,4 @@
+-- The rows that were passed over have other numbers.
 use Rattle.std.proofs.Common.{◌≡◌, ◌==◌, find, length, map}
 use Rattle.trace_options.specs.Syscalls.{row_in}
 use Rattle.trace_options.proofs.syscall.first_numbered.Given as goal

@@ -1,4 +1,4 @@
--- One more call is in the set, and every other is as it was.
+-- The call that is added is in the set, and the others are as before.
 use Rattle.trace_options.specs.Calls.{Calls}
 use Rattle.trace_options.proofs.Members.{has_call-add}
 use Rattle.trace_options.proofs.call_set.CallSet.add.Goals as goal

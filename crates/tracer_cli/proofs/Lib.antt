@@ -3,7 +3,6 @@ pub mod Decimals
 pub mod LinesBack
 pub mod LinesRead
 pub mod ReadBack
-pub mod RosterGrows
 pub mod Runs
 pub mod SixWords
 pub mod Spelled

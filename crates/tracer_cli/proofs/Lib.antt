@@ -1,5 +1,6 @@
 pub mod Commands
 pub mod Decimals
+pub mod Guesses
 pub mod LinesBack
 pub mod LinesRead
 pub mod ReadBack

@@ -7,6 +7,7 @@ ghost use Rattle.tracer_cli.specs.Command.{IsCommand, IsOrder};
 ghost use Rattle.tracer_cli.specs.File.{Refuses, TakesLine, content_after, content_of, line_read, most_bytes};
 ghost use Rattle.tracer_cli.specs.File.{nothing, order_added, row_added};
 ghost use Rattle.text_lines.specs.Lines.{lines_of};
+ghost use Rattle.stop_history.specs.declared.roster.Row.{Row};
 ghost use Rattle.stop_history.specs.Roster.{push_fault, row_of};
 
 use crate::cause::{CaseError, Cause};
@@ -23,6 +24,9 @@ pub const MOST_BYTES: usize = 16_777_216;
 /// The shortest line that is a command.
 const SHORTEST: usize = b"state 1\n".len();
 
+/// How many thread ids are told apart by their last bits, so that each keeps a guess at its row.
+const GUESSES: usize = 256;
+
 /// What a file says: its rows, and the commands to them, each in the order of the file.
 #[derive(Drop)]
 pub struct Script<A: Allocator> {
@@ -34,6 +38,7 @@ pub struct Script<A: Allocator> {
 fn take_line<A: Allocator>(
     rows: &mut Roster<A>,
     orders: &mut Vec<Order, A>,
+    guesses: &mut [u32; GUESSES],
     line: &[u8],
     left: usize,
 ) -> Result<(), Cause>
@@ -44,7 +49,9 @@ fn take_line<A: Allocator>(
     match read_line(!orders.is_empty(), line)? {
         Line::Nothing => Ok(()),
         Line::Row(row) => take_row(rows, row),
-        Line::Command(tid, command) => take_order(rows, orders, tid, command, left),
+        Line::Command(tid, command) => {
+            take_order(orders, row_of(rows, guesses, tid), command, left)
+        }
     }
 }
 
@@ -59,20 +66,36 @@ fn take_row<A: Allocator>(rows: &mut Roster<A>, row: Row) -> Result<(), Cause>
     }
 }
 
-/// Takes one more command. The first one makes room for all that may follow.
+/// The row of a thread id. A guess is the row that was last found for a thread id of the same last bits: it may be
+/// wrong, so it is the answer only where its row has the thread id.
+fn row_of<A: Allocator>(rows: &Roster<A>, guesses: &mut [u32; GUESSES], tid: u32) -> Option<u32>
+    ensures { result ≡ row_of rows.now tid }
+{
+    let place = tid as usize % GUESSES;
+    let guess = guesses[place];
+    match rows.rows().get(guess as usize) {
+        Some(row) if row.tid == tid => Some(guess),
+        _ => {
+            let found = rows.row_of(tid)?;
+            guesses[place] = found;
+            Some(found)
+        }
+    }
+}
+
+/// Takes one more command, to this row if there is one. The first one makes room for all that may follow.
 fn take_order<A: Allocator>(
-    rows: &Roster<A>,
     orders: &mut Vec<Order, A>,
-    tid: u32,
+    row: Option<u32>,
     command: Command,
     left: usize,
 ) -> Result<(), Cause>
     requires { IsCommand command }
-    ensures order { TakesLine result (record { rows = rows.now; orders = orders.new.items })
-        (order_added (record { rows = rows.now; orders = orders.old.items }) command (row_of rows.now tid)) }
+    ensures order { (rows : List Row) → TakesLine result (record { rows = rows; orders = orders.new.items })
+        (order_added (record { rows = rows; orders = orders.old.items }) command row) }
     ensures range { All IsOrder orders.old.items → All IsOrder orders.new.items }
 {
-    let Some(row) = rows.row_of(tid) else {
+    let Some(row) = row else {
         return Err(Cause::NoSuchTracee);
     };
     if orders.is_empty() && orders.reserve(left / SHORTEST + 1).is_err() {
@@ -125,11 +148,12 @@ fn read_lines<A: Allocator + Copy>(alloc: A, text: &[u8]) -> Result<Script<A>, C
 {
     let mut rows = Roster::empty(alloc);
     let mut orders = Vec::new(alloc);
+    let mut guesses = [0u32; GUESSES];
     let mut rest = text;
     let mut number = 1u32;
     while !rest.is_empty() {
         let (line, after) = cut_line(rest);
-        if let Err(cause) = take_line(&mut rows, &mut orders, line, rest.len()) {
+        if let Err(cause) = take_line(&mut rows, &mut orders, &mut guesses, line, rest.len()) {
             return Err(CaseError {
                 line: number,
                 cause,

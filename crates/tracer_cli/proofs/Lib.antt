@@ -1,9 +1,9 @@
 pub mod Commands
 pub mod Decimals
+pub mod Guesses
 pub mod LinesBack
 pub mod LinesRead
 pub mod ReadBack
-pub mod RosterGrows
 pub mod Runs
 pub mod SixWords
 pub mod Spelled

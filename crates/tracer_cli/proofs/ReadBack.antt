@@ -1,12 +1,13 @@
 -- A spelled content is read back, row by row and then order by order.
 use Rattle.std.proofs.Common.{◌≡◌, ◌+◌, ◌<◌, ◌≤◌, ◌++◌, ◌∷◌, [], ℕ, Bool, true, false, None, Some, Option, List, Ok}
-use Rattle.std.proofs.Common.{length, length-append, arith, cond, le-leb, lt-ltb, append_assoc, append-nil, ap, sym}
+use Rattle.std.proofs.Common.{length, length-append, arith, cond, nat_lt, le-leb, lt-ltb, append_assoc, append-nil, ap, sym}
 use Rattle.std.proofs.Common.{◌∙◌}
 use Rattle.std.proofs.lemmas.List.Elements.{All-head, All-tail}
 use Rattle.std.specs.List.{All, join_with_byte}
 use Rattle.stop_history.specs.declared.roster.Row.{Row}
 use Rattle.stop_history.specs.declared.roster.RosterError.{RosterError}
-use Rattle.stop_history.specs.Roster.{IsRoster, fault_after, first_fault, row_at}
+use Rattle.stop_history.specs.declared.roster.RosterError.TheVariants.{TooMany}
+use Rattle.stop_history.specs.Roster.{IsRoster, fault_after, first_fault, or_later, row_at}
 use Rattle.stop_history.specs.declared.limits.TheConstants.{MOST_ROWS}
 use Rattle.stop_history.proofs.Rosters.{both_none, few_rows, row_of-tid, tid_in_range}
 use Rattle.tracer_cli.specs.declared.order.Order.{Order}
@@ -46,7 +47,9 @@ with_orders rows orders = record { rows = rows; orders = orders }
 row_takes : (before : List Row) (row : Row) → length before < MOST_ROWS → fault_after before row ≡ None
     → line_added (only_rows before) (line.Row row) ≡ Ok (only_rows (before ++ row ∷ []))
 row_takes before row room fits =
-    ap (row_added (only_rows before) row) fits ∙ rw (lt-ltb (length before) MOST_ROWS room)
+    ap (λ fault. row_added (only_rows before) row
+    (or_later fault (cond (nat_lt (length before) MOST_ROWS) None (Some TooMany)))) fits
+    ∙ rw (lt-ltb (length before) MOST_ROWS room)
 
 -- rows are read after those before them
 rows_read : (before rows : List Row) (rest : List ℕ) (all : ReplayContent) → first_fault before rows ≡ None

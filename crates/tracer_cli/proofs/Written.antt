@@ -13,6 +13,20 @@ pub told : {T E : Type 0} (result : Result T E) (out old said text : List ℕ) �
 told {T} {E} result out old said text same wrote = let P : List ℕ → Type 0 =
     λ t. OnOk result (out ≡ old ++ (t ++ 10 ∷ [])) in subst P same wrote
 
+-- one text after another is the one text of both
+pub in_two : (old first second new : List ℕ) → new ≡ old ++ first ++ second → new ≡ old ++ (first ++ second)
+in_two old first second new wrote = wrote ∙ append_assoc old first second
+
+pub in_three : (old first second third new : List ℕ) → new ≡ old ++ first ++ second ++ third
+    → new ≡ old ++ ((first ++ second) ++ third)
+in_three old first second third new wrote = wrote ∙ simp append_assoc
+
+pub at_status_line : (old before number gap status between new : List ℕ)
+    → between ≡ old ++ ((before ++ number) ++ gap) → new ≡ between ++ (status ++ 10 ∷ [])
+    → new ≡ old ++ ((before ++ (number ++ (gap ++ status))) ++ 10 ∷ [])
+at_status_line old before number gap status between new first second =
+    second ∙ ap (λ t. t ++ (status ++ 10 ∷ [])) first ∙ simp append_assoc
+
 pub has_history : (world : Contents) (h k : History) → h ≡ k → HasHistory world h → HasHistory world k
 has_history world h k same at = (at.0, at.1, at.2 ∙ same)
 

@@ -3,8 +3,7 @@ use Rattle.std.specs.Prelude.{◌≡◌, ◌+◌, ◌<◌, ◌≤◌, ◌++◌, 
 use Rattle.std.specs.Prelude.{Some, None, Result, Ok, Err, IfErr, IsOk, if◌then◌else◌}
 use Rattle.stop_history.specs.declared.roster.Row.{Row}
 use Rattle.stop_history.specs.declared.roster.RosterError.{RosterError}
-use Rattle.stop_history.specs.Roster.{fault_after, row_of}
-use Rattle.stop_history.specs.declared.limits.TheConstants.{MOST_ROWS}
+use Rattle.stop_history.specs.Roster.{push_fault, row_of}
 use Rattle.tracer_cli.specs.declared.cause.Cause.{Cause}
 use Rattle.tracer_cli.specs.declared.cause.Cause.TheVariants.{NoMemory, NoSuchTracee, TooMany}
 use Rattle.tracer_cli.specs.declared.cause.CaseError.{CaseError}
@@ -42,10 +41,10 @@ abbrev pub with_order : ReplayContent → (row : ℕ) → Command → ReplayCont
 with_order so_far row command =
     record { rows = so_far.rows; orders = so_far.orders ++ (record { row = row; command = command }) ∷ [] }
 
--- a row that has no fault after those before it, where there is room
+-- a row that has no fault as one more of the rows
 abbrev pub row_added : ReplayContent → Row → Option RosterError → Result ReplayContent Cause
 row_added so_far row (Some fault) = Err (cause_of fault)
-row_added so_far row None = if nat_lt (length so_far.rows) MOST_ROWS then Ok (with_row so_far row) else Err TooMany
+row_added so_far row None = Ok (with_row so_far row)
 
 -- a command to a row that is there
 abbrev pub order_added : ReplayContent → Command → Option ℕ → Result ReplayContent Cause
@@ -54,7 +53,7 @@ order_added so_far command (Some row) = Ok (with_order so_far row command)
 
 abbrev pub line_added : ReplayContent → Line → Result ReplayContent Cause
 line_added so_far line.Nothing = Ok so_far
-line_added so_far (line.Row row) = row_added so_far row (fault_after so_far.rows row)
+line_added so_far (line.Row row) = row_added so_far row (push_fault so_far.rows row)
 line_added so_far (line.Command tid command) = order_added so_far command (row_of so_far.rows tid)
 
 -- what the words of a line say, or its first fault as a cause

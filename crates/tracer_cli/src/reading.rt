@@ -1,20 +1,21 @@
 //! A replay file read whole, before any command of it is run: no fault of a file depends on the board.
 
-ghost use Rattle.std.specs.Prelude.{◌≡◌, ◌≤◌, [], All, IfErr, IfOk, List, None, Ok, length, vec_len};
+ghost use Rattle.std.specs.Prelude.{◌≡◌, ◌≤◌, All, IfErr, IfOk, List, Ok, length};
 ghost use Rattle.tracer_cli.specs.declared.order.Order.{Order};
 ghost use Rattle.tracer_cli.specs.Cause.{cause_of};
 ghost use Rattle.tracer_cli.specs.Command.{IsCommand, IsOrder};
 ghost use Rattle.tracer_cli.specs.File.{Refuses, TakesLine, content_after, content_of, line_read, most_bytes};
 ghost use Rattle.tracer_cli.specs.File.{nothing, order_added, row_added};
 ghost use Rattle.text_lines.specs.Lines.{lines_of};
-ghost use Rattle.stop_history.specs.Roster.{IsRoster, fault_after, first_fault, row_of};
+ghost use Rattle.stop_history.specs.declared.roster.Row.{Row};
+ghost use Rattle.stop_history.specs.Roster.{push_fault, row_of};
 
 use crate::cause::{CaseError, Cause};
 use crate::command::Command;
 use crate::grammar::{Line, read_line};
 use crate::order::Order;
 use std::alloc::Allocator;
-use stop_board::{MOST_ROWS, RosterError, Row, fault_after, place_of};
+use stop_board::{Roster, RosterError, Row};
 use text_lines::cut_line;
 
 /// How many bytes a file has at most.
@@ -23,80 +24,84 @@ pub const MOST_BYTES: usize = 16_777_216;
 /// The shortest line that is a command.
 const SHORTEST: usize = b"state 1\n".len();
 
+/// How many thread ids are told apart by their last bits, so that each keeps a guess at its row.
+const GUESSES: usize = 256;
+
 /// What a file says: its rows, and the commands to them, each in the order of the file.
 #[derive(Drop)]
 pub struct Script<A: Allocator> {
-    pub rows: Vec<Row, A>,
+    pub rows: Roster<A>,
     pub orders: Vec<Order, A>,
 }
 
 /// Takes one more line into the rows and the orders so far, or returns its first fault. `left` bytes follow it.
 fn take_line<A: Allocator>(
-    rows: &mut Vec<Row, A>,
+    rows: &mut Roster<A>,
     orders: &mut Vec<Order, A>,
+    guesses: &mut [u32; GUESSES],
     line: &[u8],
     left: usize,
 ) -> Result<(), Cause>
-    requires { vec_len rows.old ≤ MOST_ROWS }
-    ensures line { TakesLine result (record { rows = rows.new.items; orders = orders.new.items })
-        (line_read (record { rows = rows.old.items; orders = orders.old.items }) line.now) }
-    ensures few { vec_len rows.new ≤ MOST_ROWS }
-    ensures roster { first_fault [] rows.old.items ≡ None → first_fault [] rows.new.items ≡ None }
+    ensures line { TakesLine result (record { rows = rows.new; orders = orders.new.items })
+        (line_read (record { rows = rows.old; orders = orders.old.items }) line.now) }
     ensures range { All IsOrder orders.old.items → All IsOrder orders.new.items }
 {
     match read_line(!orders.is_empty(), line)? {
         Line::Nothing => Ok(()),
         Line::Row(row) => take_row(rows, row),
-        Line::Command(tid, command) => take_order(rows.as_slice(), orders, tid, command, left),
+        Line::Command(tid, command) => {
+            take_order(orders, row_of(rows, guesses, tid), command, left)
+        }
     }
 }
 
 /// Takes one more row.
-#[tactic(auto, using(crate::proofs::RosterGrows::still_roster))]
-fn take_row<A: Allocator>(rows: &mut Vec<Row, A>, row: Row) -> Result<(), Cause>
-    requires { vec_len rows.old ≤ MOST_ROWS }
-    ensures row { (orders : List Order) → TakesLine result (record { rows = rows.new.items; orders = orders })
-        (row_added (record { rows = rows.old.items; orders = orders }) row (fault_after rows.old.items row)) }
-    ensures few { vec_len rows.new ≤ MOST_ROWS }
-    ensures roster { first_fault [] rows.old.items ≡ None → first_fault [] rows.new.items ≡ None }
+fn take_row<A: Allocator>(rows: &mut Roster<A>, row: Row) -> Result<(), Cause>
+    ensures { (orders : List Order) → TakesLine result (record { rows = rows.new; orders = orders })
+        (row_added (record { rows = rows.old; orders = orders }) row (push_fault rows.old row)) }
 {
-    if let Some(fault) = fault_after(rows.as_slice(), row) {
-        return Err(cause_of(fault));
+    match rows.push(row) {
+        Ok(()) => Ok(()),
+        Err(fault) => Err(cause_of(fault)),
     }
-    if rows.len() >= MOST_ROWS {
-        return Err(Cause::TooMany);
-    }
-    if rows.push(row).is_err() {
-        return Err(Cause::NoMemory);
-    }
-    Ok(())
 }
 
-/// Takes one more command. The first one makes room for all that may follow.
+/// The row of a thread id. A guess is the row that was last found for a thread id of the same last bits: it may be
+/// wrong, so it is the answer only where its row has the thread id.
+fn row_of<A: Allocator>(rows: &Roster<A>, guesses: &mut [u32; GUESSES], tid: u32) -> Option<u32>
+    ensures { result ≡ row_of rows.now tid }
+{
+    let place = tid as usize % GUESSES;
+    let guess = guesses[place];
+    match rows.rows().get(guess as usize) {
+        Some(row) if row.tid == tid => Some(guess),
+        _ => {
+            let found = rows.row_of(tid)?;
+            guesses[place] = found;
+            Some(found)
+        }
+    }
+}
+
+/// Takes one more command, to this row if there is one. The first one makes room for all that may follow.
 fn take_order<A: Allocator>(
-    rows: &[Row],
     orders: &mut Vec<Order, A>,
-    tid: u32,
+    row: Option<u32>,
     command: Command,
     left: usize,
 ) -> Result<(), Cause>
-    requires few { length rows.now ≤ MOST_ROWS }
-    requires range { IsCommand command }
-    ensures order { TakesLine result (record { rows = rows.now; orders = orders.new.items })
-        (order_added (record { rows = rows.now; orders = orders.old.items }) command (row_of rows.now tid)) }
+    requires { IsCommand command }
+    ensures order { (rows : List Row) → TakesLine result (record { rows = rows; orders = orders.new.items })
+        (order_added (record { rows = rows; orders = orders.old.items }) command row) }
     ensures range { All IsOrder orders.old.items → All IsOrder orders.new.items }
 {
-    let Some(row) = place_of(rows, tid) else {
+    let Some(row) = row else {
         return Err(Cause::NoSuchTracee);
     };
     if orders.is_empty() && orders.reserve(left / SHORTEST + 1).is_err() {
         return Err(Cause::NoMemory);
     }
-    let order = Order {
-        row: row as u32,
-        command,
-    };
-    if orders.push(order).is_err() {
+    if orders.push(Order { row, command }).is_err() {
         return Err(Cause::NoMemory);
     }
     Ok(())
@@ -119,10 +124,9 @@ fn cause_of(fault: RosterError) -> Cause
 /// What a file says, or its first fault.
 pub fn read<A: Allocator + Copy>(alloc: A, text: &[u8]) -> Result<Script<A>, CaseError>
     ensures ok { IfOk result (λ script. content_of text.now
-        ≡ Ok (record { rows = script.rows.items; orders = script.orders.items })) }
+        ≡ Ok (record { rows = script.rows; orders = script.orders.items })) }
     ensures err { let read = content_of text.now in
         IfErr result (λ error. Refuses text.now error.cause error.line read read) }
-    ensures roster { IfOk result (λ script. IsRoster script.rows.items) }
     ensures range { IfOk result (λ script. All IsOrder script.orders.items) }
 {
     if text.len() > MOST_BYTES {
@@ -137,19 +141,19 @@ pub fn read<A: Allocator + Copy>(alloc: A, text: &[u8]) -> Result<Script<A>, Cas
 fn read_lines<A: Allocator + Copy>(alloc: A, text: &[u8]) -> Result<Script<A>, CaseError>
     requires { length text.now ≤ most_bytes }
     ensures ok { IfOk result (λ script. content_after 1 nothing (lines_of text.now)
-        ≡ Ok (record { rows = script.rows.items; orders = script.orders.items })) }
+        ≡ Ok (record { rows = script.rows; orders = script.orders.items })) }
     ensures err { let read = content_after 1 nothing (lines_of text.now) in
         IfErr result (λ error. Refuses text.now error.cause error.line read read) }
-    ensures roster { IfOk result (λ script. IsRoster script.rows.items) }
     ensures range { IfOk result (λ script. All IsOrder script.orders.items) }
 {
-    let mut rows = Vec::new(alloc);
+    let mut rows = Roster::empty(alloc);
     let mut orders = Vec::new(alloc);
+    let mut guesses = [0u32; GUESSES];
     let mut rest = text;
     let mut number = 1u32;
     while !rest.is_empty() {
         let (line, after) = cut_line(rest);
-        if let Err(cause) = take_line(&mut rows, &mut orders, line, rest.len()) {
+        if let Err(cause) = take_line(&mut rows, &mut orders, &mut guesses, line, rest.len()) {
             return Err(CaseError {
                 line: number,
                 cause,

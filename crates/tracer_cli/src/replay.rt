@@ -1,7 +1,6 @@
 //! A replay file from bytes to bytes.
 
 ghost use Rattle.std.specs.Prelude.{◌≡◌, ◌<◌, ◌^◌, [], All, IfErr, IfOk, Ok, length, max};
-ghost use Rattle.stop_history.specs.Roster.{IsRoster};
 ghost use Rattle.tracer_cli.specs.Command.{IsOrder};
 ghost use Rattle.tracer_cli.specs.File.{Refuses, content_of};
 ghost use Rattle.text_lines.specs.Lines.{lines_of};
@@ -13,7 +12,7 @@ use crate::order::Order;
 use crate::reading::read;
 use crate::replies::write_replies;
 use std::alloc::Allocator;
-use stop_board::{NoMemory, Roster, Row, TRACERS, World};
+use stop_board::{NoMemory, Roster, TRACERS, World};
 use text_lines::cut_line;
 
 /// The longest reply is that of a leader's exit which a row of seven digits holds back.
@@ -28,7 +27,7 @@ pub fn replay_text<A: Allocator + Copy>(alloc: A, text: &[u8]) -> Result<Vec<u8,
         Refuses text.now error.cause error.line (content_of text.now) (replay_of text.now)) }
 {
     let script = read(alloc, text)?;
-    match run(alloc, script.rows.as_slice(), script.orders.as_slice()) {
+    match run(alloc, &script.rows, script.orders.as_slice()) {
         Ok(bytes) => Ok(bytes),
         Err(NoMemory) => Err(CaseError {
             line: last_line(text),
@@ -40,19 +39,15 @@ pub fn replay_text<A: Allocator + Copy>(alloc: A, text: &[u8]) -> Result<Vec<u8,
 /// The replies to orders on a new World.
 fn run<A: Allocator + Copy>(
     alloc: A,
-    rows: &[Row],
+    roster: &Roster<A>,
     orders: &[Order],
 ) -> Result<Vec<u8, A>, NoMemory>
-    requires roster { IsRoster rows.now }
-    requires range { All IsOrder orders.now }
-    ensures { IfOk result (λ bytes. bytes.items ≡ replies rows.now [] orders.now) }
+    requires { All IsOrder orders.now }
+    ensures { IfOk result (λ bytes. bytes.items ≡ replies roster.now [] orders.now) }
 {
-    let Ok(roster) = Roster::new(alloc, rows) else {
-        return Err(NoMemory);
-    };
-    let mut world = World::new(alloc, &roster, TRACERS)?;
+    let mut world = World::new(alloc, roster, TRACERS)?;
     let mut out = String::with_capacity(alloc, orders.len().saturating_mul(LONGEST))?;
-    write_replies(&mut out, rows, &mut world, orders)?;
+    write_replies(&mut out, roster.rows(), &mut world, orders)?;
     Ok(out.into_bytes())
 }
 

@@ -2,8 +2,8 @@
 
 ghost use Rattle.std.specs.Prelude.{◌≡◌, ◌++◌, ◌≤◌, ◌∷◌, [], length, All, OnOk, codes, decimal, string_bytes};
 ghost use Rattle.tracer_cli.specs.Command.{IsOrder};
-ghost use Rattle.tracer_cli.specs.Replies.{done_text, got_text, history_after_command, published_text, refusal_text};
-ghost use Rattle.tracer_cli.specs.Replies.{replies, reply_text, state_text};
+ghost use Rattle.tracer_cli.specs.Replies.{at_status, done_text, got_text, history_after_command};
+ghost use Rattle.tracer_cli.specs.Replies.{published_text, refusal_text, replies, reply_text, state_text};
 ghost use Rattle.stop_history.specs.Roster.{row_at};
 ghost use Rattle.stop_history.specs.declared.limits.TheConstants.{MOST_ROWS, TRACERS};
 ghost use Rattle.stop_board.specs.World.{Moment, StandsAt};
@@ -11,8 +11,43 @@ ghost use Rattle.stop_board.specs.OneThread.{HasHistory};
 
 use crate::command::Command;
 use crate::order::Order;
+use itoa::Buffer;
 use std::alloc::Allocator;
 use stop_board::{Got, NoMemory, Refused, Row, State, World};
+
+/// Writes a number in decimal between two texts. Most replies have one, and `write!` takes several times as long.
+#[tactic(auto, using(crate::proofs::Written::in_three))]
+fn write_number<A: Allocator>(
+    out: &mut String<A>,
+    before: &str,
+    number: u32,
+    after: &str,
+) -> Result<(), NoMemory>
+    ensures { OnOk result (string_bytes out.new
+        ≡ string_bytes out.old ++ ((before.now ++ decimal number) ++ after.now)) }
+{
+    let mut buffer = Buffer::new();
+    out.push_str(before)?;
+    out.push_str(buffer.format(number))?;
+    out.push_str(after)?;
+    Ok(())
+}
+
+/// Writes a text, a number and a status, as a line.
+#[tactic(auto, using(crate::proofs::Written::at_status_line))]
+fn write_at_status<A: Allocator>(
+    out: &mut String<A>,
+    before: &str,
+    number: u32,
+    status: u32,
+) -> Result<(), NoMemory>
+    ensures { OnOk result (string_bytes out.new
+        ≡ string_bytes out.old ++ ((before.now ++ at_status number status) ++ 10 ∷ [])) }
+{
+    write_number(out, before, number, " 0x")?;
+    write!(out, "{status:06x}\n")?;
+    Ok(())
+}
 
 fn write_published<A: Allocator>(
     out: &mut String<A>,
@@ -22,10 +57,7 @@ fn write_published<A: Allocator>(
     ensures { OnOk result (string_bytes out.new ≡ string_bytes out.old ++ (published_text rows.now answer ++ 10 ∷ [])) }
 {
     match answer {
-        Ok(number) => {
-            write!(out, "published {number}\n")?;
-            Ok(())
-        }
+        Ok(number) => write_number(out, "published ", number, "\n"),
         Err(refusal) => write_refusal(out, rows, refusal),
     }
 }
@@ -38,14 +70,8 @@ fn write_got<A: Allocator>(
     ensures { OnOk result (string_bytes out.new ≡ string_bytes out.old ++ (got_text rows.now answer ++ 10 ∷ [])) }
 {
     match answer {
-        Ok(Got::Stop(number, status)) => {
-            write!(out, "stop {number} 0x{status:06x}\n")?;
-            Ok(())
-        }
-        Ok(Got::Ended(number, status)) => {
-            write!(out, "ended {number} 0x{status:06x}\n")?;
-            Ok(())
-        }
+        Ok(Got::Stop(number, status)) => write_at_status(out, "stop ", number, status),
+        Ok(Got::Ended(number, status)) => write_at_status(out, "ended ", number, status),
         Err(refusal) => write_refusal(out, rows, refusal),
     }
 }
@@ -58,15 +84,15 @@ fn write_refusal<A: Allocator>(
     ensures { OnOk result (string_bytes out.new ≡ string_bytes out.old ++ (refusal_text rows.now refusal ++ 10 ∷ [])) }
 {
     match refusal {
-        Refused::NoRow => write!(out, "refused NoRow\n")?,
-        Refused::Unborn => write!(out, "refused Unborn\n")?,
-        Refused::NotRunning => write!(out, "refused NotRunning\n")?,
-        Refused::NotTaken => write!(out, "refused NotTaken\n")?,
-        Refused::NotNext => write!(out, "refused NotNext\n")?,
-        Refused::Full => write!(out, "refused Full\n")?,
-        Refused::NotWaitable => write!(out, "refused NotWaitable\n")?,
-        Refused::NotClaimed => write!(out, "refused NotClaimed\n")?,
-        Refused::NotHolder => write!(out, "refused NotHolder\n")?,
+        Refused::NoRow => out.push_str("refused NoRow\n")?,
+        Refused::Unborn => out.push_str("refused Unborn\n")?,
+        Refused::NotRunning => out.push_str("refused NotRunning\n")?,
+        Refused::NotTaken => out.push_str("refused NotTaken\n")?,
+        Refused::NotNext => out.push_str("refused NotNext\n")?,
+        Refused::Full => out.push_str("refused Full\n")?,
+        Refused::NotWaitable => out.push_str("refused NotWaitable\n")?,
+        Refused::NotClaimed => out.push_str("refused NotClaimed\n")?,
+        Refused::NotHolder => out.push_str("refused NotHolder\n")?,
         Refused::GroupAlive(row) => write_group_alive(out, tid_at(rows, row))?,
     }
     Ok(())
@@ -77,8 +103,7 @@ fn write_group_alive<A: Allocator>(out: &mut String<A>, tid: u32) -> Result<(), 
     ensures { OnOk result (string_bytes out.new
         ≡ string_bytes out.old ++ ((codes "refused GroupAlive " ++ decimal tid) ++ 10 ∷ [])) }
 {
-    write!(out, "refused GroupAlive {tid}\n")?;
-    Ok(())
+    write_number(out, "refused GroupAlive ", tid, "\n")
 }
 
 /// The thread id of a row, 0 of none.
@@ -91,6 +116,7 @@ fn tid_at(rows: &[Row], row: u32) -> u32
     }
 }
 
+#[tactic(auto, using(crate::proofs::Written::in_two))]
 fn write_done<A: Allocator>(
     out: &mut String<A>,
     rows: &[Row],
@@ -102,7 +128,8 @@ fn write_done<A: Allocator>(
 {
     match answer {
         Ok(()) => {
-            write!(out, "{done}\n")?;
+            out.push_str(done)?;
+            out.push_str("\n")?;
             Ok(())
         }
         Err(refusal) => write_refusal(out, rows, refusal),
@@ -113,13 +140,13 @@ fn write_state<A: Allocator>(out: &mut String<A>, state: State) -> Result<(), No
     ensures { OnOk result (string_bytes out.new ≡ string_bytes out.old ++ (state_text state ++ 10 ∷ [])) }
 {
     match state {
-        State::Absent => write!(out, "absent\n")?,
-        State::Unborn => write!(out, "unborn\n")?,
-        State::Running => write!(out, "running\n")?,
-        State::Stopped(number, status) => write!(out, "stopped {number} 0x{status:06x}\n")?,
+        State::Absent => out.push_str("absent\n")?,
+        State::Unborn => out.push_str("unborn\n")?,
+        State::Running => out.push_str("running\n")?,
+        State::Stopped(number, status) => write_at_status(out, "stopped ", number, status)?,
         State::Claimed(number, tracer) => write!(out, "claimed {number} {tracer}\n")?,
-        State::Dead(number, status) => write!(out, "dead {number} 0x{status:06x}\n")?,
-        State::Reaped => write!(out, "reaped\n")?,
+        State::Dead(number, status) => write_at_status(out, "dead ", number, status)?,
+        State::Reaped => out.push_str("reaped\n")?,
     }
     Ok(())
 }

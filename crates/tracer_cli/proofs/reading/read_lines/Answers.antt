@@ -6,8 +6,8 @@ use Rattle.tracer_cli.proofs.reading.read_lines.Goals as goal
 
 pub returns-in-Err-clause-err : goal.returns-in-Err-clause-err
 returns-in-Err-clause-err g c =
-    let so_far : ReplayContent = record { rows = c.loop-rest.rows.items; orders = c.loop-rest.orders.items } in
-    let new : ReplayContent = record { rows = c.take_line.new.rows.items; orders = c.take_line.new.orders.items } in
+    let so_far : ReplayContent = record { rows = c.loop-rest.rows; orders = c.loop-rest.orders.items } in
+    let new : ReplayContent = record { rows = c.take_line.new.rows; orders = c.take_line.new.orders.items } in
     let counted = ap (λ (ls : List (List ℕ)). length ls) c.cut_line.ensures.lines in
     rw (← c.loop-rest.invariant.read, c.cut_line.ensures.lines) (
     ends_here c.args.text.now c.loop-rest.number so_far new c.cut_line.result.0.now (lines_of c.cut_line.result.1.now)
@@ -16,15 +16,13 @@ returns-in-Err-clause-err g c =
 
 pub loop-rest-preserved : goal.loop-rest-preserved
 loop-rest-preserved g c =
-    let so_far : ReplayContent = record { rows = c.loop-rest.rows.items; orders = c.loop-rest.orders.items } in
-    let new : ReplayContent = record { rows = c.take_line.new.rows.items; orders = c.take_line.new.orders.items } in
+    let so_far : ReplayContent = record { rows = c.loop-rest.rows; orders = c.loop-rest.orders.items } in
+    let new : ReplayContent = record { rows = c.take_line.new.rows; orders = c.take_line.new.orders.items } in
     let counted = ap (λ (ls : List (List ℕ)). length ls) c.cut_line.ensures.lines in
     record {
       room = omega (arith, c.cut_line.ensures.shorter, c.loop-rest.invariant.room);
       counted = omega (arith, counted, c.loop-rest.invariant.counted);
       first = omega arith;
-      few = c.take_line.ensures.few;
-      roster = c.take_line.ensures.roster c.loop-rest.invariant.roster;
       range = c.take_line.ensures.range c.loop-rest.invariant.range;
       read = sym
           (goes_on c.loop-rest.number so_far new c.cut_line.result.0.now (lines_of c.cut_line.result.1.now)
@@ -35,5 +33,5 @@ loop-rest-preserved g c =
 pub returns-clause-ok : goal.returns-clause-ok
 returns-clause-ok g c =
     sym c.loop-rest.invariant.read
-    ∙ ends c.loop-rest.number (record { rows = c.loop-rest.rows.items; orders = c.loop-rest.orders.items })
+    ∙ ends c.loop-rest.number (record { rows = c.loop-rest.rows; orders = c.loop-rest.orders.items })
     c.loop-rest.rest.now c.loop-rest-test.ensures

@@ -1,6 +1,4 @@
-use Rattle.std.proofs.Common.{◌≡◌, ◌+◌, ◌≤◌, [], All, None, length, vec_len}
-use Rattle.stop_history.specs.Roster.{first_fault}
-use Rattle.stop_history.specs.declared.limits.TheConstants.{MOST_ROWS}
+use Rattle.std.proofs.Common.{◌≡◌, ◌+◌, ◌≤◌, All, length}
 use Rattle.tracer_cli.specs.Command.{IsOrder}
 use Rattle.tracer_cli.specs.File.{content_after, nothing}
 use Rattle.text_lines.specs.Lines.{lines_of}
@@ -12,10 +10,8 @@ invariant-loop-rest g l = record {
   room : l.number + length l.rest ≤ length l.text + 1;
   counted : l.number + length (lines_of l.rest) ≡ length (lines_of l.text) + 1;
   first : 1 ≤ l.number;
-  few : vec_len l.rows ≤ MOST_ROWS;
-  roster : first_fault [] l.rows.items ≡ None;
   range : All IsOrder l.orders.items;
-  read : content_after l.number (record { rows = l.rows.items; orders = l.orders.items })
+  read : content_after l.number (record { rows = l.rows; orders = l.orders.items })
       (lines_of l.rest) ≡ content_after 1 nothing (lines_of l.text);
 }
 

@@ -7,4 +7,5 @@ pub returns : goal.returns
 returns g c =
     rw c.into_bytes.ensures.value (
     c.in_ok-write_replies.ensures first_moment c.in_ok-world.ensures.stands
-    ∙ ap (λ text. text ++ replies c.args.rows.now [] c.args.orders.now) c.in_ok-out.ensures.bytes)
+    ∙ ap (λ text. text ++ replies c.rows.result.now [] c.args.orders.now) c.in_ok-out.ensures.bytes
+    ∙ ap (λ rows. replies rows [] c.args.orders.now) c.rows.ensures.rows)

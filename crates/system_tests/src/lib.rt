@@ -1,5 +1,5 @@
-//! Tests that cross crates, and those that refuse each growth of a call in turn. They stand here, since a crate
-//! with tests is proved twice.
+//! Tests that cross crates, and those that refuse each growth of a call in turn. They are in one crate at the top,
+//! because tests cost a crate a second proof.
 #![tactic(auto)]
 
 #[cfg(test)]

@@ -1,6 +1,7 @@
 -- A spelled content is read back, row by row and then order by order.
 use Rattle.std.proofs.Common.{◌≡◌, ◌+◌, ◌<◌, ◌≤◌, ◌++◌, ◌∷◌, [], ℕ, Bool, true, false, None, Some, Option, List, Ok}
-use Rattle.std.proofs.Common.{length, length-append, arith, cond, nat_lt, le-leb, lt-ltb, append_assoc, append-nil, ap, sym}
+use Rattle.std.proofs.Common.{length, length-append, arith, cond, nat_lt, le-leb, lt-ltb, append_assoc, append-nil}
+use Rattle.std.proofs.Common.{ap, sym}
 use Rattle.std.proofs.Common.{◌∙◌}
 use Rattle.std.proofs.lemmas.List.Elements.{All-head, All-tail}
 use Rattle.std.specs.List.{All, join_with_byte}

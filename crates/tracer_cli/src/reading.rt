@@ -24,7 +24,7 @@ pub const MOST_BYTES: usize = 16_777_216;
 /// The shortest line that is a command.
 const SHORTEST: usize = b"state 1\n".len();
 
-/// How many thread ids are told apart by their last bits, so that each keeps a guess at its row.
+/// How many guesses at rows are kept: one for each remainder of a thread id.
 const GUESSES: usize = 256;
 
 /// What a file says: its rows, and the commands to them, each in the order of the file.
@@ -66,7 +66,7 @@ fn take_row<A: Allocator>(rows: &mut Roster<A>, row: Row) -> Result<(), Cause>
     }
 }
 
-/// The row of a thread id. A guess is the row that was last found for a thread id of the same last bits: it may be
+/// The row of a thread id. A guess is the row that was last found for a thread id of the same remainder: it may be
 /// wrong, so it is the answer only where its row has the thread id.
 fn row_of<A: Allocator>(rows: &Roster<A>, guesses: &mut [u32; GUESSES], tid: u32) -> Option<u32>
     ensures { result ≡ row_of rows.now tid }

@@ -43,8 +43,8 @@ fn a_refused_growth_is_reported_at_the_line_that_was_read(rt: HostRuntime) {
             assert_eq!(rt; fault, Some(CaseError { line, cause }), "{granted}");
             refusals = refusals.wrapping_add(1);
         }
-        // The roster grows, and so do the World's rows, words and words last seen.
-        assert!(rt; refusals >= reading.len().wrapping_add(4), "{refusals}");
+        // The World's rows, words and words last seen grow.
+        assert!(rt; refusals >= reading.len().wrapping_add(3), "{refusals}");
     }
 }
 
@@ -59,8 +59,8 @@ fn a_replay_whose_last_growth_is_granted_prints_its_replies(rt: HostRuntime) {
         }
         refusals = refusals.wrapping_add(1);
     }
-    // The rows, the orders, the roster, the World's rows, words and words last seen, the text.
-    assert_eq!(rt; refusals, 7);
+    // The rows, the orders, the World's rows, words and words last seen, the text.
+    assert_eq!(rt; refusals, 6);
 }
 
 #[test]

@@ -1,3 +1,4 @@
+-- The word is in range: exit code 3 is a death's.
 use Rattle.std.proofs.Common.{arith}
 use Rattle.trace_record.specs.declared.death.Death.TheVariants as death
 use Rattle.stop_history.proofs.Words.{death_reported}

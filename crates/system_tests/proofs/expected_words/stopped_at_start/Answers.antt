@@ -1,3 +1,4 @@
+-- The word is in range: its status is a first stop's.
 use Rattle.std.proofs.Common.{arith}
 use Rattle.trace_record.specs.declared.stop.Stop.TheVariants as stop
 use Rattle.stop_history.proofs.Words.{stop_reported}

@@ -1,3 +1,4 @@
+-- The look-up so far: no name before this row is the word.
 use Rattle.std.proofs.Common.{◌≡◌, drop, map}
 use Rattle.text_lines.specs.Keywords.{value_beside}
 use Rattle.text_lines.proofs.keywords.keyword.Given as goal

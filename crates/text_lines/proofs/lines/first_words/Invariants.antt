@@ -1,3 +1,4 @@
+-- The words so far, and those of the rest of the line, are the line's.
 use Rattle.std.proofs.Common.{◌≡◌, ◌≤◌, ◌-◌, ◌++◌, drop, length, map, take}
 use Rattle.text_lines.specs.Lines.{words_in}
 use Rattle.text_lines.proofs.lines.first_words.Given as goal

@@ -1,3 +1,4 @@
+-- Without spaces at its front a line has the same words.
 use Rattle.std.proofs.Common.{◌≡◌, length}
 use Rattle.text_lines.specs.Lines.{words_in}
 use Rattle.text_lines.proofs.lines.without_spaces.Given as goal

@@ -1,3 +1,4 @@
+-- A number that passes 64 bits stays too large, whatever digits follow.
 use Rattle.std.proofs.Common.{◌∙◌, sym}
 use Rattle.text_lines.proofs.Digits.{too_large_here}
 use Rattle.text_lines.proofs.numbers.number_in.Goals as goal

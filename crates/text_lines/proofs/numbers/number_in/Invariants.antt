@@ -1,3 +1,4 @@
+-- The digits so far, and those that follow, write the number.
 use Rattle.std.proofs.Common.{◌≡◌, ◌<◌, ◌^◌, drop}
 use Rattle.text_lines.specs.Numbers.{digits_after, numeral, within_u64}
 use Rattle.text_lines.proofs.numbers.number_in.Given as goal

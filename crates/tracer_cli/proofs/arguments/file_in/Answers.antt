@@ -1,3 +1,4 @@
+-- What clap's definitions say of these words.
 use Rattle.std.proofs.Common.{◌≡◌, ◌∙◌, List, Option, Some, None, ap, codes}
 use Rattle.std.specs.Prelude.{option_and_then, option_map}
 use Rattle.clap.specs.Words.{Row, Text, first_of, found_of, subcommand_rows_of}

@@ -1,3 +1,4 @@
+-- What clap's definitions say of these words.
 use Rattle.std.proofs.Common.{refl, ◌∙◌, ap, ap₂, codes, map, subst, sym, List, ℕ}
 use Rattle.std.specs.Prelude.{option_and_then}
 use Rattle.clap.specs.Words.{App, HasKind, fault_of, first_of, is_simple, is_simple_and_free, subcommand_of, takes}

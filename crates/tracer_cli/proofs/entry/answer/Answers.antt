@@ -1,3 +1,4 @@
+-- What a run of the program reads, prints and answers.
 use Rattle.tracer_cli.proofs.Runs.{answered}
 use Rattle.tracer_cli.proofs.entry.answer.Goals as goal
 

@@ -1,3 +1,4 @@
+-- What a run of the program reads, prints and answers.
 use Rattle.std.proofs.Common.{Err}
 use Rattle.tracer_cli.proofs.Runs.{untouched}
 use Rattle.tracer_cli.proofs.entry.process.Goals as goal

@@ -1,3 +1,4 @@
+-- What a run of the program reads, prints and answers.
 use Rattle.std.proofs.Common.{ap}
 use Rattle.tracer_cli.proofs.Runs.{read_to_limit}
 use Rattle.tracer_cli.proofs.entry.read_all.Goals as goal

@@ -1,3 +1,4 @@
+-- A line is read by its first six words, since none has more than five.
 use Rattle.std.proofs.Common.{◌∙◌, ap}
 use Rattle.tracer_cli.specs.Grammar.{line_of}
 use Rattle.text_lines.specs.Lines.{words_in}

@@ -1,3 +1,4 @@
+-- The file is read line by line, up to its first fault.
 use Rattle.std.proofs.Common.{◌∙◌, List, ℕ, ap, arith, length, sym}
 use Rattle.tracer_cli.specs.File.{ReplayContent, content_after}
 use Rattle.text_lines.specs.Lines.{lines_of}

@@ -1,3 +1,4 @@
+-- What was read so far, and the lines that are left, make the content of the file.
 use Rattle.std.proofs.Common.{◌≡◌, ◌+◌, ◌≤◌, All, length}
 use Rattle.tracer_cli.specs.Command.{IsOrder}
 use Rattle.tracer_cli.specs.File.{content_after, nothing}

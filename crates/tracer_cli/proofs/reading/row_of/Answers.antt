@@ -1,3 +1,4 @@
+-- A guess that has the thread id is its row: a roster has each thread id once.
 use Rattle.stop_history.specs.Roster.{nobody}
 use Rattle.tracer_cli.proofs.Guesses.{guessed}
 use Rattle.tracer_cli.proofs.reading.row_of.Goals as goal

@@ -1,3 +1,4 @@
+-- The lines that are left are counted.
 use Rattle.std.proofs.Common.{◌≡◌, ◌+◌, ◌≤◌, length}
 use Rattle.text_lines.specs.Lines.{lines_of}
 use Rattle.tracer_cli.proofs.replay.last_line.Given as goal

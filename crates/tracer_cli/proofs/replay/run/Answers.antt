@@ -1,3 +1,4 @@
+-- A new World represents the empty history, and the replies begin there.
 use Rattle.std.proofs.Common.{◌∙◌, ◌++◌, [], ap}
 use Rattle.stop_board.specs.World.{first_moment}
 use Rattle.tracer_cli.specs.Replies.{replies}

@@ -1,3 +1,4 @@
+-- The reply to a command is the text of the sequential answer, and the World goes on with its event.
 use Rattle.std.proofs.Common.{◌∙◌, ◌+◌, ap, codes, sym}
 use Rattle.stop_history.specs.Event as event
 use Rattle.stop_history.specs.Sequential.{claim_answer, exit_answer, goes_on, publish_answer, resume_answer}

@@ -1,3 +1,4 @@
+-- The replies so far, and those of the commands left, are the text.
 use Rattle.std.proofs.Common.{◌∙◌, ◌+◌, ap, drop, string_bytes, sym, ◌++◌}
 use Rattle.tracer_cli.specs.Replies.{replies}
 use Rattle.tracer_cli.proofs.Written.{none_left, one_more}

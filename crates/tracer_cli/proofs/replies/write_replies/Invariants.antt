@@ -1,3 +1,4 @@
+-- The replies so far, and the history that the World has come to.
 use Rattle.std.proofs.Common.{◌≡◌, ◌++◌, drop, string_bytes}
 use Rattle.stop_board.specs.World.{Moment, StandsAt}
 use Rattle.tracer_cli.specs.Replies.{replies}

@@ -1,11 +1,14 @@
 //! Numbers as words: without a sign and with one.
 
-ghost use Rattle.std.specs.Prelude.{◌≡◌, ◌+◌, ◌*◌, ◌≤◌, nat_lt, if◌then◌else◌, IfOk};
+ghost use Rattle.std.specs.Prelude.{◌≡◌, ◌+◌, ◌*◌, ◌≤◌, length, nat_lt, if◌then◌else◌, IfOk};
 ghost use Rattle.std.specs.Char.{digit_value};
 ghost use Rattle.text_lines.specs.Numbers.{integer_of, negated_integer, number_of, numeral, plain_integer, within_u64};
 ghost use Rattle.text_lines.specs.Ranges.{number_between};
 
 use crate::fault::LineFault;
+
+/// How many decimal digits are read at once: so few fit 64 bits, whatever they are.
+const SHORT: usize = 9;
 
 /// The number that a word writes: decimal digits, or `0x` and hexadecimal digits in either case, below 2^64.
 pub fn number(word: &[u8]) -> Option<u64>
@@ -13,6 +16,7 @@ pub fn number(word: &[u8]) -> Option<u64>
 {
     match word {
         [b'0', b'x', digits @ ..] => number_in(16, digits),
+        _ if word.len() <= SHORT => short_number(word),
         _ => number_in(10, word),
     }
 }
@@ -50,6 +54,22 @@ pub fn number_between(low: u64, high: u64, word: &[u8]) -> Result<u64, LineFault
         Some(n) if low <= n && n <= high => Ok(n),
         _ => Err(LineFault::BadNumber),
     }
+}
+
+/// The number that decimal digits write, if there are any and all are digits. They are too few to overflow, so that no
+/// sum is tested: most numbers are short, and reading them takes much of the time of a file.
+fn short_number(digits: &[u8]) -> Option<u64>
+    requires { length digits.now ≤ SHORT }
+    ensures { result ≡ within_u64 (numeral 10 digits.now) }
+{
+    if digits.is_empty() {
+        return None;
+    }
+    let mut n = 0u64;
+    for c in digits {
+        n = n * 10 + digit(10, *c)?;
+    }
+    Some(n)
 }
 
 /// The number that digits of a base write, if there are any and all are digits.

@@ -38,8 +38,11 @@ fn words_are_separated_by_spaces_alone(rt: HostRuntime) {
 
 #[test]
 fn a_number_has_no_sign_and_fits_64_bits(rt: HostRuntime) {
-    let cases: [(&str, Option<u64>); 12] = [
+    let cases: [(&str, Option<u64>); 15] = [
         ("0", Some(0)),
+        ("9999999999999999999", Some(9_999_999_999_999_999_999)),
+        ("00000000000000000000001", Some(1)),
+        ("12a", None),
         ("010", Some(10)),
         ("0x1fF", Some(511)),
         ("18446744073709551615", Some(18_446_744_073_709_551_615)),

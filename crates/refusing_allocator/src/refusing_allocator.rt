@@ -1,4 +1,4 @@
-//! The allocator. It passes each call on to an inner one, but for the one allocation that it refuses.
+//! The allocator. It passes each call on to an inner one, except the one allocation that it refuses.
 //!
 //! A test hands `&RefusingAllocator` to the code that it tests: a reference to an allocator is an allocator, and is
 //! `Copy`, `Send` and `Sync`. A block that grows counts as one more allocation, and so does one that shrinks.

@@ -101,7 +101,7 @@ took_up rows tracers m row r is = record {
 
 -- ---- a tracee's call
 
--- who is no tracee has no row
+-- an actor that is not a tracee has no row
 no_tracee : (rows tracers row : ℕ) → rows ≤ row → (numbered_actor rows tracers row ≡ None)
     ⊎ ((tracer : ℕ) × (numbered_actor rows tracers row ≡ Some (Tracer tracer)))
 no_tracee rows tracers row past =

@@ -1,5 +1,5 @@
 -- The interleaving model: at the moment at which a World stands, its words show the states of the history, and each
--- reply tells of a change that the history allows.
+-- reply goes with a change that the history allows.
 use Rattle.std.proofs.Common.{cond, slice_set, refl, ◌≡◌, ◌≢◌, ◌+◌, ◌-◌, ◌*◌, ◌≤◌, ◌∷◌, [], ℕ, Bool, true, false}
 use Rattle.std.proofs.Common.{Some, None, Option, Ok, Err, Result, List, length, arith, ◌∙◌, sym, ap, subst, inl, inr}
 use Rattle.std.proofs.Common.{lt-ltb, le-ltb, eqb, eqb-true, eq-eqb, get_or-set_same, get_or-set_other, ◌&&◌, ◌<◌}
@@ -106,7 +106,7 @@ same_sight rows words m at each roster =
     ∙ active_if_taken (m.taken row) (events_of row m.history)) i in
     λ i. record { states = states i; words = of_rows i; taken = ups i }
 
--- ---- each reply tells of a change that the history allows
+-- ---- each reply goes with a change that the history allows
 
 took_allowed : (rows : List Row) (h : History) (row : ℕ) (at : State) (next answer : Result Restart Refused)
     → state_after rows h row ≡ at
@@ -232,7 +232,7 @@ resume_allowed : (rows : List Row) (taken : ℕ → Bool) (h : History) (row tra
 resume_allowed rows taken h row tracer how (Err refusal) answered = tt
 resume_allowed rows taken h row tracer how (Ok tt) answered = resume_fits rows h row tracer how answered
 
--- of what a claim replies, only a word that it got tells of a change
+-- of the replies to a claim, only a word that it got goes with a change
 claimed_allowed : (rows : List Row) (m : Moment)
     → ((row : ℕ) → m.taken row ≡ true → state_after rows m.history row ≡ state.Running)
     → (last : Word) (tracer row : ℕ) (r : Reply)

@@ -105,7 +105,7 @@ TracerReplies rows sight last tracer (action.Claim row) r =
 TracerReplies rows sight last tracer (action.Resume row how) r = r ≡ done (resume_by tracer (sight.states row))
 TracerReplies rows sight last tracer a r = r ≡ reply.Refused refused.NoRow
 
--- ---- what a reply tells of the step
+-- ---- what a reply says of the step
 
 abbrev pub tracee_change : ℕ → Action → Reply → Change
 tracee_change row action.TakeUp (reply.Took how) = TakenUp row

@@ -167,7 +167,7 @@ tid_in_range rows roster row within =
     let ends = and_parts (nat_le 1 it.tid) (nat_le it.tid LAST_ID) one in
     (leb-true 1 it.tid ends.0, leb-true it.tid LAST_ID ends.1)
 
--- a row that is no root has a parent
+-- a row that is not a root has a parent
 pub has_parent : (rows : List Row) → IsRoster rows → (row : ℕ) → row < length rows → is_root (row_at rows row) ≡ false
     → (parent : ℕ) × (parent_of rows row ≡ Some parent)
 has_parent rows roster row within child =

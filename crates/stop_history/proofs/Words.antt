@@ -22,7 +22,7 @@ use Rattle.stop_history.specs.declared.word.layout.TheConstants.{BIRTHS_BITS, KI
 use Rattle.stop_history.specs.declared.word.layout.TheConstants.{STATE_BITS, STATUS_BITS}
 use Rattle.stop_history.specs.Word.{IsPhase, IsWord, Reports, Word, reports_death, reports_stop}
 
--- each stop's status tells a stop
+-- each stop's status reports a stop
 pub stop_reported : (stop : Stop) → IsStop stop → Reports reports_stop (stop_status stop)
 stop_reported stop.Start is = (stop_wait_status 0 stop.Start, refl, (refl, (ptrace_event.Stop, refl), refl), refl)
 stop_reported stop.Enter is = (stop_wait_status 0 stop.Enter, refl, refl, refl)
@@ -37,7 +37,7 @@ stop_reported (stop.Exec former) is =
     (stop_wait_status 0 (stop.Exec former), refl, (refl, (ptrace_event.Exec, refl), refl), refl)
 stop_reported (stop.Signal signal) is = (stop_wait_status 0 (stop.Signal signal), refl, (is, refl), refl)
 
--- each death's status tells a death
+-- each death's status reports a death
 pub death_reported : (death : Death) → IsDeath death → Reports reports_death (death_status death)
 death_reported (death.Exited code) is = (death_wait_status 0 (death.Exited code), refl, (is, refl), refl)
 death_reported (death.Signaled signal core) is =

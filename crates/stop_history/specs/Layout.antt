@@ -48,7 +48,7 @@ fields_of births number k =
     (STATE_BITS, k.state) ∷ (BIRTHS_BITS, births) ∷ (NUMBER_BITS, number) ∷ (STATUS_BITS, k.status)
     ∷ (KIND_BITS, k.kind) ∷ (SIGNAL_BITS, k.signal) ∷ (tracer_bits, k.tracer) ∷ []
 
--- each field stands right above the ones before it
+-- each field is right above the ones before it
 abbrev pub raw_by : List BitField → ℕ
 raw_by [] = 0
 raw_by (field ∷ fields) = raw_by fields * 2 ^ field.0 + field.1

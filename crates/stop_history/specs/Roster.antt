@@ -1,5 +1,5 @@
 -- Rosters: the rows of all tracees. A row has the ids that Linux gives a thread (gettid(2), getpid(2),
--- getpgid(2)) and its parent's tid, or 0 for a root. Each parent stands before its children.
+-- getpgid(2)) and its parent's tid, or 0 for a root. Each parent comes before its children.
 use Rattle.std.specs.Prelude.{◌≡◌, ◌⊎◌, ◌<◌, ◌≤◌, ◌==◌, ◌&&◌, ◌||◌, ◌++◌, ◌∷◌, [], ℕ, Bool, not, nat_le, nat_lt, List}
 use Rattle.std.specs.Prelude.{length, take, Option, Some, None, is_some, if◌then◌else◌, find, position, count_by}
 use Rattle.std.specs.Prelude.{slice_index_or}
@@ -93,7 +93,7 @@ pub record IsChild (parent row : Row) : Type 0 where
   pub group : (row.tgid ≡ row.tid) ⊎ (row.tgid ≡ parent.tgid)
   pub process_group : row.pgid ≡ parent.pgid
 
--- what holds of a row of a roster: each parent stands before its children, a root leads a thread group of its own
+-- what holds of a row of a roster: each parent comes before its children, a root leads a thread group of its own
 pub record IsPlaced (rows : List Row) (row : ℕ) : Type 0 where
   pub tid : (1 ≤ (row_at rows row).tid) × ((row_at rows row).tid ≤ LAST_ID)
   pub found : row_of rows (row_at rows row).tid ≡ Some row

@@ -27,7 +27,7 @@ pub(crate) fn stopped_at_fork() -> Word {
     }
 }
 
-/// Dead by exit code 3 behind stop 2, having borne one child: 0x000006000000040d.
+/// Dead by exit code 3 after stop 2, with one child created: 0x000006000000040d.
 pub(crate) fn dead() -> Word {
     Word {
         phase: Phase::Dead { status: 0x300 },

@@ -18,7 +18,7 @@ pub(crate) fn fill<A: Allocator>(memory: &mut Memory<A>) -> bool {
     true
 }
 
-/// Whether a memory has all pages as they were filled, and none behind them.
+/// Whether a memory has all pages as they were filled, and none after them.
 fn is_full<A: Allocator>(memory: &Memory<A>) -> bool {
     for page in 0..PAGES {
         let first = memory.byte(page * 4096);

@@ -7,7 +7,7 @@ use std::test::Fail;
 use std::{fs, str};
 use tracer_cli::{process, program};
 
-/// A stream that hands over a text in parts of at most this many bytes, and fails once behind it.
+/// A stream that hands over a text in parts of at most this many bytes, and fails once after it.
 #[derive(Drop)]
 struct Source<'a> {
     rest: &'a [u8],
@@ -66,7 +66,7 @@ struct Ended {
     errors: Vec<u8>,
 }
 
-/// A command line of these words, behind the program's name.
+/// A command line of these words, after the program's name.
 fn command_line(rt: &impl AllocGlobal, words: &[&str]) -> Result<Vec<String>, AllocError> {
     let alloc = rt.alloc();
     let mut all = Vec::new(alloc);
@@ -77,7 +77,7 @@ fn command_line(rt: &impl AllocGlobal, words: &[&str]) -> Result<Vec<String>, Al
     Ok(all)
 }
 
-/// Runs the program on words, without its name, and on what stands on standard input.
+/// Runs the program on words, without its name, and on what standard input has.
 fn run_with<H: Files + AllocGlobal, R: Read>(
     rt: &H,
     words: &[&str],

@@ -1,4 +1,4 @@
-//! The example of the README, as it stands there.
+//! The example of the README, as printed there.
 
 use std::alloc::Global;
 use stop_board::{Board, NoMemory, Roster, Row, State};

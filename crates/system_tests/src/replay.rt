@@ -112,7 +112,7 @@ fn refusal(rt: &impl AllocGlobal, file: &[u8]) -> Option<CaseError> {
 /// One row, which each of the files below begins with.
 const ROW: &str = "row 100 100 77 0\n";
 
-/// A line behind one row, and the cause that it is refused for.
+/// A line after one row, and the cause that it is refused for.
 const FAULTY: [(&str, Cause); 53] = [
     ("rows 100 100 77 0", Cause::UnknownWord),
     ("row 101 101 77", Cause::UnknownWord),
@@ -180,7 +180,7 @@ fn a_faulty_line_is_reported_with_its_least_cause(rt: HostRuntime) -> Result<(),
     Ok(())
 }
 
-/// Each place of an id: the line before it and behind it, and the cause that the greatest id is refused for there.
+/// Each place of an id: the line before it and after it, and the cause that the greatest id is refused for there.
 const IDS: [(&str, &str, Option<Cause>); 13] = [
     ("row ", " 100 77 0", Some(Cause::GroupMismatch)),
     ("row 101 ", " 77 0", Some(Cause::GroupMismatch)),
@@ -199,7 +199,7 @@ const IDS: [(&str, &str, Option<Cause>); 13] = [
 
 #[test]
 fn an_id_is_at_most_4194303_at_each_place(rt: HostRuntime) -> Result<(), Fail> {
-    for (before, behind, cause) in IDS {
+    for (before, after, cause) in IDS {
         for (id, expected) in [
             ("4194303", cause),
             ("0x3FFFFF", cause),
@@ -207,7 +207,7 @@ fn an_id_is_at_most_4194303_at_each_place(rt: HostRuntime) -> Result<(), Fail> {
             ("4294967297", Some(Cause::BadNumber)),
             ("18446744073709551617", Some(Cause::BadNumber)),
         ] {
-            let file = format!(in rt.alloc(); "{ROW}{before}{id}{behind}\n")?;
+            let file = format!(in rt.alloc(); "{ROW}{before}{id}{after}\n")?;
             let found = refusal(&rt, file.as_bytes());
             let expected = expected.map(|cause| CaseError { line: 2, cause });
             assert_eq!(rt; found, expected, "{file}");
@@ -218,8 +218,8 @@ fn an_id_is_at_most_4194303_at_each_place(rt: HostRuntime) -> Result<(), Fail> {
 
 #[test]
 fn an_id_other_than_a_parent_is_not_0(rt: HostRuntime) -> Result<(), Fail> {
-    for (before, behind, _) in IDS {
-        let file = format!(in rt.alloc(); "{ROW}{before}0{behind}\n")?;
+    for (before, after, _) in IDS {
+        let file = format!(in rt.alloc(); "{ROW}{before}0{after}\n")?;
         let found = refusal(&rt, file.as_bytes());
         let expected = match before {
             "row 101 101 77 " => None,

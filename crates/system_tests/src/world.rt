@@ -80,7 +80,7 @@ fn what_a_tracer_saw_decides_its_claim(rt: HostRuntime) -> Result<(), Fail> {
         (0u32, Action::TakeUp, Reply::Took(CONT)),
         (0, Action::Publish(Stop::Start), Reply::Number(1)),
         (2, Action::Claim(0), Reply::Refused(Refused::NotWaitable)),
-        // A look at one row is no look at another, and none of another tracer.
+        // A look at one row is not a look at another, nor one by another tracer.
         (2, Action::Look(0), Reply::Word(stopped)),
         (2, Action::Claim(1), Reply::Refused(Refused::Unborn)),
         (3, Action::Claim(0), Reply::Refused(Refused::NotWaitable)),
@@ -187,7 +187,7 @@ fn a_run_answers_each_turn_in_order(rt: HostRuntime) -> Result<(), Fail> {
     Ok(())
 }
 
-/// A thread of the root's group, behind another child of the root.
+/// A thread of the root's group, after another child of the root.
 const SECOND: Row = Row {
     tid: 102,
     tgid: 100,

@@ -5,7 +5,7 @@ ghost use Rattle.trace_options.specs.Calls.{has_call};
 
 use std::marker::Model;
 
-/// How many system calls a set tells apart: the numbers below this one. All others are in a set, or none of them.
+/// How many system calls a set keeps apart: the numbers below this one. All others are in a set, or none of them.
 pub const NAMED_CALLS: u64 = 128;
 
 /// A set of system calls: any numbers below [`NAMED_CALLS`], or every number.

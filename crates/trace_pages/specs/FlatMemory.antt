@@ -17,7 +17,7 @@ flat_code = finite.code coded_ℕ coded_ℕ
 abbrev pub byte_at : FlatMemory → ℕ → Option ℕ
 byte_at memory address = finite.get memory address
 
--- ---- a run of bytes from an address on: at most so many, ended at the first address that is not mapped or after
+-- ---- a run of bytes from an address on: at most this many, ended at the first address that is not mapped or after
 -- address 2^64 - 1
 
 -- a byte and what follows it, or nothing where no byte is
@@ -49,7 +49,7 @@ run_end memory address (suc more) =
 
 -- ---- what a change leaves at each address
 
--- an address is one of so many from another on
+-- an address is one of this many from another on
 abbrev pub is_among : ℕ → ℕ → ℕ → Bool
 is_among from count address = nat_le from address && nat_lt address (from + count)
 

@@ -5,7 +5,7 @@
 pub enum Kind {
     /// To the next stop, syscall-stops among them (`PTRACE_SYSCALL`).
     Syscall,
-    /// To the next stop that is no syscall-stop (`PTRACE_CONT`).
+    /// To the next stop that is not a syscall-stop (`PTRACE_CONT`).
     Cont,
 }
 

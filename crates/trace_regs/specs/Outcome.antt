@@ -8,7 +8,7 @@ use Rattle.trace_regs.specs.declared.outcome.Outcome.TheVariants.{Errno, Value}
 abbrev pub is_error_answer : ℤ → Bool
 is_error_answer answer = int_le (negsuc 4094) answer && int_lt answer (pos 0)
 
--- the answer tells this outcome
+-- the answer means this outcome
 abbrev pub Tells : ℤ → Outcome → Type 0
 Tells answer (Errno number) = IsTrue (is_error_answer answer) × (answer +ℤ pos number ≡ pos 0)
 Tells answer (Value value) = IsFalse (is_error_answer answer) × (value ≡ answer)

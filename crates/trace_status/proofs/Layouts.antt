@@ -28,11 +28,11 @@ in_place arch ip sp (Seccomp nr args ret_data) =
 
 -- ---- a layout that is put together
 
--- one piece behind another
+-- one piece after another
 pub behind : (d0 d1 d2 a b : List ℕ) → d1 ≡ d0 ++ a → d2 ≡ d1 ++ b → d2 ≡ d0 ++ (a ++ b)
 behind d0 d1 d2 a b first second = second ∙ ap (λ (d : List ℕ). d ++ b) first ∙ append_assoc d0 a b
 
--- a system call behind what is there
+-- a system call after what is there
 pub call_behind : (d0 d1 d2 d3 d4 d5 d6 d7 : List ℕ) (nr : ℕ) (args : List ℕ) → d1 ≡ d0 ++ to_le_bytes w64 nr
     → d2 ≡ d1 ++ to_le_bytes w64 (slice_index args 0) → d3 ≡ d2 ++ to_le_bytes w64 (slice_index args 1)
     → d4 ≡ d3 ++ to_le_bytes w64 (slice_index args 2) → d5 ≡ d4 ++ to_le_bytes w64 (slice_index args 3)
@@ -49,7 +49,7 @@ call_behind d0 d1 d2 d3 d4 d5 d6 d7 nr args p1 p2 p3 p4 p5 p6 p7 =
     (w 4) q5 p6 in
     behind d0 d6 d7 (a0 ++ w 0 ++ w 1 ++ w 2 ++ w 3 ++ w 4) (w 5) q6 p7
 
--- what stands before the part
+-- what comes before the part
 abbrev pub head_bytes : ℕ → ℕ → ℕ → ℕ → List ℕ
 head_bytes op arch ip sp = (op ∷ 0 ∷ 0 ∷ 0 ∷ []) ++ (to_le_bytes w32 arch ++ (to_le_bytes w64 ip ++ to_le_bytes w64 sp))
 
@@ -79,7 +79,7 @@ drafted arch ip sp op part was d head stands is_op is_part behind_it =
     ∙ ap (λ (o : ℕ). head_bytes o arch ip sp ++ flat_map field_bytes (part_layout part)) is_op
     ∙ head_and_part arch ip sp part
 
--- a result behind the head
+-- a result after the head
 pub exit_behind : (d0 d1 d2 : List ℕ) (rval : ℤ) (is_error : Bool) (flag : ℕ) → flag ≡ from_bool is_error
     → d1 ≡ d0 ++ to_le_bytes w64 (cast_unsigned w64 rval) → d2 ≡ d1 ++ flag ∷ []
     → d2 ≡ d0 ++ flat_map field_bytes (part_layout (Exit rval is_error))

@@ -10,9 +10,9 @@ use text_lines::LineFault;
 pub enum Cause {
     /// The first word is unknown or out of place, a keyword is wrong, there are too few or too many words.
     UnknownWord,
-    /// A word is no number, or the number is out of range.
+    /// A word is not a number, or the number is out of range.
     BadNumber,
-    /// A word is no hexadecimal bytes.
+    /// A word is not hexadecimal bytes.
     BadHex,
     /// No tracee has this id.
     NoSuchTracee,

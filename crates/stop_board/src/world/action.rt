@@ -5,7 +5,7 @@ use stop_history::{Refused, Word};
 use trace_record::{Death, Resume, Stop};
 
 /// One atomic step on a stop cell. Each is refused as `NoRow` to the wrong kind of actor, and where the row is out of
-/// range; the other refusals stand here in the order of their tests.
+/// range; the other refusals are listed here in the order of their tests.
 #[derive(Clone, Copy, Debug, PartialEq, Eq, Hash)]
 pub enum Action {
     /// Reads a row's word. Any actor may look.

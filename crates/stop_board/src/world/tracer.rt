@@ -72,7 +72,7 @@ fn claim_seen(rows: &[Row], words: &mut [Word], seen: &[Word], row: u32, tracer:
     reply
 }
 
-/// Where the word stands that a tracer last saw in a row: tracer by tracer, and row by row.
+/// The place of the word that a tracer last saw in a row: tracer by tracer, and row by row.
 pub(crate) fn seen_place(rows: &[Row], tracer: u32, row: u32) -> usize
     requires few { length rows.now ≤ MOST_ROWS }
     requires tracer { tracer < TRACERS }

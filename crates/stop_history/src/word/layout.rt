@@ -1,4 +1,4 @@
-//! The 64 bits of a word: its fields one above the other, each of its own width (the table stands at `Word`).
+//! The 64 bits of a word: its fields one above the other, each of its own width (the table is at `Word`).
 //!
 //! `pack` puts the fields together from the highest to the lowest. `unpack` takes them apart again, makes the word that
 //! they name, and answers it only if that word packs to the very bits: so an unused bit that is set has no word.
@@ -16,7 +16,7 @@ use trace_options::LAST_SIGNAL;
 use trace_record::{Kind, Resume};
 use trace_status::{STOPPED, WaitStatus, decode};
 
-/// The widths of the fields in bits, from the lowest bit on. Each field stands right above the one before it; what
+/// The widths of the fields in bits, from the lowest bit on. Each field is right above the one before it; what
 /// is above the signal is the tracer's.
 pub const STATE_BITS: u32 = 3;
 

@@ -5,7 +5,7 @@ use refusing_allocator::RefusingAllocator;
 use std::alloc::Allocator;
 use trace_pages::{MapError, Memory, NoMemory};
 
-/// Maps the pages 0 to 63, and answers the first that was refused for want of memory, or 64.
+/// Maps the pages 0 to 63, and answers the first that was refused for lack of memory, or 64.
 fn map_pages<A: Allocator>(memory: &mut Memory<A>) -> u64 {
     for page in 0..64 {
         if memory.map(page * 4096) == Err(MapError::NoMemory) {
@@ -15,7 +15,7 @@ fn map_pages<A: Allocator>(memory: &mut Memory<A>) -> u64 {
     64
 }
 
-/// Whether these pages, of zeros but for the last byte of each, are all that is mapped of the first 64.
+/// Whether these pages, of zeros except the last byte of each, are all that is mapped of the first 64.
 fn has_pages<A: Allocator>(memory: &Memory<A>, pages: u64) -> bool {
     for page in 0..64 {
         let zero = memory.byte(page * 4096);

@@ -3,7 +3,7 @@ use Rattle.std.proofs.Common.{◌≡◌, ◌<◌, ◌^◌, drop}
 use Rattle.text_lines.specs.Numbers.{digits_after, numeral, within_u64}
 use Rattle.text_lines.proofs.numbers.number_in.Given as goal
 
--- the digits left, behind the number so far, write what all digits write
+-- the digits left, after the number so far, write what all digits write
 abbrev pub invariant-loop-c : goal.invariant-loop-c
 invariant-loop-c l = record {
   small : l.n < 2 ^ 64;

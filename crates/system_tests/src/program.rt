@@ -110,6 +110,13 @@ const NO_MEMORY: &[u8] = b"tracer: no memory\n";
 /// What each usage and each help says.
 const USAGE: &str = "Usage: tracer";
 
+/// What each help says at its end: an example, the exit statuses, where the format is described.
+const HELP: [&str; 3] = [
+    "tracer replay examples/replay/first",
+    "1  the file is refused",
+    "docs/FORMATS.md",
+];
+
 #[test]
 fn a_file_is_replayed_from_standard_input(rt: HostRuntime) -> Result<(), Fail> {
     let ended = run_with(&rt, &["replay"], &mut FILE)?;
@@ -240,7 +247,21 @@ fn help_is_no_failure(rt: HostRuntime) -> Result<(), Fail> {
         let ended = run_with(&rt, words, &mut FILE)?;
         assert_eq!(rt; ended.status, 0, "{words:?}");
         assert!(rt; has_text(ended.output.as_slice(), USAGE), "{words:?}");
+        for part in HELP {
+            assert!(rt; has_text(ended.output.as_slice(), part), "{words:?}");
+        }
         assert_eq!(rt; ended.errors.as_slice(), [].as_slice(), "{words:?}");
+    }
+    Ok(())
+}
+
+#[test]
+fn the_version_is_shown_on_standard_output(rt: HostRuntime) -> Result<(), Fail> {
+    for word in ["--version", "-V"] {
+        let ended = run_with(&rt, &[word], &mut FILE)?;
+        assert_eq!(rt; ended.status, 0);
+        assert_eq!(rt; ended.output.as_slice(), b"tracer 0.1.0\n".as_slice());
+        assert_eq!(rt; ended.errors.as_slice(), [].as_slice());
     }
     Ok(())
 }

@@ -1,4 +1,4 @@
--- The command line, as clap's definitions read it: `tracer replay [FILE]`.
+-- The command line, as clap's definitions read it: `tracer replay [FILE]`, and `tracer --version`.
 use Rattle.std.specs.Prelude.{◌≡◌, ◌≢◌, ◌∷◌, [], ℕ, Bool, true, false, IsTrue, IsFalse, List, Option, Some, None}
 use Rattle.std.specs.Prelude.{Result, Ok, Err, MatchResult, codes, option_and_then, option_map}
 use Rattle.clap.specs.Words.{App, IsAmong, Rule, fault_of, first_of, new_app, new_rule, subcommand_of, with_rule}
@@ -17,11 +17,14 @@ file_rule = record (new_rule (codes "FILE")) { action = Some Set }
 abbrev pub replay_app : App
 replay_app = with_rule (new_app (codes "replay")) file_rule
 
+abbrev pub has_version : App → App
+has_version app = record app { top = record app.top { has_version = true } }
+
 abbrev pub wants_subcommand : App → App
 wants_subcommand app = record app { top = record app.top { subcommand_required = true } }
 
 abbrev pub tracer_app : App
-tracer_app = with_subcommand (wants_subcommand (new_app (codes "tracer"))) replay_app.top
+tracer_app = with_subcommand (wants_subcommand (has_version (new_app (codes "tracer")))) replay_app.top
 
 -- the words of a replay of standard input
 abbrev pub replay_words : (name : List ℕ) → List (List ℕ)

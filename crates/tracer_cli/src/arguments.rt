@@ -10,6 +10,18 @@ use clap::error::ErrorKind;
 use clap::{Arg, ArgAction, ArgMatches, Command, Error};
 use std::alloc::{AllocError, Global};
 
+/// What help says at its end: an example, the exit statuses, and where the format of files is described.
+const AFTER_HELP: &'static str = "Example:
+  tracer replay examples/replay/first
+
+Exit status:
+  0  done
+  1  the file is refused
+  2  the command line is wrong
+  3  out of memory, or something cannot be read or written
+
+The format of replay files: docs/FORMATS.md";
+
 /// What the command line asks for.
 #[derive(Debug, Drop)]
 pub enum Request<'a> {
@@ -69,9 +81,12 @@ fn tracer<'a>(alloc: Global) -> Result<Command<'a>, AllocError>
         .help("The file to read; standard input if there is none");
     let replay = Command::new(alloc, "replay")
         .about("Prints the stop board's reply to each command of a replay file")
+        .after_help(AFTER_HELP)
         .arg(file)?;
     Command::new(alloc, "tracer")
-        .about("Replays the stops of traced threads on a one-thread stop board")
+        .about("Replays the stops of scripted tracees; no real process is traced")
+        .after_help(AFTER_HELP)
+        .version("0.1.0")
         .subcommand_required(true)
         .subcommand(replay)
 }

@@ -20,7 +20,7 @@ all: kit
 
 kit:
 	@command -v $(RT) > /dev/null || { \
-		echo "make: there is no command $(RT): put the Rattle kit's rt on the PATH, or give its place as RT=.."; \
+		echo "make: there is no command $(RT): put the Rattle kit's rt on the PATH, or give its place as RT=/path/to/rt"; \
 		echo "make: README.md, \"What it needs\", says which kit"; exit 2; }
 	@[ "$$($(RT) --version)" = "$(KIT)" ] || \
 		echo "make: proved with $(KIT), but $(RT) is $$($(RT) --version): a proof may fail"

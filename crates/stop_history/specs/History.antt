@@ -85,16 +85,16 @@ IsSilent beside (e ∷ h) = (beside ≢ Some (subject e)) × IsSilent beside h
 abbrev pub is_born_child : List Row → History → (parent row : ℕ) → Bool
 is_born_child rows h parent row = is_of_parent parent (parent_of rows row) && is_born rows h row
 
--- of one row's events: whether the newest is the publish of this number
-abbrev pub is_just_published : ℕ → List Event → Bool
-is_just_published number (event.Publish row n stop ∷ es) = n == number
-is_just_published number es = false
+-- of one row's events: whether the newest is its death
+abbrev pub is_death_newest : List Event → Bool
+is_death_newest (event.Exit row death ∷ es) = true
+is_death_newest es = false
 
--- of one row's events: how many claims claim the stop of this number, each directly after its publish
+-- of one row's events: how many claims claim the stop of this number; a claim right after a death reaps the death
 abbrev pub stop_claims_in : ℕ → List Event → ℕ
 stop_claims_in number [] = 0
 stop_claims_in number (event.Claim row n tracer ∷ es) =
-    (if is_just_published number es then 1 else 0) + stop_claims_in number es
+    (if n == number && not (is_death_newest es) then 1 else 0) + stop_claims_in number es
 stop_claims_in number (e ∷ es) = stop_claims_in number es
 
 -- of a history that has gone on: the row was claimed, and nothing had happened to it before that

@@ -1,7 +1,7 @@
 //! The stop cells of all tracees as plain data, for those who test a tracer without threads: the one-thread stop board,
 //! and the model of the cells under any interleaving of atomic steps. The board answers what one thread alone is
-//! answered; a World runs any interleaving of tracee and tracer steps. Both use the definitions of `stop_history`,
-//! whose names are exported here too.
+//! answered; a World runs any interleaving of tracee and tracer steps. Both use the definitions of `stop_history`;
+//! what a user of the board or the World needs of it is exported here too.
 #![tactic(auto)]
 
 mod board;

@@ -2,8 +2,7 @@
 //!
 //! 1. A tracee takes its row up, and then publishes or exits: two steps, between which others may act.
 //! 2. A tracer looks at a row, and claims it by comparing the word that it last saw with the word that is there: it
-//! gets
-//!    the row, or misses it because somebody has changed the word since.
+//!    gets the row, or misses it because somebody has changed the word since.
 //! 3. The tracer that has claimed a row resumes it.
 //!
 //! A list of turns, each an actor and its action, is an interleaving. What the model does not have is memory and

@@ -1,4 +1,5 @@
--- The state of a row after a history, by the row's last event alone (ptrace(2), "Stopped states"; waitid(2)).
+-- The state of a row after a history: by the row's own events, and its birth (ptrace(2), "Stopped states";
+-- waitid(2)).
 use Rattle.std.specs.Prelude.{◌==◌, ◌&&◌, ◌∷◌, [], ℕ, Bool, true, false, nat_lt, List, length, Option, Some, None}
 use Rattle.std.specs.Prelude.{if◌then◌else◌}
 use Rattle.std.specs.List.{list_any}

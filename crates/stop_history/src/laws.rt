@@ -123,7 +123,8 @@ pub fn atomic_steps_keep_words()
         → AreAt rows (words_with change words) (taken_with change taken) (history_with change h) }
 {}
 
-/// No stop is claimed twice: of the claims of a row in a legal history at most one is of the stop of a number.
+/// No stop is claimed twice: of the claims of a row in a legal history, those that reap its death aside, at most one
+/// is of the stop of a number.
 pub fn a_stop_is_claimed_once()
     ensures { (rows : List Row) (h : History) → IsLegal rows h →
         (row number : ℕ) → stop_claims_in number (events_of row h) ≤ 1 }
@@ -143,8 +144,7 @@ pub fn a_take_up_changes_its_row_alone()
 {}
 
 /// One atomic step on the bits of words, as a table of numbers keeps them: where the history allows the change, each
-/// row
-/// has the bits of the word that the longer history leaves. What the table keeps after the rows is left alone.
+/// row has the bits of the word that the longer history leaves.
 pub fn atomic_steps_keep_bits()
     ensures { (rows : List Row) (bits : List ℕ) (taken : ℕ → Bool) (h : History) →
         ((row : ℕ) → taken row ≡ true → state_after rows h row ≡ state.Running) →

@@ -1,6 +1,7 @@
 //! The refusals of a board and of a World.
 
-/// Why a board or a World refused. What is refused changes nothing.
+/// Why a board or a World refused. A refused call of a board changes nothing, and neither does a refused step of a
+/// World. A World's `publish`, `exit` and `claim` are two steps each: where the second is refused, the first is done.
 #[derive(Clone, Copy, Debug, PartialEq, Eq, Hash)]
 pub enum Refused {
     /// The row, or the tracer, is out of range.

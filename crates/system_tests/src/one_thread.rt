@@ -2,7 +2,7 @@
 
 use crate::rows::{CHILD, ROOT};
 use std::test::Fail;
-use stop_board::{Got, Refused, Roster, State, TRACERS, World};
+use stop_board::{Action, Got, Refused, Reply, Roster, State, TRACERS, World};
 use trace_record::{Death, Kind, Resume, Stop};
 
 const SYSCALL: Resume = Resume {
@@ -19,6 +19,11 @@ fn a_life_is_played_by_one_thread(rt: HostRuntime) -> Result<(), Fail> {
     assert_eq!(rt; world.exit(0, Death::Exited(0)), Err(Refused::NotRunning));
     assert_eq!(rt; world.resume(0, 0, SYSCALL), Err(Refused::NotClaimed));
     assert_eq!(rt; world.claim(0, 0), Ok(Got::Stop(1, 0x80057f)));
+    // What tracer 0 last saw in the row is its own claim, which nobody can claim.
+    assert_eq!(rt;
+        world.step(1, Action::Claim(0)),
+        Reply::Refused(Refused::NotWaitable)
+    );
     assert_eq!(rt; world.claim(0, 15), Err(Refused::NotWaitable));
     assert_eq!(rt; world.resume(0, 15, SYSCALL), Err(Refused::NotHolder));
     assert_eq!(rt; world.resume(0, 0, SYSCALL), Ok(()));
@@ -45,5 +50,18 @@ fn a_call_out_of_range_or_before_the_birth_is_refused(rt: HostRuntime) -> Result
     assert_eq!(rt; world.publish(0, Stop::Fork(102)), Err(Refused::NotNext));
     assert_eq!(rt; world.publish(0, Stop::Fork(101)), Ok(1));
     assert_eq!(rt; world.state(1), State::Running);
+    Ok(())
+}
+
+#[test]
+fn what_one_thread_resumed_is_taken_up_so(rt: HostRuntime) -> Result<(), Fail> {
+    let roster = Roster::new(rt.alloc(), &[ROOT])?;
+    let mut world = World::new(rt.alloc(), &roster, 1)?;
+    assert_eq!(rt; world.publish(0, Stop::Start), Ok(1));
+    assert_eq!(rt; world.claim(0, 0), Ok(Got::Stop(1, 0x80057f)));
+    assert_eq!(rt; world.resume(0, 0, SYSCALL), Ok(()));
+    assert_eq!(rt; world.step(0, Action::TakeUp), Reply::Took(SYSCALL));
+    // A row that is taken up already can exit as well.
+    assert_eq!(rt; world.exit(0, Death::Exited(3)), Ok(()));
     Ok(())
 }

@@ -86,7 +86,7 @@ fn run_with<H: Files + AllocGlobal, R: Read>(
     let words = command_line(rt, words)?;
     let mut output = Vec::new(rt.alloc());
     let mut errors = Vec::new(rt.alloc());
-    let status = program(rt, words.as_slice(), input, &mut output, &mut errors);
+    let status = process(rt, Ok(words), input, &mut output, &mut errors);
     Ok(Ended {
         status,
         output,
@@ -111,9 +111,12 @@ const NO_MEMORY: &[u8] = b"tracer: no memory\n";
 const USAGE: &str = "Usage: tracer";
 
 /// What each help says at its end: an example, the exit statuses, where the format is described.
-const HELP: [&str; 3] = [
+const HELP: [&str; 6] = [
     "tracer replay examples/replay/first",
+    "0  done",
     "1  the file is refused",
+    "2  the command line is wrong",
+    "3  out of memory, or something cannot be read or written",
     "docs/FORMATS.md",
 ];
 
@@ -231,6 +234,16 @@ fn a_wrong_command_line_is_answered_by_the_usage(rt: HostRuntime) -> Result<(), 
         assert_eq!(rt; ended.output.as_slice(), [].as_slice(), "{words:?}");
         assert!(rt; has_text(ended.errors.as_slice(), USAGE), "{words:?}");
     }
+    Ok(())
+}
+
+#[test]
+fn a_command_that_is_not_there_is_named(rt: HostRuntime) -> Result<(), Fail> {
+    let ended = run_with(&rt, &["run"], &mut FILE)?;
+    let expected = "error: unrecognized subcommand 'run'\n\n\
+        Usage: tracer <COMMAND>\n\n\
+        For more information, try '--help'.\n";
+    assert_eq!(rt; ended.errors.as_slice(), expected.as_bytes());
     Ok(())
 }
 

@@ -44,7 +44,8 @@ abbrev pub run_status : Result (Unit {0}) Failure → ℕ
 run_status (Ok done) = 0
 run_status (Err failure) = failure_status failure
 
--- a run that ends with this status and leaves standard output as it was, unless it is done or a write failed
+-- a run that ends with this status and leaves standard output as it was, unless it is done or a write failed; at
+-- status 3 the failure may have been one to write, so that nothing is said of standard output
 abbrev pub EndsWith : {A : Type 0} → (before after : A) → (status : ℕ) → Type 0
 EndsWith before after status =
     (ended : Result (Unit {0}) Failure) × (status ≡ run_status ended) × IsUnwritten before after ended

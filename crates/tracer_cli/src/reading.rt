@@ -34,7 +34,8 @@ pub struct Script<A: Allocator> {
     pub orders: Vec<Order, A>,
 }
 
-/// Takes one more line into the rows and the orders so far, or returns its first fault. `left` bytes follow it.
+/// Takes one more line into the rows and the orders so far, or returns its first fault. The text has `left` bytes from
+/// this line on.
 fn take_line<A: Allocator>(
     rows: &mut Roster<A>,
     orders: &mut Vec<Order, A>,

@@ -56,7 +56,7 @@ fn a_call_out_of_range_or_before_the_birth_is_refused(rt: HostRuntime) -> Result
 #[test]
 fn what_one_thread_resumed_is_taken_up_so(rt: HostRuntime) -> Result<(), Fail> {
     let roster = Roster::new(rt.alloc(), &[ROOT])?;
-    let mut world = World::new(rt.alloc(), &roster, 1)?;
+    let mut world = World::new(rt.alloc(), &roster, TRACERS)?;
     assert_eq!(rt; world.publish(0, Stop::Start), Ok(1));
     assert_eq!(rt; world.claim(0, 0), Ok(Got::Stop(1, 0x80057f)));
     assert_eq!(rt; world.resume(0, 0, SYSCALL), Ok(()));

@@ -1,15 +1,16 @@
+-- Other crates cite the modules that are `pub`. The others prove the laws of this crate.
 pub mod AtomicSteps
-pub mod Births
+mod Births
 pub mod Children
-pub mod Claims
+mod Claims
 pub mod Events
 pub mod Going
-pub mod LegalWords
-pub mod Longer
-pub mod Over
-pub mod Places
+mod LegalWords
+mod Longer
+mod Over
+mod Places
 pub mod Rosters
-pub mod Settled
+mod Settled
 pub mod Standing
 pub mod States
 pub mod Words

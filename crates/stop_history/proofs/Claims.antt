@@ -6,9 +6,9 @@ use Rattle.std.proofs.lemmas.Bool.{cases_Bool}
 use Rattle.stop_history.specs.declared.roster.Row.{Row}
 use Rattle.stop_history.specs.Event as event
 use Rattle.stop_history.specs.Event.{Event, History, events_of, subject}
-use Rattle.stop_history.specs.State.{claimed_state, is_born, is_waitable, last_number, number_in, state_in}
+use Rattle.stop_history.specs.State.{is_born, is_waitable, last_number, number_in, state_in}
 use Rattle.stop_history.specs.History.{Fits, IsLegal, is_death_newest, stop_claims_in}
-use Rattle.stop_history.proofs.States.{fits_within, state_within}
+use Rattle.stop_history.proofs.States.{claim_is_none, fits_within, state_within}
 
 -- a legal history stays legal when its newest events are dropped
 pub legal_end : (rows : List Row) (more h : History) → IsLegal rows (more ++ h) → IsLegal rows h
@@ -35,20 +35,12 @@ with_event : (b : Bool) (e : Event) (es : List Event) → IsNumbered es → (b �
 with_event true e es before with = with refl
 with_event false e es before with = before
 
--- a claim leaves nothing to wait for
-claimed_at_rest : (number tracer : ℕ) (es : List Event) → is_waitable (claimed_state number tracer es) ≡ false
-claimed_at_rest number tracer [] = refl
-claimed_at_rest number tracer (event.Publish row n stop ∷ es) = refl
-claimed_at_rest number tracer (event.Claim row n by ∷ es) = refl
-claimed_at_rest number tracer (event.Resume row n how by ∷ es) = refl
-claimed_at_rest number tracer (event.Exit row death ∷ es) = refl
-
 waitable_newest : (born : Bool) (es : List Event) → is_waitable (state_in born es) ≡ true → IsWaitableNewest es
 waitable_newest true [] waits = cc
 waitable_newest false [] waits = cc
 waitable_newest born (event.Publish row number stop ∷ es) waits = tt
 waitable_newest born (event.Claim row number tracer ∷ es) waits =
-    let clash : true ≡ false = sym waits ∙ claimed_at_rest (number_in es) tracer es in cc
+    let clash : true ≡ false = sym waits ∙ claim_is_none (number_in es) tracer es in cc
 waitable_newest born (event.Resume row number how tracer ∷ es) waits = cc
 waitable_newest born (event.Exit row death ∷ es) waits = tt
 

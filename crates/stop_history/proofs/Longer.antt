@@ -21,7 +21,7 @@ use Rattle.stop_history.specs.Word.{claimed_phase, phase_in, shown, word_after, 
 use Rattle.stop_history.proofs.Events.{other_events, own_events}
 use Rattle.stop_history.proofs.Settled.{no_event}
 use Rattle.stop_history.proofs.Standing.{shows_state}
-use Rattle.stop_history.proofs.States.{fits_within, state_within}
+use Rattle.stop_history.proofs.States.{by_own_events, fits_within, state_within}
 
 -- ---- a row that only one actor can move
 
@@ -207,15 +207,6 @@ unborn_is_silent rows (e ∷ h) legal row unborn =
 
 -- ---- a row that waits is as it was, or was claimed
 
-waits_either : (born later : Bool) (es : List Event) → is_waitable (state_in born es) ≡ true
-    → is_waitable (state_in later es) ≡ true
-waits_either true later [] is = cc
-waits_either false later [] is = cc
-waits_either born later (event.Publish row number stop ∷ es) is = is
-waits_either born later (event.Claim row number tracer ∷ es) is = is
-waits_either born later (event.Resume row number how tracer ∷ es) is = is
-waits_either born later (event.Exit row death ∷ es) is = is
-
 only_claimed : (rows : List Row) (h : History) (e : Event) → Fits rows h e
     → is_waitable (state_after rows h (subject e)) ≡ true → (number tracer : ℕ)
     × (e ≡ event.Claim (subject e) number tracer)
@@ -242,8 +233,8 @@ taken_or_same rows (e ∷ more) front legal row waits =
                 ap (λ r. is_waitable (state_after rows (more ++ front) r)) here
                 ∙ ap is_waitable (state_within rows (more ++ front) row within)
                 ∙ ap (λ es. is_waitable (state_in (is_born rows (more ++ front) row) es)) same
-                ∙ waits_either (is_born rows front row) (is_born rows (more ++ front) row) (events_of row front)
-                (ap is_waitable (sym (state_within rows front row within)) ∙ waits) in
+                ∙ by_own_events is_waitable refl (is_born rows (more ++ front) row) (is_born rows front row) (events_of row front)
+                ∙ (ap is_waitable (sym (state_within rows front row within)) ∙ waits) in
                 let claim = only_claimed rows (more ++ front) e legal.0 still in
                 inr (record {
                   later = [];

@@ -15,7 +15,7 @@ use Rattle.stop_history.specs.declared.state.State.TheVariants as state
 use Rattle.stop_history.proofs.Events.{own_events, other_events}
 use Rattle.stop_history.proofs.Rosters.{placed}
 use Rattle.stop_history.proofs.Settled.{settled_rests, settled_stays, unborn_is}
-use Rattle.stop_history.proofs.States.{fits_within, past_or_within, state_within}
+use Rattle.stop_history.proofs.States.{by_own_events, fits_within, past_or_within, state_within}
 
 -- ---- process groups
 
@@ -67,18 +67,6 @@ silent_beside_none : (more : History) → IsSilent None more
 silent_beside_none [] = tt
 silent_beside_none (e ∷ more) = ((λ same. cc), silent_beside_none more)
 
--- whether a row is dead is told by its events alone
-dead_either : (born later : Bool) (es : List Event) → is_dead (state_in born es) ≡ false
-    → is_dead (state_in later es) ≡ false
-dead_either true true [] alive = refl
-dead_either true false [] alive = refl
-dead_either false true [] alive = refl
-dead_either false false [] alive = refl
-dead_either born later (event.Publish row number stop ∷ es) alive = alive
-dead_either born later (event.Claim row number tracer ∷ es) alive = alive
-dead_either born later (event.Resume row number how tracer ∷ es) alive = alive
-dead_either born later (event.Exit row death ∷ es) alive = alive
-
 claim_is_not_dead : (number tracer : ℕ) (es : List Event) → is_dead (claimed_state number tracer es) ≡ false
 claim_is_not_dead number tracer [] = refl
 claim_is_not_dead number tracer (event.Publish row n stop ∷ es) = refl
@@ -112,8 +100,8 @@ not_dead_by_one rows h e fits row settled alive =
         | inr other ↦
             ap is_dead (state_within rows (e ∷ h) row within
             ∙ ap (state_in (is_born rows (e ∷ h) row)) (other_events row e h other))
-            ∙ dead_either (is_born rows h row) (is_born rows (e ∷ h) row) (events_of row h)
-            (ap is_dead (sym (state_within rows h row within)) ∙ alive)
+            ∙ by_own_events is_dead refl (is_born rows (e ∷ h) row) (is_born rows h row) (events_of row h)
+            ∙ (ap is_dead (sym (state_within rows h row within)) ∙ alive)
       ]
     ]
 

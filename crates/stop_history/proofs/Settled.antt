@@ -12,25 +12,9 @@ use Rattle.stop_history.specs.State.{claimed_state, is_birth, was_created, is_bo
 use Rattle.stop_history.specs.State.{state_after, state_in}
 use Rattle.stop_history.specs.History.{Fits, IsLegal, IsSettled, IsSilent, ended, unborn_below, unborn_beside}
 use Rattle.stop_history.proofs.Events.{own_events, other_events}
-use Rattle.stop_history.proofs.States.{present, state_within}
+use Rattle.stop_history.proofs.States.{by_own_events, claim_is_none, present, state_within}
 
 -- ---- who has ended
-
-ended_either : (born later : Bool) (es : List Event) → is_ended (state_in born es) ≡ true
-    → is_ended (state_in later es) ≡ true
-ended_either true later [] h = cc
-ended_either false later [] h = cc
-ended_either born later (event.Publish row number stop ∷ es) h = h
-ended_either born later (event.Claim row number tracer ∷ es) h = h
-ended_either born later (event.Resume row number how tracer ∷ es) h = h
-ended_either born later (event.Exit row death ∷ es) h = h
-
-claim_is_none : (number tracer : ℕ) (es : List Event) → is_waitable (claimed_state number tracer es) ≡ false
-claim_is_none number tracer [] = refl
-claim_is_none number tracer (event.Publish row n stop ∷ es) = refl
-claim_is_none number tracer (event.Claim row n other ∷ es) = refl
-claim_is_none number tracer (event.Resume row n how other ∷ es) = refl
-claim_is_none number tracer (event.Exit row death ∷ es) = refl
 
 -- a death that is claimed is reaped
 reaped : (born : Bool) (number tracer : ℕ) (es : List Event) → is_ended (state_in born es) ≡ true
@@ -74,8 +58,8 @@ ended_stays rows h e row fits over =
       | inr other ↦
           ap is_ended (state_within rows (e ∷ h) row within
           ∙ ap (state_in (is_born rows (e ∷ h) row)) (other_events row e h other))
-          ∙ ended_either (is_born rows h row) (is_born rows (e ∷ h) row) (events_of row h)
-          (ap is_ended (sym (state_within rows h row within)) ∙ over)
+          ∙ by_own_events is_ended refl (is_born rows (e ∷ h) row) (is_born rows h row) (events_of row h)
+          ∙ (ap is_ended (sym (state_within rows h row within)) ∙ over)
     ]
 
 -- ---- who is unborn

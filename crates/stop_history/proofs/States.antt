@@ -4,11 +4,12 @@ use Rattle.std.proofs.Common.{length, ◌∙◌, sym, ap, inl, inr, cond, nat_lt
 use Rattle.std.specs.List.{list_any}
 use Rattle.std.proofs.lemmas.Bool.{cases_lt}
 use Rattle.stop_history.specs.declared.roster.Row.{Row}
+use Rattle.stop_history.specs.declared.state.State.{State}
 use Rattle.stop_history.specs.declared.state.State.TheVariants as state
 use Rattle.stop_history.specs.Event as event
 use Rattle.stop_history.specs.Event.{Event, History, events_of, subject}
 use Rattle.stop_history.specs.Roster.{parent_of, row_at}
-use Rattle.stop_history.specs.State.{is_birth, was_created, is_born, is_waitable, state_after, state_in}
+use Rattle.stop_history.specs.State.{claimed_state, is_birth, was_created, is_born, is_waitable, state_after, state_in}
 use Rattle.stop_history.specs.History.{Fits}
 use Rattle.stop_history.proofs.Events.{other_events}
 
@@ -38,6 +39,28 @@ fits_within rows h (event.Resume row number how tracer) fits =
     present rows h row (λ absent. let clash : state.Absent ≡ state.Claimed number tracer = sym absent ∙ fits in cc)
 fits_within rows h (event.Exit row death) fits =
     present rows h row (λ absent. let clash : state.Absent ≡ state.Running = sym absent ∙ fits.0 in cc)
+
+-- ---- what is told by a row's own events
+
+-- what is the same of a running row and of an unborn one does not depend on the row's birth
+pub by_own_events : {A : Type 0} (of : State → A) → of state.Running ≡ of state.Unborn → (born later : Bool)
+    (es : List Event) → of (state_in born es) ≡ of (state_in later es)
+by_own_events of same true true [] = refl
+by_own_events of same true false [] = same
+by_own_events of same false true [] = sym same
+by_own_events of same false false [] = refl
+by_own_events of same born later (event.Publish row number stop ∷ es) = refl
+by_own_events of same born later (event.Claim row number tracer ∷ es) = refl
+by_own_events of same born later (event.Resume row number how tracer ∷ es) = refl
+by_own_events of same born later (event.Exit row death ∷ es) = refl
+
+-- a claim leaves nothing to wait for
+pub claim_is_none : (number tracer : ℕ) (es : List Event) → is_waitable (claimed_state number tracer es) ≡ false
+claim_is_none number tracer [] = refl
+claim_is_none number tracer (event.Publish row n stop ∷ es) = refl
+claim_is_none number tracer (event.Claim row n other ∷ es) = refl
+claim_is_none number tracer (event.Resume row n how other ∷ es) = refl
+claim_is_none number tracer (event.Exit row death ∷ es) = refl
 
 -- ---- a row that makes no event
 

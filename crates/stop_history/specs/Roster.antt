@@ -60,7 +60,7 @@ first_fault before (row ∷ rows) = or_later (fault_after before row) (first_fau
 abbrev pub roster_fault : List Row → Option RosterError
 roster_fault rows = if nat_le (length rows) MOST_ROWS then first_fault [] rows else Some fault.TooMany
 
--- the fault of one more row of a roster: its own, otherwise that there is no room for it
+-- why a row cannot be added to a roster: its own first fault, or else that the roster is full
 abbrev pub push_fault : List Row → Row → Option RosterError
 push_fault rows row =
     or_later (fault_after rows row) (if nat_lt (length rows) MOST_ROWS then None else Some fault.TooMany)

@@ -27,7 +27,7 @@ The format of replay files: docs/FORMATS.md";
 pub enum Request<'a> {
     /// The replies to a replay file; standard input where it names none. A file `-` is a file of that name.
     Replay { file: Option<&'a str> },
-    /// Help, with its text.
+    /// Help or the version, with its text.
     Help(String),
 }
 
@@ -56,7 +56,7 @@ fn file_in<'a>(matches: &ArgMatches<'a>) -> Option<&'a str>
     }
 }
 
-/// Help was asked for, or the words are wrong.
+/// Help or the version was asked for, or the words are wrong.
 fn without_matches<'a>(alloc: Global, error: &Error) -> Result<Request<'a>, Failure>
     ensures memory { kind_of error.now ≡ ErrorKind.OutOfMemory → result ≡ Err Failure.NoMemory }
     ensures help { IfOk result (λ request. IsHelp request × IsTrue (shows_text (kind_of error.now))) }

@@ -16,8 +16,8 @@ use std::fs;
 use std::io::{self, Read, Write};
 use std::rt::Files;
 
-/// Runs the program as a process does: on the words of its command line, or where these cannot be had, it reports why.
-/// Returns the exit status, as `program` does; 2 also where an argument is not valid UTF-8.
+/// Runs the program as a process does: on the words of its command line. Where these could not be read, it
+/// reports why. Returns the exit status, as `program` does; 2 also where an argument is not valid UTF-8.
 pub fn process<H: Files + AllocGlobal, R: Read, W: Write, E: Write>(
     rt: &H,
     words: io::Result<Vec<String>>,

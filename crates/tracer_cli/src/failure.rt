@@ -101,7 +101,7 @@ impl From<CaseError> for Failure {
     }
 }
 
-/// Why the arguments cannot be had: there is no memory for them, or one is not valid UTF-8.
+/// Why the arguments could not be read: out of memory, or one of them is not valid UTF-8.
 pub fn arguments_failure(error: &io::Error) -> Failure
     ensures { result ≡ failure_at (error_kind error.now) Failure.NoText }
 {

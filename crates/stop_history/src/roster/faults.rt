@@ -39,7 +39,7 @@ pub fn fault_after(before: &[Row], row: Row) -> Option<RosterError>
     family_fault(at, row, parent_in(before, row))
 }
 
-/// The fault of one more row of a roster, if it has one: its own, otherwise that there is no room for it.
+/// Why a row cannot be added to a roster: its own first fault, or else `TooMany` where the roster is full.
 pub(super) fn push_fault(rows: &[Row], row: Row) -> Option<RosterError>
     requires { length rows.now ≤ MOST_ROWS }
     ensures { result ≡ push_fault rows.now row }

@@ -1,0 +1,156 @@
+-- How many stops acts can make: each stop leaves fewer, a step makes four at most, and no number passes the last one.
+use Rattle.std.proofs.Common.{◌≡◌, ◌+◌, ◌*◌, ◌≤◌, ◌∷◌, ◌++◌, [], ℕ, Bool, true, false, List, Some, None}
+use Rattle.std.proofs.Common.{length, map, drop, cond, eqb, arith, ap, sym, ◌∙◌, subst}
+use Rattle.std.proofs.lemmas.List.{length-map}
+use Rattle.trace_pages.specs.FlatMemory.{RunEnd, Full, Absent, Top, run_end, stored}
+use Rattle.trace_pages.specs.Memory.{store_answer}
+use Rattle.trace_record.specs.declared.death.Death.{Death}
+use Rattle.trace_record.specs.declared.resume.Resume.{Resume}
+use Rattle.trace_record.specs.declared.stop.Stop.{Stop}
+use Rattle.stop_history.specs.declared.limits.TheConstants.{LAST_NUMBER}
+use Rattle.trace_script.specs.Kept.{step_of}
+use Rattle.trace_script.specs.Left.{left_by, left_in}
+use Rattle.trace_script.specs.Script.{Fill, Script, Step}
+use Rattle.trace_script.specs.Script as step
+use Rattle.trace_script.specs.StepStops.{Act, Halts, Loads, Calls, Becomes, Stores, Answers, Delivers, Dies, acts_of}
+use Rattle.trace_script.specs.StepStops.{acts_of_steps, halts}
+use Rattle.trace_script.specs.StopNumbers.{IsWithin, stops_in}
+use Rattle.trace_script.specs.StopTrace.{Context, Stops, GoesOn, Ends, Outcome, Stopped, Through, Died}
+use Rattle.trace_script.specs.StopTrace.{Faulted, Position, advance, context, next_position, opening_position}
+use Rattle.trace_script.specs.StopTrace.{outcome_at, outcome_by, position, position_by, store_effect}
+use Rattle.trace_script.specs.declared.progress.Progress.{Progress}
+use Rattle.trace_script.specs.declared.progress.Progress.TheVariants as progress
+use Rattle.trace_script.specs.declared.script.Image.{Image as KeptImage}
+use Rattle.trace_script.specs.declared.script.Step.{Step as KeptStep}
+use Rattle.trace_script.specs.declared.setting.Setting.{Setting}
+use Rattle.trace_script.specs.declared.stage.Stage.{Stage}
+use Rattle.trace_script.specs.declared.stage.Stage.TheVariants as stages
+use Rattle.trace_script.proofs.Steps.{left_before}
+
+-- ---- a stop leaves fewer stops
+
+abbrev pub LeavesLess : Outcome → ℕ → Type 0
+LeavesLess (Stopped left at y) most = stops_in left + 1 ≤ most
+LeavesLess (Through y) most = Unit {0}
+LeavesLess (Died death) most = Unit {0}
+LeavesLess (Faulted address) most = Unit {0}
+
+and_more : (o : Outcome) (most : ℕ) → LeavesLess o most → LeavesLess o (most + 1)
+and_more (Stopped left at y) most less = omega (arith, less)
+and_more (Through y) most less = tt
+and_more (Died death) most less = tt
+and_more (Faulted address) most less = tt
+
+at_halt : (s : Setting) (how : Resume) (b : Bool) (at : Stop) (acts : List Act) (x : Context)
+    → LeavesLess (advance s how acts x) (stops_in acts)
+    → LeavesLess (outcome_by (cond b (Stops at) (GoesOn x)) acts x (advance s how acts)) (stops_in acts + 1)
+at_halt s how true at acts x again = omega arith
+at_halt s how false at acts x again = and_more (advance s how acts x) (stops_in acts) again
+
+at_store : (s : Setting) (how : Resume) (end : RunEnd) (acts : List Act) (x y : Context)
+    → LeavesLess (advance s how acts y) (stops_in acts)
+    → LeavesLess (outcome_by (store_effect (store_answer end) y) acts x (advance s how acts)) (stops_in acts)
+at_store s how Full acts x y again = again
+at_store s how (Absent address) acts x y again = tt
+at_store s how Top acts x y again = tt
+
+at_signal : (s : Setting) (how : Resume) (b : Bool) (death : Death) (acts : List Act) (x : Context)
+    → LeavesLess (advance s how acts x) (stops_in acts)
+    → LeavesLess (outcome_by (cond b (GoesOn x) (Ends death)) acts x (advance s how acts)) (stops_in acts)
+at_signal s how true death acts x again = again
+at_signal s how false death acts x again = tt
+
+pub leaves_less : (s : Setting) (how : Resume) (acts : List Act) (x : Context)
+    → LeavesLess (advance s how acts x) (stops_in acts)
+leaves_less s how [] x = tt
+leaves_less s how (Halts when at ∷ acts) x =
+    at_halt s how (halts s how when) at acts x (leaves_less s how acts x)
+leaves_less s how (Loads image ∷ acts) x = leaves_less s how acts _
+leaves_less s how (Calls nr arguments ∷ acts) x = leaves_less s how acts _
+leaves_less s how (Becomes image ∷ acts) x = leaves_less s how acts _
+leaves_less s how (Stores fill ∷ acts) x =
+    let y = context x.regs (stored x.memory fill.address fill.bytes) in
+    at_store s how (run_end x.memory fill.address (length fill.bytes)) acts x y (leaves_less s how acts y)
+leaves_less s how (Answers answer ∷ acts) x = leaves_less s how acts _
+leaves_less s how (Delivers ∷ acts) x = at_signal s how (eqb how.signal 0) _ acts x (leaves_less s how acts x)
+leaves_less s how (Dies death ∷ acts) x = tt
+
+within_by : (most : ℕ) (p : Position) (o : Outcome) → IsWithin most p → LeavesLess o (stops_in p.left)
+    → IsWithin most (position_by p o)
+within_by most p (Stopped left at y) within less = omega (arith, within, less)
+within_by most p (Through y) within less = omega (arith, within)
+within_by most p (Died death) within less = omega (arith, within)
+within_by most p (Faulted address) within less = within
+
+pub stays_within : (most : ℕ) (p : Position) (how : Resume) (x : Context) → IsWithin most p
+    → IsWithin most (next_position p how x)
+stays_within most p how x within =
+    within_by most p (outcome_at p how x) within (leaves_less p.setting how p.left x)
+
+-- ---- a step makes four stops at most
+
+stops_append : (a b : List Act) → stops_in (a ++ b) ≡ stops_in a + stops_in b
+stops_append [] b = omega arith
+stops_append (Halts when at ∷ a) b = let again = stops_append a b in omega (arith, again)
+stops_append (Loads image ∷ a) b = stops_append a b
+stops_append (Calls nr arguments ∷ a) b = stops_append a b
+stops_append (Becomes image ∷ a) b = stops_append a b
+stops_append (Stores fill ∷ a) b = stops_append a b
+stops_append (Answers answer ∷ a) b = stops_append a b
+stops_append (Delivers ∷ a) b = stops_append a b
+stops_append (Dies death ∷ a) b = stops_append a b
+
+four_at_most : (s : Setting) (step : Step) → stops_in (acts_of s step) ≤ 4
+four_at_most s (step.Call nr arguments answer None) = omega arith
+four_at_most s (step.Call nr arguments answer (Some fill)) = omega arith
+four_at_most s (step.Fork child) = omega arith
+four_at_most s (step.Thread child) = omega arith
+four_at_most s (step.Exec path image) = omega arith
+four_at_most s (step.Signal signal true) = omega arith
+four_at_most s (step.Signal signal false) = omega arith
+four_at_most s (step.Exit status) = omega arith
+
+pub four_each : (s : Setting) (steps : List Step) → stops_in (acts_of_steps s steps) ≤ 4 * length steps
+unfolding acts_of_steps
+four_each s [] = omega arith
+four_each s (step ∷ steps) =
+    let both = stops_append (acts_of s step) (acts_of_steps s steps) in
+    let here = four_at_most s step in
+    let rest = four_each s steps in omega (arith, both, here, rest)
+
+pub opening_within : (s : Setting) (script : Script) → IsWithin (1 + 4 * length script.steps) (opening_position s script)
+opening_within s script = let all = four_each s script.steps in omega (arith, all)
+
+-- ---- the numbers of a machine
+
+module _ {Z : Type 0} where
+  pub new_within : (s : Setting) (image : KeptImage Z) (copies steps : List (KeptStep Z))
+      → map step_of copies ≡ map step_of steps → length steps ≤ 65536
+      → IsWithin LAST_NUMBER (position s 0 (left_by s progress.New image copies))
+  new_within s image copies steps same few =
+      let all = four_each s (map step_of copies) in
+      let long : length (map step_of copies) ≡ length steps = ap length same ∙ length-map steps step_of in
+      omega (arith, all, long, few)
+
+  pub loaded_within : (s : Setting) (at : Progress) (image : KeptImage Z) (steps : List (KeptStep Z)) (number : ℕ)
+      → at ≡ progress.New → IsWithin LAST_NUMBER (position s number (left_by s at image steps))
+      → IsWithin LAST_NUMBER (position s (number + 1) (left_in s steps stages.Before))
+  loaded_within s at image steps number new within =
+      let opened : IsWithin LAST_NUMBER (position s number (left_by s progress.New image steps)) =
+      subst (λ p. IsWithin LAST_NUMBER (position s number (left_by s p image steps))) new within in
+      subst (λ acts. IsWithin LAST_NUMBER (position s (number + 1) acts)) (sym (left_before s steps))
+      (omega (arith, opened))
+
+  pub stopped_within : (s : Setting) (how : Resume) (was : Progress) (image : KeptImage Z)
+      (steps : List (KeptStep Z)) (number place : ℕ) (stage : Stage) (left : List Act) (at : Stop) (x y : Context)
+      → was ≡ progress.Going place stage
+      → advance s how (left_in s (drop place steps) stage) x ≡ Stopped left at y
+      → IsWithin LAST_NUMBER (position s number (left_by s was image steps))
+      → IsWithin LAST_NUMBER (position s (number + 1) left)
+  stopped_within s how was image steps number place stage left at x y going is within =
+      let acts = left_in s (drop place steps) stage in
+      let less : stops_in left + 1 ≤ stops_in acts =
+      subst (λ o. LeavesLess o (stops_in acts)) is (leaves_less s how acts x) in
+      let before : IsWithin LAST_NUMBER (position s number acts) =
+      subst (λ p. IsWithin LAST_NUMBER (position s number (left_by s p image steps))) going within in
+      omega (arith, before, less)

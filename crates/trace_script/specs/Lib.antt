@@ -1,0 +1,10 @@
+pub mod Arrivals
+pub mod Kept
+pub mod Left
+pub mod LookAhead
+pub mod Machine
+pub mod Registers
+pub mod Script
+pub mod StepStops
+pub mod StopNumbers
+pub mod StopTrace

@@ -1,0 +1,10 @@
+//! What a look ahead finds.
+
+/// What comes first of what a tracee does next.
+#[derive(Clone, Copy, Debug, PartialEq, Eq)]
+pub enum Found {
+    /// It stops or dies.
+    Halt,
+    /// It stores to this address, which is not mapped, or past the last address (then this is 2^64 - 1).
+    Fault(u64),
+}

@@ -1,0 +1,135 @@
+//! What a machine does.
+
+ghost use Rattle.std.specs.Prelude.{◌≡◌, ◌≤◌, drop, length, IfOk, OnErr};
+ghost use Rattle.trace_record.specs.Content.{content_by};
+ghost use Rattle.trace_record.specs.declared.stop.Stop.TheVariants as stop;
+ghost use Rattle.trace_script.specs.Arrivals.{went_on};
+ghost use Rattle.trace_script.specs.Kept.{script_of};
+ghost use Rattle.trace_script.specs.Left.{left_in};
+ghost use Rattle.trace_script.specs.Machine.{IsAnswer};
+ghost use Rattle.trace_script.specs.Registers.{first_regs};
+ghost use Rattle.trace_script.specs.StopTrace.{advance, context_of, next_element, next_position, opening_position};
+
+use crate::copies::{copy_image, copy_steps};
+use crate::look_ahead::fault_ahead;
+use crate::machine::Machine;
+use crate::next::Next;
+use crate::progress::Progress;
+use crate::registers::first_regs;
+use crate::script::{Image, Script, Step};
+use crate::setting::Setting;
+use crate::stage::Stage;
+use crate::steps_run::{Reached, run_steps};
+use std::alloc::Allocator;
+use trace_pages::NoMemory;
+use trace_record::{Death, Resume, Stop, StopRecord};
+
+/// How many steps a script has at most.
+pub const MOST_STEPS: usize = 65_536;
+
+impl<A: Allocator + Copy> Machine<A> {
+    /// A machine before its first stop.
+    pub(crate) fn of_script(
+        alloc: A,
+        setting: Setting,
+        script: &Script<A>,
+    ) -> Result<Machine<A>, NoMemory>
+        requires { length script.now.steps.items ≤ MOST_STEPS }
+        ensures { IfOk result (λ machine. machine ≡ opening_position setting (script_of script.now)) }
+    {
+        let image = copy_image(&script.image)?;
+        let steps = copy_steps(alloc, script.steps.as_slice())?;
+        Ok(Machine {
+            setting,
+            number: 0,
+            progress: Progress::New,
+            image,
+            steps,
+        })
+    }
+}
+
+impl<A: Allocator> Machine<A> {
+    /// Runs the tracee on, to its next stop or its death. The first call ignores the restart and what the record
+    /// holds: it loads the program. It takes no memory.
+    pub fn next(&mut self, how: Resume, held: &mut StopRecord<A>) -> Next
+        ensures element { IsAnswer (next_element self.old how (context_of held.old)) result held.old held.new }
+        ensures position { self.new ≡ next_position self.old how (context_of held.old) }
+    {
+        match self.progress {
+            Progress::New => {
+                load(&mut self.image, held);
+                self.progress = Progress::Going {
+                    place: 0,
+                    stage: Stage::Before,
+                };
+                self.number += 1;
+                sign(self.setting.tid, self.number, held);
+                Next::Stop
+            }
+            Progress::Going { place, stage } => {
+                let steps = self.steps.as_mut_slice();
+                let came = match go_on(steps, place, stage, &self.setting, how, held) {
+                    Ok(came) => came,
+                    Err(addr) => return Next::Fault(addr),
+                };
+                match came {
+                    Reached::Stopped(place, stage) => {
+                        self.progress = Progress::Going { place, stage };
+                        self.number += 1;
+                        sign(self.setting.tid, self.number, held);
+                        Next::Stop
+                    }
+                    Reached::Through => {
+                        self.progress = Progress::Ended(Death::Exited(0));
+                        Next::Death(Death::Exited(0))
+                    }
+                    Reached::Died(death) => {
+                        self.progress = Progress::Ended(death);
+                        Next::Death(death)
+                    }
+                }
+            }
+            Progress::Ended(death) => Next::Death(death),
+        }
+    }
+}
+
+/// Loads the program, for the first stop.
+fn load<A: Allocator>(image: &mut Image<A>, held: &mut StopRecord<A>)
+    ensures stop { held.new.stop ≡ stop.Start }
+    ensures regs { held.new.regs ≡ first_regs image.old.rip image.old.rsp }
+    ensures memory { held.new.memory ≡ image.old.memory }
+{
+    std::mem::swap(&mut held.memory, &mut image.memory);
+    held.regs = first_regs(image.rip, image.rsp);
+    held.stop = Stop::Start;
+}
+
+/// Puts in whose stop it is, and its number.
+fn sign<A: Allocator>(tid: u32, number: u32, held: &mut StopRecord<A>)
+    ensures { held.new ≡ content_by tid number held.old.stop held.old.regs held.old.memory }
+{
+    held.tid = tid;
+    held.number = number;
+}
+
+/// Goes on with steps, or returns the address of the first store on the way that faults.
+fn go_on<A: Allocator>(
+    steps: &mut [Step<A>],
+    place: usize,
+    stage: Stage,
+    setting: &Setting,
+    how: Resume,
+    held: &mut StopRecord<A>,
+) -> Result<Reached, u64>
+    ensures outcome { advance setting.now how (left_in setting.now (drop place steps.old) stage) (context_of held.old)
+        ≡ went_on setting.now result steps.new held.new.stop (context_of held.new) }
+    ensures len { length steps.new ≡ length steps.old }
+    ensures fault { OnErr result ((steps.new ≡ steps.old) × (held.new ≡ held.old)) }
+{
+    if let Some(addr) = fault_ahead(steps, place, stage, setting, how, &held.memory) {
+        return Err(addr);
+    }
+    Ok(run_steps(steps, place, stage, setting, how, held))
+}

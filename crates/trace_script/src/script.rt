@@ -1,0 +1,58 @@
+//! The script of a tracee: the program that it loads, and what it does, step by step.
+
+use std::alloc::{Allocator, Global};
+use trace_pages::Memory;
+
+/// A program as execve(2) loads it: its memory, and the two registers that it starts with.
+#[derive(Drop)]
+pub struct Image<A: Allocator = Global> {
+    pub memory: Memory<A>,
+    /// The instruction pointer.
+    pub rip: u64,
+    /// The stack pointer.
+    pub rsp: u64,
+}
+
+/// Bytes that a call writes to the tracee's memory before it returns.
+#[derive(Drop)]
+pub struct Fill<A: Allocator = Global> {
+    pub addr: u64,
+    pub bytes: Vec<u8, A>,
+}
+
+/// A system call with its answer.
+#[derive(Drop)]
+pub struct Call<A: Allocator = Global> {
+    /// Its number on x86-64.
+    pub nr: u64,
+    /// Its arguments, first to sixth.
+    pub args: [u64; 6],
+    /// The word that it leaves in `rax`.
+    pub answer: u64,
+    /// What it writes.
+    pub fill: Option<Fill<A>>,
+}
+
+/// One thing that a tracee does.
+#[derive(Drop)]
+pub enum Step<A: Allocator = Global> {
+    /// Any system call but those below.
+    Call(Call<A>),
+    /// A fork(2) that creates the process of this thread id.
+    Fork(u32),
+    /// A clone(2) that creates the thread of this id in the caller's group.
+    Thread(u32),
+    /// An execve(2) of the program whose path is at this address.
+    Exec { path: u64, image: Image<A> },
+    /// A signal arrives, 1 to 31; whether it kills the tracee where the restart hands it over (signal(7)).
+    Signal { signal: u8, deadly: bool },
+    /// An exit(2) with this status.
+    Exit(u64),
+}
+
+/// What a tracee does, from its first stop on. Where the steps run out, it exits with code 0.
+#[derive(Drop)]
+pub struct Script<A: Allocator = Global> {
+    pub image: Image<A>,
+    pub steps: Vec<Step<A>, A>,
+}

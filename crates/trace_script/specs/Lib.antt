@@ -1,4 +1,6 @@
 pub mod Arrivals
+pub mod Births
+pub mod Fills
 pub mod Kept
 pub mod Left
 pub mod LookAhead

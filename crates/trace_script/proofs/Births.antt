@@ -1,0 +1,171 @@
+-- Stops and deaths are ones that a tracee can have, and name its children in order.
+use Rattle.std.proofs.Common.{refl, ◌≡◌, ◌%◌, ◌<◌, ◌∷◌, ◌++◌, [], ℕ, Bool, true, false, List, Option, Some, None}
+use Rattle.std.proofs.Common.{length, cond, eqb, arith, ap, sym, ◌∙◌, subst, inl, inr}
+use Rattle.std.proofs.lemmas.Bool.Decides.{eqb_tells}
+use Rattle.trace_options.specs.declared.options.TheConstants.Options.{TRACEEXEC}
+use Rattle.trace_pages.specs.FlatMemory.{RunEnd, Full, Absent, Top, run_end, stored}
+use Rattle.trace_pages.specs.Memory.{store_answer}
+use Rattle.trace_record.specs.Resume.{IsResume}
+use Rattle.trace_record.specs.Stop.{IsStop, child_of}
+use Rattle.trace_record.specs.declared.death.Death.TheVariants.{Signaled}
+use Rattle.trace_record.specs.declared.resume.Resume.{Resume}
+use Rattle.trace_record.specs.declared.stop.Stop.{Stop}
+use Rattle.trace_script.specs.Births.{AreGood, AreInRange, IsGoodOutcome, IsInRange, NamesByOption, TellsBirths}
+use Rattle.trace_script.specs.Births.{TellsNoBirths, born_by, children_of, children_told, may_halt, told_if, with_child}
+use Rattle.trace_script.specs.Script.{Fill, Script, Step}
+use Rattle.trace_script.specs.Script as step
+use Rattle.trace_script.specs.StepStops.{Act, Halts, Loads, Calls, Becomes, Stores, Answers, Delivers, Dies, acts_of}
+use Rattle.trace_script.specs.StepStops.{When, Always, Traced, Filtered, Told, acts_of_script, acts_of_steps, halts}
+use Rattle.trace_script.specs.StepStops.{has_option}
+use Rattle.trace_script.specs.StopTrace.{Context, Stops, GoesOn, Ends}
+use Rattle.trace_script.specs.StopTrace.{advance, context, outcome_by, store_effect}
+use Rattle.trace_script.specs.declared.setting.Setting.{Setting}
+
+-- ---- what comes next
+
+none_told : (b : Bool) → told_if b None ≡ None
+none_told true = refl
+none_told false = refl
+
+-- a child is named exactly where the tracee stops
+told_is : (s : Setting) (how : Resume) (when : When) (child : Option ℕ) → NamesByOption when child
+    → told_if (may_halt s when) child ≡ told_if (halts s how when) child
+told_is s how when None names = none_told (may_halt s when) ∙ sym (none_told (halts s how when))
+told_is s how (Told option) (Some child) names = refl
+told_is s how Always (Some child) names = absurd names
+told_is s how Traced (Some child) names = absurd names
+told_is s how (Filtered nr) (Some child) names = absurd names
+
+halt_by : (s : Setting) (how : Resume) (b : Bool) (at : Stop) (acts : List Act) (x : Context) (children : List ℕ)
+    → IsStop at → AreGood acts → children ≡ with_child (told_if b (child_of at)) (children_told s acts)
+    → IsGoodOutcome s (children_told s acts) (advance s how acts x)
+    → IsGoodOutcome s children (outcome_by (cond b (Stops at) (GoesOn x)) acts x (advance s how acts))
+halt_by s how true at acts x children stop good same again = (stop, good, same)
+halt_by s how false at acts x children stop good same again =
+    subst (λ cs. IsGoodOutcome s cs (advance s how acts x)) (sym same) again
+
+at_store : (s : Setting) (how : Resume) (end : RunEnd) (acts : List Act) (x y : Context)
+    → IsGoodOutcome s (children_told s acts) (advance s how acts y)
+    → IsGoodOutcome s (children_told s acts) (outcome_by (store_effect (store_answer end) y) acts x (advance s how acts))
+at_store s how Full acts x y again = again
+at_store s how (Absent address) acts x y again = tt
+at_store s how Top acts x y again = tt
+
+at_signal : (s : Setting) (how : Resume) (acts : List Act) (x : Context) → IsResume how
+    → IsGoodOutcome s (children_told s acts) (advance s how acts x)
+    → IsGoodOutcome s (children_told s acts)
+    (outcome_by (cond (eqb how.signal 0) (GoesOn x) (Ends (Signaled how.signal false))) acts x (advance s how acts))
+at_signal s how acts x range again = elim (eqb_tells how.signal 0) [
+  | inl none ↦ rw none.0 again
+  | inr some ↦ rw some.0 (omega (arith, some.1), range)
+]
+
+pub good_next : (s : Setting) (how : Resume) (acts : List Act) (x : Context) → IsResume how → AreGood acts
+    → IsGoodOutcome s (children_told s acts) (advance s how acts x)
+good_next s how [] x range good = tt
+good_next s how (Halts when at ∷ acts) x range good =
+    halt_by s how (halts s how when) at acts x _ good.0.0 good.1
+    (ap (λ child. with_child child (children_told s acts)) (told_is s how when (child_of at) good.0.1))
+    (good_next s how acts x range good.1)
+good_next s how (Loads image ∷ acts) x range good = good_next s how acts _ range good
+good_next s how (Calls nr arguments ∷ acts) x range good = good_next s how acts _ range good
+good_next s how (Becomes image ∷ acts) x range good = good_next s how acts _ range good
+good_next s how (Stores fill ∷ acts) x range good =
+    let y = context x.regs (stored x.memory fill.address fill.bytes) in
+    at_store s how (run_end x.memory fill.address (length fill.bytes)) acts x y (good_next s how acts y range good)
+good_next s how (Answers answer ∷ acts) x range good = good_next s how acts _ range good
+good_next s how (Delivers ∷ acts) x range good = at_signal s how acts x range (good_next s how acts x range good)
+good_next s how (Dies death ∷ acts) x range good = good.0
+
+-- ---- scripts
+
+good_append : (a b : List Act) → AreGood a → AreGood b → AreGood (a ++ b)
+good_append [] b first second = second
+good_append (Halts when at ∷ a) b first second = (first.0, good_append a b first.1 second)
+good_append (Loads image ∷ a) b first second = good_append a b first second
+good_append (Calls nr arguments ∷ a) b first second = good_append a b first second
+good_append (Becomes image ∷ a) b first second = good_append a b first second
+good_append (Stores fill ∷ a) b first second = good_append a b first second
+good_append (Answers answer ∷ a) b first second = good_append a b first second
+good_append (Delivers ∷ a) b first second = good_append a b first second
+good_append (Dies death ∷ a) b first second = (first.0, good_append a b first.1 second)
+
+good_step : (s : Setting) (step : Step) → IsInRange step → AreGood (acts_of s step)
+good_step s (step.Call nr arguments answer None) range = ((tt, tt), ((tt, tt), ((tt, tt), tt)))
+good_step s (step.Call nr arguments answer (Some fill)) range = ((tt, tt), ((tt, tt), ((tt, tt), tt)))
+good_step s (step.Fork child) range = ((tt, tt), ((tt, tt), ((tt, tt), ((tt, tt), tt))))
+good_step s (step.Thread child) range = ((tt, tt), ((tt, tt), ((tt, tt), ((tt, tt), tt))))
+good_step s (step.Exec path image) range = ((tt, tt), ((tt, tt), ((tt, tt), ((tt, tt), tt))))
+good_step s (step.Signal signal true) range = ((range, tt), tt)
+good_step s (step.Signal signal false) range = ((range, tt), tt)
+good_step s (step.Exit status) range =
+    let low : status % 256 < 256 = omega arith in ((tt, tt), ((tt, tt), (low, tt)))
+
+good_steps : (s : Setting) (steps : List Step) → AreInRange steps → AreGood (acts_of_steps s steps)
+unfolding acts_of_steps
+good_steps s [] range = tt
+good_steps s (step ∷ steps) range =
+    good_append (acts_of s step) (acts_of_steps s steps) (good_step s step range.0) (good_steps s steps range.1)
+
+pub good_script : (s : Setting) (script : Script) → AreInRange script.steps → AreGood (acts_of_script s script)
+good_script s script range = ((tt, tt), good_steps s script.steps range)
+
+with_append : (child : Option ℕ) (a b : List ℕ) → with_child child (a ++ b) ≡ with_child child a ++ b
+with_append None a b = refl
+with_append (Some child) a b = refl
+
+told_append : (s : Setting) (a b : List Act) → children_told s (a ++ b) ≡ children_told s a ++ children_told s b
+told_append s [] b = refl
+told_append s (Halts when at ∷ a) b =
+    let child = told_if (may_halt s when) (child_of at) in
+    ap (with_child child) (told_append s a b) ∙ with_append child (children_told s a) (children_told s b)
+told_append s (Loads image ∷ a) b = told_append s a b
+told_append s (Calls nr arguments ∷ a) b = told_append s a b
+told_append s (Becomes image ∷ a) b = told_append s a b
+told_append s (Stores fill ∷ a) b = told_append s a b
+told_append s (Answers answer ∷ a) b = told_append s a b
+told_append s (Delivers ∷ a) b = told_append s a b
+told_append s (Dies death ∷ a) b = told_append s a b
+
+told_step : (s : Setting) (step : Step) → TellsBirths s → children_told s (acts_of s step) ≡ children_of step
+told_step s (step.Call nr arguments answer None) tells = refl
+told_step s (step.Call nr arguments answer (Some fill)) tells = refl
+told_step s (step.Fork child) tells = ap (λ b. with_child (told_if b (Some child)) []) tells.0
+told_step s (step.Thread child) tells = ap (λ b. with_child (told_if b (Some child)) []) tells.1
+told_step s (step.Exec path image) tells = ap (λ c. with_child c []) (none_told (has_option s TRACEEXEC))
+told_step s (step.Signal signal true) tells = refl
+told_step s (step.Signal signal false) tells = refl
+told_step s (step.Exit status) tells = refl
+
+told_steps : (s : Setting) (steps : List Step) → TellsBirths s → children_told s (acts_of_steps s steps) ≡ born_by steps
+unfolding acts_of_steps
+told_steps s [] tells = refl
+told_steps s (step ∷ steps) tells =
+    told_append s (acts_of s step) (acts_of_steps s steps)
+    ∙ ap (λ children. children ++ children_told s (acts_of_steps s steps)) (told_step s step tells)
+    ∙ ap (λ children. children_of step ++ children) (told_steps s steps tells)
+
+pub told_script : (s : Setting) (script : Script) → TellsBirths s
+    → children_told s (acts_of_script s script) ≡ born_by script.steps
+told_script s script tells = told_steps s script.steps tells
+
+untold_step : (s : Setting) (step : Step) → TellsNoBirths s → children_told s (acts_of s step) ≡ []
+untold_step s (step.Call nr arguments answer None) tells = refl
+untold_step s (step.Call nr arguments answer (Some fill)) tells = refl
+untold_step s (step.Fork child) tells = ap (λ b. with_child (told_if b (Some child)) []) tells.0
+untold_step s (step.Thread child) tells = ap (λ b. with_child (told_if b (Some child)) []) tells.1
+untold_step s (step.Exec path image) tells = ap (λ c. with_child c []) (none_told (has_option s TRACEEXEC))
+untold_step s (step.Signal signal true) tells = refl
+untold_step s (step.Signal signal false) tells = refl
+untold_step s (step.Exit status) tells = refl
+
+untold_steps : (s : Setting) (steps : List Step) → TellsNoBirths s → children_told s (acts_of_steps s steps) ≡ []
+unfolding acts_of_steps
+untold_steps s [] tells = refl
+untold_steps s (step ∷ steps) tells =
+    told_append s (acts_of s step) (acts_of_steps s steps)
+    ∙ ap (λ children. children ++ children_told s (acts_of_steps s steps)) (untold_step s step tells)
+    ∙ untold_steps s steps tells
+
+pub untold_script : (s : Setting) (script : Script) → TellsNoBirths s → children_told s (acts_of_script s script) ≡ []
+untold_script s script tells = untold_steps s script.steps tells

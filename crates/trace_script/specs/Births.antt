@@ -1,0 +1,98 @@
+-- The children of a tracee: those that its script creates, and those that its stops name (ptrace(2),
+-- PTRACE_EVENT_FORK, PTRACE_EVENT_CLONE). And acts whose stops and deaths are ones that a tracee can have.
+use Rattle.std.specs.Prelude.{◌≡◌, ◌∷◌, ◌++◌, [], ℕ, Bool, true, false, List, Option, Some, None, if◌then◌else◌}
+use Rattle.trace_options.specs.declared.options.TheConstants.Options.{TRACECLONE, TRACEFORK}
+use Rattle.trace_record.specs.Death.{IsDeath}
+use Rattle.trace_record.specs.Stop.{IsStop, child_of}
+use Rattle.trace_status.specs.WaitStatus.{IsSignal}
+use Rattle.trace_script.specs.Script.{Step}
+use Rattle.trace_script.specs.Script as step
+use Rattle.trace_script.specs.StepStops.{Act, Halts, Loads, Calls, Becomes, Stores, Answers, Delivers, Dies}
+use Rattle.trace_script.specs.StepStops.{When, Always, Traced, Filtered, Told, has_option}
+use Rattle.trace_script.specs.StopTrace.{Outcome, Stopped, Through, Died, Faulted}
+use Rattle.trace_script.specs.declared.setting.Setting.{Setting}
+
+-- ---- scripts
+
+-- the children that steps create, in order
+abbrev pub children_of : Step → List ℕ
+children_of (step.Fork child) = child ∷ []
+children_of (step.Thread child) = child ∷ []
+children_of other = []
+
+abbrev pub born_by : List Step → List ℕ
+born_by [] = []
+born_by (step ∷ steps) = children_of step ++ born_by steps
+
+-- each signal that arrives is one of Linux's
+abbrev pub IsInRange : Step → Type 0
+IsInRange (step.Signal signal deadly) = IsSignal signal
+IsInRange other = Unit {0}
+
+abbrev pub AreInRange : List Step → Type 0
+AreInRange [] = Unit {0}
+AreInRange (step ∷ steps) = IsInRange step × AreInRange steps
+
+-- ---- acts
+
+-- whether a tracee of the setting can stop at a place
+abbrev pub may_halt : Setting → When → Bool
+may_halt s Always = true
+may_halt s Traced = true
+may_halt s (Filtered nr) = true
+may_halt s (Told option) = has_option s option
+
+abbrev pub told_if : Bool → Option ℕ → Option ℕ
+told_if may child = if may then child else None
+
+abbrev pub with_child : Option ℕ → List ℕ → List ℕ
+with_child None children = children
+with_child (Some child) children = child ∷ children
+
+-- the children that stops still name, in order
+abbrev pub children_told : Setting → List Act → List ℕ
+children_told s [] = []
+children_told s (Halts when at ∷ acts) = with_child (told_if (may_halt s when) (child_of at)) (children_told s acts)
+children_told s (Loads image ∷ acts) = children_told s acts
+children_told s (Calls nr arguments ∷ acts) = children_told s acts
+children_told s (Becomes image ∷ acts) = children_told s acts
+children_told s (Stores fill ∷ acts) = children_told s acts
+children_told s (Answers answer ∷ acts) = children_told s acts
+children_told s (Delivers ∷ acts) = children_told s acts
+children_told s (Dies death ∷ acts) = children_told s acts
+
+-- a stop that names a child comes by an option alone
+abbrev pub NamesByOption : When → Option ℕ → Type 0
+NamesByOption when None = Unit {0}
+NamesByOption (Told option) (Some child) = Unit {0}
+NamesByOption Always (Some child) = ⊥
+NamesByOption Traced (Some child) = ⊥
+NamesByOption (Filtered nr) (Some child) = ⊥
+
+-- stops and deaths that a tracee can have
+abbrev pub AreGood : List Act → Type 0
+AreGood [] = Unit {0}
+AreGood (Halts when at ∷ acts) = (IsStop at × NamesByOption when (child_of at)) × AreGood acts
+AreGood (Dies death ∷ acts) = IsDeath death × AreGood acts
+AreGood (Loads image ∷ acts) = AreGood acts
+AreGood (Calls nr arguments ∷ acts) = AreGood acts
+AreGood (Becomes image ∷ acts) = AreGood acts
+AreGood (Stores fill ∷ acts) = AreGood acts
+AreGood (Answers answer ∷ acts) = AreGood acts
+AreGood (Delivers ∷ acts) = AreGood acts
+
+-- what comes next is a stop or a death that a tracee can have, and a child that it names is the first of those that
+-- were still to be named
+abbrev pub IsGoodOutcome : Setting → (children : List ℕ) → Outcome → Type 0
+IsGoodOutcome s children (Stopped left at x) =
+    IsStop at × AreGood left × (children ≡ with_child (child_of at) (children_told s left))
+IsGoodOutcome s children (Died death) = IsDeath death
+IsGoodOutcome s children (Through x) = Unit {0}
+IsGoodOutcome s children (Faulted address) = Unit {0}
+
+-- forks and clones are both told of, or neither is
+abbrev pub TellsBirths : Setting → Type 0
+TellsBirths s = (has_option s TRACEFORK ≡ true) × (has_option s TRACECLONE ≡ true)
+
+abbrev pub TellsNoBirths : Setting → Type 0
+TellsNoBirths s = (has_option s TRACEFORK ≡ false) × (has_option s TRACECLONE ≡ false)

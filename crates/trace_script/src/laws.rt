@@ -1,0 +1,72 @@
+//! Laws of the definitions: each function is its contract alone.
+
+ghost use Rattle.std.specs.Prelude.{◌≡◌, ◌≢◌, ◌+◌, ◌*◌, ℕ, List, Some, [], codes, length};
+ghost use Rattle.trace_options.specs.Syscalls.{syscall_named};
+ghost use Rattle.trace_record.specs.Resume.{IsResume};
+ghost use Rattle.trace_record.specs.declared.death.Death.{Death};
+ghost use Rattle.trace_record.specs.declared.resume.Resume.{Resume};
+ghost use Rattle.trace_record.specs.Content.{Content};
+ghost use Rattle.trace_pages.specs.FlatMemory.{SameAddresses};
+ghost use Rattle.trace_script.specs.Births.{AreGood, AreInRange, IsGoodOutcome, TellsBirths, TellsNoBirths};
+ghost use Rattle.trace_script.specs.Births.{born_by, children_told};
+ghost use Rattle.trace_script.specs.Fills.{EndsDead, HasMappedFills, KeepsAddresses};
+ghost use Rattle.trace_script.specs.Script.{Script};
+ghost use Rattle.trace_script.specs.StopNumbers.{IsWithin};
+ghost use Rattle.trace_script.specs.StopTrace.{Broken, Context, Dead, DeathIs, FaultIs, Follows, Obeys, Policy};
+ghost use Rattle.trace_script.specs.StopTrace.{Position, StopIs, Turn, context_after, ended, how_after};
+ghost use Rattle.trace_script.specs.StopTrace.{next_element, next_position, opening_position, outcome_at};
+ghost use Rattle.trace_script.specs.StopTrace.{position_after, trace_at, trace_of, with_stops};
+ghost use Rattle.trace_script.specs.declared.setting.Setting.{Setting};
+
+/// A run is the trace: where each stop is the next element for the restart and the content taken up, and each restart
+/// the policy's, the stops of the run are those with which the trace under the policy begins; and it ends as the run
+/// ends.
+pub fn runs_are_traces()
+    ensures stops { (policy : Policy) (p : Position) (how : Resume) (x : Context) (turns : List Turn) →
+        Follows p turns → Obeys policy how x turns → trace_at policy p how x
+        ≡ with_stops turns
+        (trace_at policy (position_after p turns) (how_after policy how turns) (context_after x turns)) }
+    ensures death { (policy : Policy) (p : Position) (how : Resume) (x : Context) (death : Death) →
+        next_element p how x ≡ DeathIs death → trace_at policy p how x ≡ ended (Dead death) }
+    ensures fault { (policy : Policy) (p : Position) (how : Resume) (x : Context) (address : ℕ) →
+        next_element p how x ≡ FaultIs address → trace_at policy p how x ≡ ended (Broken address) }
+    ensures opening { (policy : Policy) (s : Setting) (script : Script) (how : Resume) (x : Context) →
+        trace_of policy s script ≡ trace_at policy (opening_position s script) how x }
+{}
+
+/// The stops of a script are numbered 1, 2, 3 and so on, and a script of so many steps makes at most four stops a step
+/// and one more.
+pub fn stops_are_numbered()
+    ensures opening { (s : Setting) (script : Script) →
+        IsWithin (1 + 4 * length script.steps) (opening_position s script) }
+    ensures stays { (most : ℕ) (p : Position) (how : Resume) (x : Context) →
+        IsWithin most p → IsWithin most (next_position p how x) }
+    ensures setting { (p : Position) (how : Resume) (x : Context) → (next_position p how x).setting ≡ p.setting }
+    ensures stop { (p : Position) (how : Resume) (x : Context) (content : Content) →
+        next_element p how x ≡ StopIs content → (content.tid ≡ p.setting.tid) × (content.number ≡ p.number + 1)
+        × ((next_position p how x).number ≡ content.number) }
+{}
+
+/// What comes next is a stop or a death that a tracee can have, and births come in order: a stop names a child where
+/// the setting tells of births, and then the children of the script in their order; where it does not, no stop does.
+pub fn stops_are_in_range()
+    ensures next { (p : Position) (how : Resume) (x : Context) → IsResume how → AreGood p.left →
+        IsGoodOutcome p.setting (children_told p.setting p.left) (outcome_at p how x) }
+    ensures opening { (s : Setting) (script : Script) → AreInRange script.steps →
+        AreGood (opening_position s script).left }
+    ensures told { (s : Setting) (script : Script) → TellsBirths s →
+        children_told s (opening_position s script).left ≡ born_by script.steps }
+    ensures untold { (s : Setting) (script : Script) → TellsNoBirths s →
+        children_told s (opening_position s script).left ≡ [] }
+{}
+
+/// A script whose fills are mapped never faults: under no policy, and in no run in which nobody has changed which
+/// addresses are mapped.
+pub fn mapped_fills_never_fault()
+    ensures trace { (policy : Policy) (s : Setting) (script : Script) → HasMappedFills script →
+        EndsDead (trace_of policy s script).ending }
+    ensures run { (s : Setting) (script : Script) (x : Context) (turns : List Turn) (how : Resume) (now : Context)
+        (address : ℕ) → HasMappedFills script → Follows (opening_position s script) turns → KeepsAddresses x turns →
+        SameAddresses now.memory (context_after x turns).memory →
+        next_element (position_after (opening_position s script) turns) how now ≢ FaultIs address }
+{}

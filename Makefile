@@ -10,7 +10,7 @@ OUT = bench/out
 # Takes the name and the status from a line of rt's report.
 ENDED = s/^case=\(.*\) run=ended status=\([0-9]*\) .*/\1: status \2/
 
-.PHONY: all kit demo examples check test bench tools install clean
+.PHONY: all kit demo examples check test bench bench-case tools install clean
 
 all: kit
 	@echo "make: proving the program and what it stands on, over what earlier runs kept (the first time: ten minutes)"
@@ -61,7 +61,18 @@ bench: tools all
 	@$(RUSTC) -O --edition 2024 -o $(OUT)/generate bench/generate.rs
 	@$(RUSTC) -O --edition 2024 -o $(OUT)/plain bench/plain.rs
 	@$(OUT)/generate > $(OUT)/replay.txt
-	@$(PYTHON) bench/compare.py bin/tracer $(OUT)/plain $(OUT)/replay.txt
+	@$(PYTHON) bench/compare.py "bin/tracer replay" $(OUT)/plain $(OUT)/replay.txt
+
+# CASE_READER is a command that reads a case file on standard input and prints how many rows and steps it has, or why
+# it is refused, as bench/plain_case.rs does. No program of the repository does so yet.
+bench-case: tools
+	@[ -n "$(CASE_READER)" ] || { echo "bench-case: give the command that reads a case, as CASE_READER=COMMAND"; exit 2; }
+	@echo "bench-case: timing $(CASE_READER) and a plain Rust program in turn on one case of 16 MB (some seconds)"
+	@mkdir -p $(OUT)
+	@$(RUSTC) -O --edition 2024 -o $(OUT)/generate_case bench/generate_case.rs
+	@$(RUSTC) -O --edition 2024 -o $(OUT)/plain_case bench/plain_case.rs
+	@$(OUT)/generate_case > $(OUT)/case.txt
+	@$(PYTHON) bench/compare.py --time 1.2 --memory 4 "$(CASE_READER)" $(OUT)/plain_case $(OUT)/case.txt
 
 tools:
 	@for command in $(RUSTC) $(PYTHON); do \

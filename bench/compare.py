@@ -1,11 +1,14 @@
-"""Times `tracer replay` and the plain Rust program in turn on one file: the best of ten each, and the peak memory.
+"""Times a program and the plain Rust program in turn on one file: the best of ten each, and the peak memory.
 
-Usage: compare.py TRACER PLAIN FILE
+Usage: compare.py [--time RATIO] [--memory TIMES] TRACER PLAIN FILE
 
-The timed runs print to /dev/null, so that no reader's time counts. Then both have to answer the file, and the file
-cut short inside its last line, with the same status, output and error text.
+TRACER and PLAIN are commands, with their arguments after spaces, which read FILE on standard input. The timed runs
+print to /dev/null, so that no reader's time counts. Then both have to answer the file, and the file cut short inside
+its last line, with the same status, output and error text. With --time the tracer's time may be at most so many times
+the plain program's, with --memory its memory at most so many times the file.
 """
 
+import argparse
 import os
 import subprocess
 import sys
@@ -37,26 +40,41 @@ def run(words, path):
     return seconds, usage.ru_maxrss
 
 
+def arguments():
+    parser = argparse.ArgumentParser()
+    parser.add_argument("--time", type=float)
+    parser.add_argument("--memory", type=float)
+    for name in ("tracer", "plain"):
+        parser.add_argument(name, type=str.split)
+    parser.add_argument("file")
+    return parser.parse_args()
+
+
 def main():
-    tracer, plain, path = sys.argv[1:]
-    programs = {"tracer": [tracer, "replay"], "plain": [plain]}
+    asked = arguments()
+    programs = {"tracer": asked.tracer, "plain": asked.plain}
     best = {}
     peak = {}
     for _ in range(RUNS):
         for name, words in programs.items():
-            seconds, memory = run(words, path)
+            seconds, memory = run(words, asked.file)
             best[name] = min(seconds, best.get(name, seconds))
             peak[name] = max(memory, peak.get(name, 0))
-    with open(path, "rb") as file:
+    with open(asked.file, "rb") as file:
         whole = file.read()
     for text in (whole, whole[:-4]):
         if answers(programs["tracer"], text) != answers(programs["plain"], text):
             sys.exit("the two programs answer differently")
+    times = {name: peak[name] * 1024 / len(whole) for name in programs}
     for name in programs:
-        times = peak[name] * 1024 / len(whole)
         time_text = f"best of {RUNS} {best[name] * 1000:.0f} ms"
-        print(f"{name}: {time_text}, peak {peak[name] / 1024:.1f} MiB, {times:.2f} times the input")
-    print(f"ratio in time, tracer to plain: {best['tracer'] / best['plain']:.2f}")
+        print(f"{name}: {time_text}, peak {peak[name] / 1024:.1f} MiB, {times[name]:.2f} times the input")
+    ratio = best["tracer"] / best["plain"]
+    print(f"ratio in time, tracer to plain: {ratio:.2f}")
+    if asked.time is not None and ratio > asked.time:
+        sys.exit(f"the ratio in time is above {asked.time}")
+    if asked.memory is not None and times["tracer"] > asked.memory:
+        sys.exit(f"the tracer's memory is above {asked.memory} times the input")
 
 
 main()

@@ -7,4 +7,6 @@ pub enum LineFault {
     UnknownWord,
     /// A word is not a number, or the number is out of range.
     BadNumber,
+    /// A word is not hexadecimal bytes.
+    BadHex,
 }

@@ -9,7 +9,7 @@ mod numbers;
 
 pub use fault::LineFault;
 pub use keywords::keyword;
-pub use lines::{cut_line, first_words};
+pub use lines::{cut_line, first_words, last_line};
 pub use numbers::{integer, number, number_between};
 
 #[cfg(test)]

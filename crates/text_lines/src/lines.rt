@@ -1,8 +1,8 @@
 //! The lines of a file and the words of a line, as slices of it.
 
-ghost use Rattle.std.specs.Prelude.{◌≡◌, ◌≢◌, ◌==◌, ◌<◌, ◌≤◌, ◌∷◌, [], length, map, position, slice_index};
+ghost use Rattle.std.specs.Prelude.{◌≡◌, ◌≢◌, ◌==◌, ◌<◌, ◌≤◌, ◌^◌, ◌∷◌, [], length, map, position, slice_index};
 ghost use Rattle.std.specs.Prelude.{MatchOption, drop, take};
-ghost use Rattle.text_lines.specs.Lines.{lines_of, words_in};
+ghost use Rattle.text_lines.specs.Lines.{last_line, lines_of, words_in};
 
 /// The first line of a text that is not empty, without its line feed, and what follows it. The last line may lack the
 /// line feed.
@@ -16,6 +16,21 @@ pub fn cut_line(text: &[u8]) -> (&[u8], &[u8])
         Some(end) => (&text[..end], &text[end + 1..]),
         None => (text, &[]),
     }
+}
+
+/// The number of a text's last line, from 1; 1 of an empty text.
+pub fn last_line(text: &[u8]) -> u32
+    requires { length text.now < 2 ^ 32 }
+    ensures { result ≡ last_line text.now }
+{
+    let mut rest = text;
+    let mut count = 0u32;
+    while !rest.is_empty() {
+        let (_, after) = cut_line(rest);
+        rest = after;
+        count += 1;
+    }
+    count.max(1)
 }
 
 /// The place of the first line feed.

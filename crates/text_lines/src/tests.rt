@@ -24,6 +24,21 @@ fn a_line_ends_with_a_line_feed_which_the_last_may_lack(rt: HostRuntime) {
 }
 
 #[test]
+fn a_line_feed_at_the_end_begins_no_line(rt: HostRuntime) {
+    let cases: [(&str, u32); 6] = [
+        ("", 1),
+        ("one", 1),
+        ("one\n", 1),
+        ("one\ntwo", 2),
+        ("one\n\n", 2),
+        ("\n\n\nfour", 4),
+    ];
+    for (text, line) in &cases {
+        assert_eq!(rt; last_line(text.as_bytes()), *line);
+    }
+}
+
+#[test]
 fn words_are_separated_by_spaces_alone(rt: HostRuntime) {
     let mut words: [&[u8]; 3] = [&[]; 3];
     let count = first_words(b"  a\tb  c ", &mut words);

@@ -1,11 +1,15 @@
 pub mod Arrivals
 pub mod Births
+pub mod CaseError
+pub mod Cause
 pub mod Fills
 pub mod Kept
 pub mod Left
 pub mod LookAhead
 pub mod Machine
+pub mod Reading
 pub mod Registers
+pub mod RowWords
 pub mod Script
 pub mod StepStops
 pub mod StopNumbers

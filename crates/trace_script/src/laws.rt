@@ -1,6 +1,6 @@
 //! Laws of the definitions: each function is its contract alone.
 
-ghost use Rattle.std.specs.Prelude.{◌≡◌, ◌≢◌, ◌+◌, ◌*◌, ℕ, List, Some, [], codes, length};
+ghost use Rattle.std.specs.Prelude.{◌≡◌, ◌≢◌, ◌+◌, ◌*◌, ℕ, List, Some, [], codes, length, option_map};
 ghost use Rattle.trace_options.specs.Syscalls.{syscall_named};
 ghost use Rattle.trace_record.specs.Resume.{IsResume};
 ghost use Rattle.trace_record.specs.declared.death.Death.{Death};
@@ -16,6 +16,7 @@ ghost use Rattle.trace_script.specs.StopTrace.{Broken, Context, Dead, DeathIs, F
 ghost use Rattle.trace_script.specs.StopTrace.{Position, StopIs, Turn, context_after, ended, how_after};
 ghost use Rattle.trace_script.specs.StopTrace.{next_element, next_position, opening_position, outcome_at};
 ghost use Rattle.trace_script.specs.StopTrace.{position_after, trace_at, trace_of, with_stops};
+ghost use Rattle.trace_script.specs.declared.calls.TheConstants.{CLONE, EXECVE, EXIT, FORK};
 ghost use Rattle.trace_script.specs.declared.setting.Setting.{Setting};
 
 /// A run is the trace: where each stop is the next element for the restart and the content taken up, and each restart
@@ -69,4 +70,13 @@ pub fn mapped_fills_never_fault()
         (address : ℕ) → HasMappedFills script → Follows (opening_position s script) turns → KeepsAddresses x turns →
         SameAddresses now.memory (context_after x turns).memory →
         next_element (position_after (opening_position s script) turns) how now ≢ FaultIs address }
+{}
+
+/// The steps that are calls of their own have the numbers of the table of system calls.
+#[tactic(auto, unfolding(trace_options::specs::Syscalls::syscall_table))]
+pub fn steps_are_known_calls()
+    ensures clone { option_map (λ call. call.number) (syscall_named (codes "clone")) ≡ Some CLONE }
+    ensures fork { option_map (λ call. call.number) (syscall_named (codes "fork")) ≡ Some FORK }
+    ensures execve { option_map (λ call. call.number) (syscall_named (codes "execve")) ≡ Some EXECVE }
+    ensures exit { option_map (λ call. call.number) (syscall_named (codes "exit")) ≡ Some EXIT }
 {}

@@ -2,14 +2,17 @@
 #![tactic(auto)]
 
 mod calls;
+mod cause;
 mod copies;
 mod found;
 mod laws;
+mod limits;
 mod look_ahead;
 mod machine;
 mod next;
 mod progress;
 mod registers;
+mod row_words;
 mod script;
 mod setting;
 mod stage;
@@ -17,8 +20,14 @@ mod step_run;
 mod steps_run;
 
 pub use calls::{CLONE, CLONE_THREAD_FLAGS, EXECVE, EXIT, FORK};
-pub use laws::{mapped_fills_never_fault, runs_are_traces, stops_are_in_range, stops_are_numbered};
+pub use cause::{CaseError, Cause};
+pub use laws::{
+    mapped_fills_never_fault, runs_are_traces, steps_are_known_calls, stops_are_in_range,
+    stops_are_numbered,
+};
+pub use limits::{MOST_BYTES, MOST_STEPS};
 pub use machine::Machine;
 pub use next::Next;
+pub use row_words::{id, row_of_words};
 pub use script::{Call, Fill, Image, Script, Step};
 pub use setting::Setting;

@@ -1,11 +1,8 @@
 pub mod Commands
-pub mod Decimals
 pub mod Guesses
 pub mod LinesBack
-pub mod LinesRead
 pub mod ReadBack
 pub mod Runs
 pub mod SixWords
-pub mod Spelled
 pub mod Tables
 pub mod Written

@@ -8,10 +8,11 @@ use Rattle.std.proofs.lemmas.List.{take_all}
 use Rattle.std.specs.Io.KnownBytes.{Appends}
 use Rattle.std.specs.Option.{option_map}
 use Rattle.tracer_cli.specs.declared.arguments.Request.TheVariants.{Replay}
-use Rattle.tracer_cli.specs.declared.cause.Cause.TheVariants.{TooMany}
+use Rattle.trace_script.specs.declared.cause.Cause.TheVariants.{TooMany}
 use Rattle.tracer_cli.specs.declared.failure.Failure.{Failure}
 use Rattle.tracer_cli.specs.declared.failure.Failure.TheVariants.{Refused, Usage, NoText, CannotWrite}
-use Rattle.tracer_cli.specs.File.{content_of, most_bytes}
+use Rattle.trace_script.specs.Reading.{most_bytes}
+use Rattle.tracer_cli.specs.File.{content_of}
 use Rattle.tracer_cli.specs.Replay.{replay_of, text_from}
 use Rattle.tracer_cli.specs.Run.{Answers, IsReadOf, IsUnwritten, Replays}
 

@@ -2,10 +2,10 @@
 use Rattle.std.specs.Prelude.{◌++◌, ℕ, List, codes, string_bytes}
 use Rattle.std.specs.declared.io.ErrorKind.{ErrorKind}
 use Rattle.std.specs.declared.io.ErrorKind.TheVariants.{OutOfMemory}
-use Rattle.tracer_cli.specs.declared.cause.Cause.{Cause}
-use Rattle.tracer_cli.specs.declared.cause.Cause.TheVariants as cause
-use Rattle.tracer_cli.specs.declared.cause.CaseError.{CaseError}
-use Rattle.tracer_cli.specs.CaseError.{case_error_text}
+use Rattle.trace_script.specs.declared.cause.Cause.{Cause}
+use Rattle.trace_script.specs.declared.cause.Cause.TheVariants as cause
+use Rattle.trace_script.specs.declared.cause.CaseError.{CaseError}
+use Rattle.trace_script.specs.CaseError.{case_error_text}
 use Rattle.tracer_cli.specs.declared.failure.Failure.{Failure}
 use Rattle.tracer_cli.specs.declared.failure.Failure.TheVariants.{Refused, Usage, NoText, NoMemory, CannotRead}
 use Rattle.tracer_cli.specs.declared.failure.Failure.TheVariants.{CannotWrite}

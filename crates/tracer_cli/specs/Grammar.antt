@@ -7,13 +7,14 @@ use Rattle.trace_record.specs.declared.stop.Stop.TheVariants as stop
 use Rattle.trace_record.specs.declared.resume.Kind.{Kind}
 use Rattle.trace_record.specs.declared.death.Death.{Death}
 use Rattle.trace_record.specs.declared.death.Death.TheVariants as death
-use Rattle.stop_history.specs.declared.limits.TheConstants.{LAST_ID, TRACERS}
+use Rattle.stop_history.specs.declared.limits.TheConstants.{TRACERS}
 use Rattle.text_lines.specs.declared.fault.LineFault.{LineFault}
 use Rattle.text_lines.specs.declared.fault.LineFault.TheVariants.{UnknownWord}
 use Rattle.text_lines.specs.Keywords.{value_beside}
 use Rattle.text_lines.specs.Lines.{nth_word}
 use Rattle.text_lines.specs.Ranges.{◌>>=◌, number_between}
 use Rattle.trace_options.specs.declared.signal.TheConstants.{LAST_SIGNAL}
+use Rattle.trace_script.specs.RowWords.{id_of, row_of_words}
 use Rattle.tracer_cli.specs.declared.command.Command.TheVariants as command
 use Rattle.tracer_cli.specs.declared.grammar.Line.{Line}
 use Rattle.tracer_cli.specs.declared.grammar.Line.TheVariants as line
@@ -27,10 +28,6 @@ use Rattle.tracer_cli.specs.Command.{IsCommand}
 use Rattle.tracer_cli.specs.declared.grammar.TheConstants.{ENDINGS, KEYWORDS, KINDS, NUMBERED_STOPS, PLAIN_STOPS}
 
 -- ---- numbers in range
-
--- an id of a thread, a thread group or a process group
-abbrev pub id_of : List ℕ → Result ℕ LineFault
-id_of word = number_between 1 LAST_ID word
 
 -- one of the board's tracers
 abbrev pub tracer_of : List ℕ → Result ℕ LineFault
@@ -73,11 +70,8 @@ death_of ending.Killed number = number_between 1 LAST_SIGNAL number >>= λ n. Ok
 -- row TID TGID PGID PARENT
 abbrev pub row_line : (tid tgid pgid parent : List ℕ) → Result Line LineFault
 row_line tid tgid pgid parent = do
-  t ← id_of tid
-  g ← id_of tgid
-  p ← id_of pgid
-  q ← number_between 0 LAST_ID parent
-  Ok (line.Row (record { tid = t; tgid = g; pgid = p; parent = q }))
+  row ← row_of_words tid tgid pgid parent
+  Ok (line.Row row)
 
 -- publish TID STOP, where STOP is one word
 abbrev pub publish_plain : (tid name : List ℕ) → Result Line LineFault

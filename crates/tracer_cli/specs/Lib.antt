@@ -1,6 +1,4 @@
 pub mod Arguments
-pub mod CaseError
-pub mod Cause
 pub mod Command
 pub mod Failure
 pub mod File

@@ -1,6 +1,6 @@
 -- The text of a replay file: the replies to its commands from the empty history on, or the file's first fault.
 use Rattle.std.specs.Prelude.{[], ℕ, List, Result, Ok, Err}
-use Rattle.tracer_cli.specs.declared.cause.CaseError.{CaseError}
+use Rattle.trace_script.specs.declared.cause.CaseError.{CaseError}
 use Rattle.tracer_cli.specs.File.{ReplayContent, content_of}
 use Rattle.tracer_cli.specs.Replies.{replies}
 

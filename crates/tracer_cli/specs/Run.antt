@@ -8,7 +8,7 @@ use Rattle.tracer_cli.specs.declared.failure.Failure.{Failure}
 use Rattle.tracer_cli.specs.declared.failure.Failure.TheVariants.{Refused, Usage, NoText, NoMemory, CannotRead}
 use Rattle.tracer_cli.specs.declared.failure.Failure.TheVariants.{CannotWrite}
 use Rattle.tracer_cli.specs.Failure.{failure_status}
-use Rattle.tracer_cli.specs.File.{most_bytes}
+use Rattle.trace_script.specs.Reading.{most_bytes}
 use Rattle.tracer_cli.specs.Replay.{replay_of}
 
 -- what is read where a reader's bytes are known: one byte more than a file may have, or all

@@ -1,7 +1,10 @@
 -- A content as a file: one line for each row, then one for each order. Numbers are decimal, one space is between
 -- words, and a line feed ends each line.
 use Rattle.std.specs.Prelude.{◌≡◌, ◌<◌, ◌≤◌, ◌++◌, ◌∷◌, [], ℕ, false, IsTrue, List, length, codes, decimal}
-use Rattle.std.specs.List.{All, join_with_byte}
+use Rattle.std.specs.List.{All}
+use Rattle.text_lines.specs.Lines.{line_text}
+use Rattle.trace_script.specs.Reading.{most_bytes}
+use Rattle.trace_script.specs.RowWords.{spelled_row}
 use Rattle.trace_record.specs.declared.stop.Stop.{Stop}
 use Rattle.trace_record.specs.declared.stop.Stop.TheVariants as stop
 use Rattle.trace_record.specs.declared.resume.Kind.{Kind}
@@ -15,12 +18,12 @@ use Rattle.tracer_cli.specs.declared.command.Command.{Command}
 use Rattle.tracer_cli.specs.declared.command.Command.TheVariants as command
 use Rattle.tracer_cli.specs.declared.order.Order.{Order}
 use Rattle.tracer_cli.specs.Command.{IsCommand}
-use Rattle.tracer_cli.specs.File.{ReplayContent, most_bytes}
+use Rattle.tracer_cli.specs.File.{ReplayContent}
 
 -- ---- words
 
 abbrev pub row_words : Row → List (List ℕ)
-row_words row = codes "row" ∷ decimal row.tid ∷ decimal row.tgid ∷ decimal row.pgid ∷ decimal row.parent ∷ []
+row_words row = codes "row" ∷ spelled_row row
 
 abbrev pub stop_words : Stop → List (List ℕ)
 stop_words stop.Start = codes "start" ∷ []
@@ -54,10 +57,6 @@ abbrev pub order_words : List Row → Order → List (List ℕ)
 order_words rows order = command_words (row_at rows order.row).tid order.command
 
 -- ---- lines
-
--- words as a line
-abbrev pub line_text : List (List ℕ) → List ℕ
-line_text words = join_with_byte 32 words ++ 10 ∷ []
 
 abbrev pub rows_text : List Row → List ℕ
 rows_text [] = []

@@ -9,12 +9,12 @@ ghost use Rattle.tracer_cli.specs.Run.{Answers, Ends, EndsWith, IsReadFailure, I
 
 use crate::arguments::{Request, read_arguments};
 use crate::failure::{Failure, arguments_failure, read_failure};
-use crate::reading::MOST_BYTES;
 use crate::replay::replay_text;
 use std::alloc::{AllocError, Global};
 use std::fs;
 use std::io::{self, Read, Write};
 use std::rt::Files;
+use trace_script::MOST_BYTES;
 
 /// Runs the program as a process does: on the words of its command line. Where these could not be read, it
 /// reports why. Returns the exit status, as `program` does; 2 also where an argument is not valid UTF-8.

@@ -4,10 +4,10 @@ ghost use Rattle.std.specs.Prelude.{◌≡◌};
 ghost use Rattle.std.specs.IoError.{error_kind};
 ghost use Rattle.tracer_cli.specs.Failure.{failure_at};
 
-use crate::cause::{CaseError, Cause};
 use std::alloc::{AllocError, AllocFailed};
 use std::fmt;
 use std::io::{self, ErrorKind, Write};
+use trace_script::{CaseError, Cause};
 
 /// Why the program did not do what it was asked for.
 #[derive(Debug, Drop)]

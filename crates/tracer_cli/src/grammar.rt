@@ -4,16 +4,17 @@ ghost use Rattle.std.specs.Prelude.{◌≡◌, map, IfOk};
 ghost use Rattle.trace_record.specs.Death.{IsDeath};
 ghost use Rattle.trace_record.specs.Stop.{IsStop};
 ghost use Rattle.text_lines.specs.Lines.{words_in};
-ghost use Rattle.tracer_cli.specs.Grammar.{IsLine, claim_line, death_of, exit_line, id_of, in_place, line_of};
+ghost use Rattle.tracer_cli.specs.Grammar.{IsLine, claim_line, death_of, exit_line, in_place, line_of};
 ghost use Rattle.tracer_cli.specs.Grammar.{publish_line, publish_numbered, publish_plain, rest_of, resume_line};
 ghost use Rattle.tracer_cli.specs.Grammar.{row_line};
 ghost use Rattle.tracer_cli.specs.Grammar.{state_line, stop_of, tracer_of};
 
 use crate::command::Command;
-use stop_board::{LAST_ID, Row, TRACERS};
+use stop_board::{Row, TRACERS};
 use text_lines::{LineFault, first_words, keyword, number_between};
 use trace_options::LAST_SIGNAL;
 use trace_record::{Death, Kind, Resume, Stop};
+use trace_script::{id, row_of_words};
 
 /// What a line says.
 #[derive(Clone, Copy, Debug, PartialEq, Eq)]
@@ -169,16 +170,7 @@ fn row_line(tid: &[u8], tgid: &[u8], pgid: &[u8], parent: &[u8]) -> Result<Line,
     ensures line { result ≡ row_line tid.now tgid.now pgid.now parent.now }
     ensures range { IfOk result IsLine }
 {
-    let tid = id(tid)?;
-    let tgid = id(tgid)?;
-    let pgid = id(pgid)?;
-    let parent = number_between(0, u64::from(LAST_ID), parent)? as u32;
-    Ok(Line::Row(Row {
-        tid,
-        tgid,
-        pgid,
-        parent,
-    }))
+    Ok(Line::Row(row_of_words(tid, tgid, pgid, parent)?))
 }
 
 #[tactic(auto, using(crate::proofs::Tables::plain_range))]
@@ -268,13 +260,6 @@ fn death_of(how: Ending, number: &[u8]) -> Result<Death, LineFault>
             })
         }
     }
-}
-
-/// An id.
-fn id(word: &[u8]) -> Result<u32, LineFault>
-    ensures { result ≡ id_of word.now }
-{
-    Ok(number_between(1, u64::from(LAST_ID), word)? as u32)
 }
 
 /// The number of one of the board's tracers.

@@ -2,7 +2,6 @@
 #![tactic(auto)]
 
 mod arguments;
-mod cause;
 mod command;
 mod entry;
 mod failure;
@@ -13,8 +12,8 @@ mod reading;
 mod replay;
 mod replies;
 
-pub use cause::{CaseError, Cause};
 pub use entry::{process, program};
 pub use failure::Failure;
 pub use laws::what_is_spelled_is_read;
 pub use replay::replay_text;
+pub use trace_script::{CaseError, Cause};

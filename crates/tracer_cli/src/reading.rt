@@ -2,24 +2,20 @@
 
 ghost use Rattle.std.specs.Prelude.{◌≡◌, ◌≤◌, All, IfErr, IfOk, List, Ok, length};
 ghost use Rattle.tracer_cli.specs.declared.order.Order.{Order};
-ghost use Rattle.tracer_cli.specs.Cause.{cause_of};
 ghost use Rattle.tracer_cli.specs.Command.{IsCommand, IsOrder};
-ghost use Rattle.tracer_cli.specs.File.{Refuses, TakesLine, content_after, content_of, line_read, most_bytes};
-ghost use Rattle.tracer_cli.specs.File.{nothing, order_added, row_added};
+ghost use Rattle.trace_script.specs.Reading.{Refuses, TakesLine, most_bytes};
+ghost use Rattle.tracer_cli.specs.File.{content_after, content_of, line_read, nothing, order_added, row_added};
 ghost use Rattle.text_lines.specs.Lines.{lines_of};
 ghost use Rattle.stop_history.specs.declared.roster.Row.{Row};
 ghost use Rattle.stop_history.specs.Roster.{push_fault, row_of};
 
-use crate::cause::{CaseError, Cause};
 use crate::command::Command;
 use crate::grammar::{Line, read_line};
 use crate::order::Order;
 use std::alloc::Allocator;
-use stop_board::{Roster, RosterError, Row};
+use stop_board::{Roster, Row};
 use text_lines::cut_line;
-
-/// How many bytes a file has at most.
-pub const MOST_BYTES: usize = 16_777_216;
+use trace_script::{CaseError, Cause, MOST_BYTES};
 
 /// The shortest line that is a command.
 const SHORTEST: usize = b"state 1\n".len();
@@ -61,10 +57,7 @@ fn take_row<A: Allocator>(rows: &mut Roster<A>, row: Row) -> Result<(), Cause>
     ensures { (orders : List Order) → TakesLine result (record { rows = rows.new; orders = orders })
         (row_added (record { rows = rows.old; orders = orders }) row (push_fault rows.old row)) }
 {
-    match rows.push(row) {
-        Ok(()) => Ok(()),
-        Err(fault) => Err(cause_of(fault)),
-    }
+    Ok(rows.push(row)?)
 }
 
 /// The row of a thread id. A guess is the row that was last found for a thread id of the same remainder: it may be
@@ -106,20 +99,6 @@ fn take_order<A: Allocator>(
         return Err(Cause::NoMemory);
     }
     Ok(())
-}
-
-/// The cause that a roster's fault is reported as.
-fn cause_of(fault: RosterError) -> Cause
-    ensures { result ≡ cause_of fault }
-{
-    match fault {
-        RosterError::TooMany => Cause::TooMany,
-        RosterError::Number(_) => Cause::BadNumber,
-        RosterError::Twice(_) => Cause::TwiceTracee,
-        RosterError::ParentLater(_) => Cause::ParentLater,
-        RosterError::GroupMismatch(_) => Cause::GroupMismatch,
-        RosterError::NoMemory => Cause::NoMemory,
-    }
 }
 
 /// What a file says, or its first fault.

@@ -1,19 +1,19 @@
 //! A replay file from bytes to bytes.
 
-ghost use Rattle.std.specs.Prelude.{◌≡◌, ◌<◌, ◌^◌, [], All, IfErr, IfOk, Ok, length, max};
+ghost use Rattle.std.specs.Prelude.{◌≡◌, [], All, IfErr, IfOk, Ok};
 ghost use Rattle.tracer_cli.specs.Command.{IsOrder};
-ghost use Rattle.tracer_cli.specs.File.{Refuses, content_of};
-ghost use Rattle.text_lines.specs.Lines.{lines_of};
+ghost use Rattle.trace_script.specs.Reading.{Refuses};
+ghost use Rattle.tracer_cli.specs.File.{content_of};
 ghost use Rattle.tracer_cli.specs.Replay.{replay_of};
 ghost use Rattle.tracer_cli.specs.Replies.{replies};
 
-use crate::cause::{CaseError, Cause};
 use crate::order::Order;
 use crate::reading::read;
 use crate::replies::write_replies;
 use std::alloc::Allocator;
 use stop_board::{NoMemory, Roster, TRACERS, World};
-use text_lines::cut_line;
+use text_lines::last_line;
+use trace_script::{CaseError, Cause};
 
 /// The longest reply is that of a leader's exit which a row of seven digits holds back.
 const LONGEST: usize = b"refused GroupAlive 4194303\n".len();
@@ -49,19 +49,4 @@ fn run<A: Allocator + Copy>(
     let mut out = String::with_capacity(alloc, orders.len().saturating_mul(LONGEST))?;
     write_replies(&mut out, roster.rows(), &mut world, orders)?;
     Ok(out.into_bytes())
-}
-
-/// The number of a file's last line, 1 of an empty file.
-fn last_line(text: &[u8]) -> u32
-    requires { length text.now < 2 ^ 32 }
-    ensures { result ≡ max 1 (length (lines_of text.now)) }
-{
-    let mut rest = text;
-    let mut count = 0u32;
-    while !rest.is_empty() {
-        let (_, after) = cut_line(rest);
-        rest = after;
-        count += 1;
-    }
-    count.max(1)
 }

@@ -11,6 +11,7 @@ ghost use Rattle.trace_script.specs.Registers.{first_regs};
 ghost use Rattle.trace_script.specs.StopTrace.{advance, context_of, next_element, next_position, opening_position};
 
 use crate::copies::{copy_image, copy_steps};
+use crate::limits::MOST_STEPS;
 use crate::look_ahead::fault_ahead;
 use crate::machine::Machine;
 use crate::next::Next;
@@ -23,9 +24,6 @@ use crate::steps_run::{Reached, run_steps};
 use std::alloc::Allocator;
 use trace_pages::NoMemory;
 use trace_record::{Death, Resume, Stop, StopRecord};
-
-/// How many steps a script has at most.
-pub const MOST_STEPS: usize = 65_536;
 
 impl<A: Allocator + Copy> Machine<A> {
     /// A machine before its first stop.

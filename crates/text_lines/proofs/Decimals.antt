@@ -10,7 +10,7 @@ use Rattle.std.specs.Str.Parse.{AllDigits, IsNumeral, digits_value, digits_value
 use Rattle.text_lines.specs.Lines.{has_letters}
 use Rattle.text_lines.specs.Numbers.{digits_after, is_hex, number_of, numeral, within_u64}
 use Rattle.text_lines.specs.Ranges.{number_between, ranged}
-use Rattle.tracer_cli.proofs.Spelled.{all_above, is_word}
+use Rattle.text_lines.proofs.Spelled.{all_above, is_word}
 
 digits_above : (ds : List ℕ) → AllDigits 10 ds → all_above ds ≡ true
 digits_above [] h = refl

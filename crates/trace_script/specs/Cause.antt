@@ -2,14 +2,15 @@
 use Rattle.std.specs.Prelude.{ℕ, List, codes}
 use Rattle.stop_history.specs.declared.roster.RosterError.{RosterError}
 use Rattle.stop_history.specs.declared.roster.RosterError.TheVariants as fault
-use Rattle.tracer_cli.specs.declared.cause.Cause.{Cause}
-use Rattle.tracer_cli.specs.declared.cause.Cause.TheVariants as cause
+use Rattle.trace_script.specs.declared.cause.Cause.{Cause}
+use Rattle.trace_script.specs.declared.cause.Cause.TheVariants as cause
 use Rattle.text_lines.specs.declared.fault.LineFault.{LineFault}
 use Rattle.text_lines.specs.declared.fault.LineFault.TheVariants as line_fault
 
 abbrev pub line_cause : LineFault → Cause
 line_cause line_fault.UnknownWord = cause.UnknownWord
 line_cause line_fault.BadNumber = cause.BadNumber
+line_cause line_fault.BadHex = cause.BadHex
 
 abbrev pub cause_of : RosterError → Cause
 cause_of fault.TooMany = cause.TooMany

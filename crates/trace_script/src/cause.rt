@@ -3,6 +3,7 @@
 ghost use Rattle.std.specs.Prelude.{◌≡◌};
 
 use std::fmt;
+use stop_board::RosterError;
 use text_lines::LineFault;
 
 /// What is wrong with a line, in the order in which a line is tested.
@@ -40,7 +41,7 @@ pub enum Cause {
 
 /// The cause that a fault of a line is reported as.
 impl From<LineFault> for Cause {
-    ghost use Rattle.tracer_cli.specs.Cause.{line_cause};
+    ghost use Rattle.trace_script.specs.Cause.{line_cause};
 
     ghost from_gives = { λ fault e. e ≡ line_cause fault };
 
@@ -48,12 +49,31 @@ impl From<LineFault> for Cause {
         match fault {
             LineFault::UnknownWord => Cause::UnknownWord,
             LineFault::BadNumber => Cause::BadNumber,
+            LineFault::BadHex => Cause::BadHex,
+        }
+    }
+}
+
+/// The cause that a fault of a roster is reported as.
+impl From<RosterError> for Cause {
+    ghost use Rattle.trace_script.specs.Cause.{cause_of};
+
+    ghost from_gives = { λ fault e. e ≡ cause_of fault };
+
+    fn from(fault: RosterError) -> Cause {
+        match fault {
+            RosterError::TooMany => Cause::TooMany,
+            RosterError::Number(_) => Cause::BadNumber,
+            RosterError::Twice(_) => Cause::TwiceTracee,
+            RosterError::ParentLater(_) => Cause::ParentLater,
+            RosterError::GroupMismatch(_) => Cause::GroupMismatch,
+            RosterError::NoMemory => Cause::NoMemory,
         }
     }
 }
 
 impl Cause {
-    ghost use Rattle.tracer_cli.specs.Cause.{cause_name};
+    ghost use Rattle.trace_script.specs.Cause.{cause_name};
 
     /// The cause's name, as it is printed.
     pub fn name(self) -> &'static str
@@ -80,7 +100,7 @@ impl Cause {
 
 impl fmt::Display for Cause {
     ghost use Rattle.std.specs.Prelude.{Some};
-    ghost use Rattle.tracer_cli.specs.Cause.{cause_name};
+    ghost use Rattle.trace_script.specs.Cause.{cause_name};
 
     ghost output = { λ cause. Some (cause_name cause) };
 
@@ -98,7 +118,7 @@ pub struct CaseError {
 
 impl fmt::Display for CaseError {
     ghost use Rattle.std.specs.Prelude.{Some};
-    ghost use Rattle.tracer_cli.specs.CaseError.{case_error_text};
+    ghost use Rattle.trace_script.specs.CaseError.{case_error_text};
 
     ghost output = { λ error. Some (case_error_text error) };
 

@@ -1,11 +1,11 @@
 -- Words, joined by spaces and ended by a line feed, are cut again where they were joined.
 use Rattle.std.proofs.Common.{refl, ◌≡◌, ◌<◌, ◌≤◌, ◌++◌, ◌∷◌, [], ℕ, Bool, true, false, ◌&&◌, nat_lt, List, filter}
-use Rattle.std.proofs.Common.{arith, eqb, ne_eqb, ltb-true, ap, ◌∙◌, lit≤}
+use Rattle.std.proofs.Common.{arith, eqb, ne_eqb, ltb-true, append_assoc, ap, ◌∙◌, lit≤}
 use Rattle.std.proofs.lemmas.Bool.{and_parts}
 use Rattle.std.proofs.lemmas.List.Elements.{All-nil, All-cons, All-append}
 use Rattle.std.proofs.lemmas.List.Splits.{slice_split_at, slice_split_none, length-slice_split}
 use Rattle.std.specs.List.{All, join_with_byte, slice_split}
-use Rattle.text_lines.specs.Lines.{has_letters, lines_of, without_empty_end, words_in}
+use Rattle.text_lines.specs.Lines.{has_letters, line_text, lines_of, without_empty_end, words_in}
 use Rattle.text_lines.proofs.Cuts.{keeps_first}
 
 -- above the line feed and the space
@@ -64,3 +64,10 @@ words_joined (word ∷ next ∷ words) h =
     refl)
     ∙ kept word (slice_split (λ b. eqb b 32) (join_with_byte 32 (next ∷ words))) parts.0
     ∙ ap (λ ws. word ∷ ws) (words_joined (next ∷ words) h.1)
+
+-- words as a line are the first line
+pub line_spelled : (words : List (List ℕ)) (rest : List ℕ) → AreWords words
+    → lines_of (line_text words ++ rest) ≡ join_with_byte 32 words ∷ lines_of rest
+line_spelled words rest are =
+    ap lines_of (append_assoc (join_with_byte 32 words) (10 ∷ []) rest)
+    ∙ line_ended (join_with_byte 32 words) rest (words_in_line words are)

@@ -1,7 +1,7 @@
 -- The lines that are left are counted.
 use Rattle.std.proofs.Common.{◌≡◌, ◌+◌, ◌≤◌, length}
 use Rattle.text_lines.specs.Lines.{lines_of}
-use Rattle.tracer_cli.proofs.replay.last_line.Given as goal
+use Rattle.text_lines.proofs.lines.last_line.Given as goal
 
 -- the lines so far and those left are all lines
 abbrev pub invariant-loop-rest : goal.invariant-loop-rest

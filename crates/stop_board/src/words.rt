@@ -4,13 +4,12 @@
 ghost use Rattle.std.specs.Prelude.{◌≡◌, ◌+◌, ◌<◌, ◌≤◌, ℕ, true, length, IfOk, IsSome, replicate};
 ghost use Rattle.stop_history.specs.Roster.{IsRoster, parent_of};
 ghost use Rattle.stop_history.specs.declared.limits.TheConstants.{MOST_ROWS};
-ghost use Rattle.stop_history.specs.History.{creates_next, holding_back, holds_back, is_next_child};
+ghost use Rattle.stop_history.specs.History.{creates_next, holding_back, holds_back};
 ghost use Rattle.stop_history.specs.State.{is_alive};
 ghost use Rattle.stop_history.specs.Sequential.{claim_by, claim_state, exit_by, next_number, publish_by, resume_by};
 ghost use Rattle.stop_history.specs.Sequential.{resume_state, running_by, unless_held};
 ghost use Rattle.stop_history.specs.Word.{shows_created, opening, state_by, word_at};
 ghost use Rattle.stop_history.specs.Step.{claimed, died, published, restarted, with_word};
-ghost use Rattle.std.specs.Option.{ForSome};
 ghost use Rattle.trace_record.specs.Stop.{IsStop, child_of};
 ghost use Rattle.trace_record.specs.Death.{IsDeath};
 ghost use Rattle.trace_record.specs.Resume.{IsResume};
@@ -18,7 +17,7 @@ ghost use Rattle.trace_record.specs.Resume.{IsResume};
 use std::alloc::Allocator;
 use stop_history::{
     Got, LAST_NUMBER, NoMemory, Phase, Refused, Row, State, TRACERS, Word, claimed, died,
-    is_leader, parent_place, place_of, published, rank, restarted,
+    is_leader, is_next_child, parent_place, place_of, published, rank, restarted,
 };
 use trace_record::{Death, Resume, Stop};
 
@@ -81,21 +80,7 @@ fn creates_next(rows: &[Row], at: usize, births: u8, stop: Stop) -> bool
 {
     match stop.child() {
         None => true,
-        Some(tid) => is_next_child(rows, at, births, place_of(rows, tid)),
-    }
-}
-
-/// Whether the row at a place, if there is one, is the next child of a parent that has this many.
-fn is_next_child(rows: &[Row], at: usize, births: u8, child: Option<usize>) -> bool
-    requires row { at < length rows.now }
-    requires child { ForSome child (λ i. i < length rows.now) }
-    ensures { result ≡ is_next_child rows.now at births child }
-{
-    match child {
-        None => false,
-        Some(child) => {
-            rows[child].parent == rows[at].tid && rank(rows, child) == usize::from(births)
-        }
+        Some(tid) => is_next_child(rows, at, usize::from(births), place_of(rows, tid)),
     }
 }
 

@@ -9,7 +9,7 @@ ghost use Rattle.std.specs.Prelude.{◌≡◌, ◌<◌, ◌++◌, ◌∷◌, [],
 mod families;
 mod faults;
 
-pub use families::{is_leader, parent_place, place_of, rank};
+pub use families::{is_leader, is_next_child, parent_place, place_of, rank};
 pub use faults::fault_after;
 use faults::{fault_of, push_fault};
 use std::alloc::{AllocError, AllocFailed, Allocator, Global};

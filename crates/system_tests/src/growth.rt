@@ -4,4 +4,5 @@
 mod board;
 mod memory;
 mod replay;
+mod script;
 mod world;

@@ -13,6 +13,8 @@ mod families;
 #[cfg(test)]
 mod growth;
 #[cfg(test)]
+mod machine;
+#[cfg(test)]
 mod memory;
 #[cfg(test)]
 mod one_thread;

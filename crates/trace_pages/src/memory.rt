@@ -133,6 +133,14 @@ impl<A: Allocator> Memory<A> {
         Ok(())
     }
 
+    /// Gives room back that is kept for further pages. No byte changes.
+    pub fn shrink_to_fit(&mut self)
+        ensures { self.new ≡ self.old }
+    {
+        self.pages.shrink_to_fit();
+        self.bytes.shrink_to_fit();
+    }
+
     /// Whether there are as many pages as there can be.
     fn is_full(&self) -> bool
         ensures { result ≡ nat_le (MOST_PAGES * PAGE_SIZE) (finite.len self.now) }

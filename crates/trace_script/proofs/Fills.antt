@@ -41,12 +41,12 @@ mapped_steps s m [] mapped = tt
 mapped_steps s m (step.Call nr arguments answer None ∷ steps) mapped = mapped_steps s m steps mapped.1
 mapped_steps s m (step.Call nr arguments answer (Some fill) ∷ steps) mapped =
     (mapped.0, mapped_steps s m steps mapped.1)
-mapped_steps s m (step.Fork child ∷ steps) mapped = mapped_steps s m steps mapped
-mapped_steps s m (step.Thread child ∷ steps) mapped = mapped_steps s m steps mapped
-mapped_steps s m (step.Exec path image ∷ steps) mapped = mapped_steps s image.memory steps mapped
-mapped_steps s m (step.Signal signal true ∷ steps) mapped = mapped_steps s m steps mapped
-mapped_steps s m (step.Signal signal false ∷ steps) mapped = mapped_steps s m steps mapped
-mapped_steps s m (step.Exit status ∷ steps) mapped = mapped_steps s m steps mapped
+mapped_steps s m (step.Fork child ∷ steps) mapped = mapped_steps s m steps mapped.1
+mapped_steps s m (step.Thread child ∷ steps) mapped = mapped_steps s m steps mapped.1
+mapped_steps s m (step.Exec path image ∷ steps) mapped = mapped_steps s image.memory steps mapped.1
+mapped_steps s m (step.Signal signal true ∷ steps) mapped = mapped_steps s m steps mapped.1
+mapped_steps s m (step.Signal signal false ∷ steps) mapped = mapped_steps s m steps mapped.1
+mapped_steps s m (step.Exit status ∷ steps) mapped = mapped_steps s m steps mapped.1
 
 mapped_script : (s : Setting) (m : FlatMemory) (script : Script) → HasMappedFills script
     → AreStoresMapped m (acts_of_script s script)

@@ -11,12 +11,17 @@ abbrev pub IsFillMapped : FlatMemory → Option Fill → Type 0
 IsFillMapped memory None = Unit {0}
 IsFillMapped memory (Some fill) = run_end memory fill.address (length fill.bytes) ≡ Full
 
+abbrev pub IsMappedIn : FlatMemory → Step → Type 0
+IsMappedIn memory (step.Call nr arguments answer fill) = IsFillMapped memory fill
+IsMappedIn memory other = Unit {0}
+
+abbrev pub memory_after : FlatMemory → Step → FlatMemory
+memory_after memory (step.Exec path image) = image.memory
+memory_after memory other = memory
+
 abbrev pub AreFillsMapped : FlatMemory → List Step → Type 0
 AreFillsMapped memory [] = Unit {0}
-AreFillsMapped memory (step.Call nr arguments answer fill ∷ steps) =
-    IsFillMapped memory fill × AreFillsMapped memory steps
-AreFillsMapped memory (step.Exec path image ∷ steps) = AreFillsMapped image.memory steps
-AreFillsMapped memory (other ∷ steps) = AreFillsMapped memory steps
+AreFillsMapped memory (step ∷ steps) = IsMappedIn memory step × AreFillsMapped (memory_after memory step) steps
 
 abbrev pub HasMappedFills : Script → Type 0
 HasMappedFills script = AreFillsMapped script.image.memory script.steps

@@ -2,6 +2,7 @@
 #![tactic(auto)]
 
 mod calls;
+mod case;
 mod cause;
 mod copies;
 mod found;
@@ -15,11 +16,13 @@ mod registers;
 mod row_words;
 mod script;
 mod setting;
+mod signals;
 mod stage;
 mod step_run;
 mod steps_run;
 
 pub use calls::{CLONE, CLONE_THREAD_FLAGS, EXECVE, EXIT, FORK};
+pub use case::Case;
 pub use cause::{CaseError, Cause};
 pub use laws::{
     mapped_fills_never_fault, runs_are_traces, steps_are_known_calls, stops_are_in_range,
@@ -31,3 +34,4 @@ pub use next::Next;
 pub use row_words::{id, row_of_words};
 pub use script::{Call, Fill, Image, Script, Step};
 pub use setting::Setting;
+pub use signals::{LAST_STANDARD, can_arrive};

@@ -1,6 +1,8 @@
 //! What the rows of a roster are to each other: a row's parent, its rank among its parent's rows, its group's leader.
 
+ghost use Rattle.std.specs.Option.{ForSome};
 ghost use Rattle.std.specs.Prelude.{◌≡◌, ◌<◌, IfSome, length};
+ghost use Rattle.stop_history.specs.History.{is_next_child};
 ghost use Rattle.stop_history.specs.Roster.{is_leader, is_root, parent_of, rank_of, row_of};
 
 use super::Row;
@@ -47,4 +49,18 @@ pub fn rank(rows: &[Row], at: usize) -> usize
 {
     let parent = rows[at].parent;
     rows[..at].iter().filter(|q| q.parent == parent).count()
+}
+
+/// Whether the row at a place, if there is one, is the next child of a parent that has this many.
+pub fn is_next_child(rows: &[Row], parent: usize, births: usize, child: Option<usize>) -> bool
+    requires parent { parent < length rows.now }
+    requires child { ForSome child (λ i. i < length rows.now) }
+    ensures { result ≡ is_next_child rows.now parent births child }
+{
+    match child {
+        None => false,
+        Some(child) => {
+            rows[child].parent == rows[parent].tid && rank(rows, child) == births
+        }
+    }
 }

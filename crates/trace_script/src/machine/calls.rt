@@ -1,15 +1,19 @@
 //! What a machine does.
 
-ghost use Rattle.std.specs.Prelude.{◌≡◌, ◌≤◌, drop, length, IfOk, OnErr};
+ghost use Rattle.std.specs.Prelude.{◌≡◌, ◌<◌, ◌≤◌, drop, length, IfOk, OnErr};
+ghost use Rattle.stop_history.specs.Roster.{row_at};
+ghost use Rattle.trace_options.specs.Options.{IsTaken, option_bits};
 ghost use Rattle.trace_record.specs.Content.{content_by};
 ghost use Rattle.trace_record.specs.declared.stop.Stop.TheVariants as stop;
 ghost use Rattle.trace_script.specs.Arrivals.{went_on};
+ghost use Rattle.trace_script.specs.CaseFile.{script_at};
 ghost use Rattle.trace_script.specs.Kept.{script_of};
 ghost use Rattle.trace_script.specs.Left.{left_in};
 ghost use Rattle.trace_script.specs.Machine.{IsAnswer};
 ghost use Rattle.trace_script.specs.Registers.{first_regs};
 ghost use Rattle.trace_script.specs.StopTrace.{advance, context_of, next_element, next_position, opening_position};
 
+use crate::case::Case;
 use crate::copies::{copy_image, copy_steps};
 use crate::limits::MOST_STEPS;
 use crate::look_ahead::fault_ahead;
@@ -22,16 +26,36 @@ use crate::setting::Setting;
 use crate::stage::Stage;
 use crate::steps_run::{Reached, run_steps};
 use std::alloc::Allocator;
+use trace_options::{Filter, Options};
 use trace_pages::NoMemory;
 use trace_record::{Death, Resume, Stop, StopRecord};
 
 impl<A: Allocator + Copy> Machine<A> {
-    /// A machine before its first stop.
-    pub(crate) fn of_script(
+    /// The machine of a row of a case, before its first stop. The options are ones that a tracer takes (`check`). It
+    /// copies the row's script.
+    pub fn new(
         alloc: A,
-        setting: Setting,
-        script: &Script<A>,
+        case: &Case<A>,
+        row: u32,
+        options: Options,
+        filter: &Filter,
     ) -> Result<Machine<A>, NoMemory>
+        requires row { row < length case.now.rows }
+        requires options { IsTaken (option_bits options) }
+        ensures { IfOk result (λ machine. machine ≡ opening_position
+            (record { tid = (row_at case.now.rows row).tid; options = options; filter = filter.now })
+            (script_at case.now.scripts row)) }
+    {
+        let setting = Setting {
+            tid: case.roster().row(row).tid,
+            options,
+            filter: *filter,
+        };
+        Machine::of_script(alloc, setting, case.script(row))
+    }
+
+    /// The machine of a script, before its first stop.
+    fn of_script(alloc: A, setting: Setting, script: &Script<A>) -> Result<Machine<A>, NoMemory>
         requires { length script.now.steps.items ≤ MOST_STEPS }
         ensures { IfOk result (λ machine. machine ≡ opening_position setting (script_of script.now)) }
     {

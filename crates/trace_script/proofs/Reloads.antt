@@ -1,0 +1,96 @@
+-- What a new part of an image leaves of the steps: the last one may be an exec of another image, and nothing else is
+-- changed.
+use Rattle.std.proofs.Common.{refl, ◌≡◌, ◌++◌, ◌∷◌, [], ℕ, Bool, true, false, List, length, ap, cond, eqb, IfOk}
+use Rattle.std.proofs.Common.{OnOk, Result, Ok, Err, sym, ◌∙◌}
+use Rattle.text_lines.specs.Ranges.{◌>>=◌}
+use Rattle.trace_script.specs.declared.case.block.Block.{Block}
+use Rattle.trace_script.specs.declared.cause.Cause.{Cause}
+use Rattle.trace_script.specs.declared.script.Script.{Script as KeptScript}
+use Rattle.trace_script.specs.CaseFile.{born_by, children_of, part_loaded, part_of_last, part_of_script, part_of_step}
+use Rattle.trace_script.specs.CaseLine.{Part}
+use Rattle.trace_script.specs.Kept.{script_of}
+use Rattle.trace_script.specs.OpenBlock.{IsCounted, first_exec, last_exec, or_first}
+use Rattle.trace_script.specs.Reading.{TakesLine}
+use Rattle.trace_script.specs.Script.{Image, Script, Step}
+use Rattle.trace_script.specs.Script as step
+
+-- what holds of a value where there is one, made of another
+pub if_ok : {A B : Type 0} (P : A → Type 0) (Q : B → Type 0) (f : A → B) (r : Result A Cause) → IfOk r P
+    → ((x : A) → P x → Q (f x)) → IfOk (r >>= λ x. Ok (f x)) Q
+if_ok P Q f (Ok x) is more = more x is
+if_ok P Q f (Err cause) is more = tt
+
+pub data Reloaded : Step → Step → Type 0 where
+  unchanged : (s : Step) → Reloaded s s
+  exec : (path : ℕ) → (image new : Image) → Reloaded (step.Exec path image) (step.Exec path new)
+
+any_image : (read : Result Image Cause) → IfOk read (λ image. Unit {0})
+any_image (Ok image) = tt
+any_image (Err cause) = tt
+
+reloaded : (s : Step) (part : Part) → IfOk (part_of_step s part) (Reloaded s)
+reloaded (step.Exec path image) part =
+    if_ok (λ new. Unit {0}) (Reloaded (step.Exec path image)) (step.Exec path) (part_loaded image part)
+    (any_image (part_loaded image part)) (λ new h. Reloaded.exec path image new)
+reloaded (step.Call nr arguments answer fill) part = Reloaded.unchanged (step.Call nr arguments answer fill)
+reloaded (step.Fork child) part = Reloaded.unchanged (step.Fork child)
+reloaded (step.Thread child) part = Reloaded.unchanged (step.Thread child)
+reloaded (step.Signal signal deadly) part = Reloaded.unchanged (step.Signal signal deadly)
+reloaded (step.Exit status) part = Reloaded.unchanged (step.Exit status)
+
+-- what holds of steps and of the steps after a part was loaded
+module _ (P : List Step → List Step → Type 0) where
+  pub last_reloaded : P [] [] → ((s t : Step) → Reloaded s t → P (s ∷ []) (t ∷ []))
+      → ((s next : Step) (steps new : List Step) → P (next ∷ steps) new → P (s ∷ next ∷ steps) (s ∷ new))
+      → (part : Part) (steps : List Step) → IfOk (part_of_last steps part) (P steps)
+  last_reloaded none one more part [] = none
+  last_reloaded none one more part (s ∷ []) =
+      if_ok (Reloaded s) (P (s ∷ [])) (λ new. new ∷ []) (part_of_step s part) (reloaded s part) (one s)
+  last_reloaded none one more part (s ∷ next ∷ steps) =
+      if_ok (P (next ∷ steps)) (P (s ∷ next ∷ steps)) (λ new. s ∷ new) (part_of_last (next ∷ steps) part)
+      (last_reloaded none one more part (next ∷ steps)) (more s next steps)
+
+-- ---- what is counted stays
+
+abbrev SameCounts : List Step → List Step → Type 0
+SameCounts old new = (last_exec new ≡ last_exec old) × (born_by new ≡ born_by old)
+
+one_counts : (s t : Step) → Reloaded s t → SameCounts (s ∷ []) (t ∷ [])
+one_counts s t (Reloaded.unchanged _) = (refl, refl)
+one_counts s t (Reloaded.exec path image new) = (refl, refl)
+
+more_counts : (s next : Step) (steps new : List Step) → SameCounts (next ∷ steps) new
+    → SameCounts (s ∷ next ∷ steps) (s ∷ new)
+more_counts s next steps new same =
+    (ap (λ last. or_first last (first_exec s)) same.0, ap (λ (born : List ℕ). children_of s ++ born) same.1)
+
+counts_of_last : (steps : List Step) (part : Part) → IfOk (part_of_last steps part) (SameCounts steps)
+counts_of_last steps part = last_reloaded SameCounts (refl, refl) one_counts more_counts part steps
+
+abbrev SameScript : Script → Script → Type 0
+SameScript old new = SameCounts old.steps new.steps
+
+counts_by : (script : Script) (part : Part) (none : Bool)
+    → IfOk (cond none (part_loaded script.image part >>= λ image. Ok (record { image = image; steps = script.steps }))
+    (part_of_last script.steps part >>= λ steps. Ok (record { image = script.image; steps = steps }))) (SameScript script)
+counts_by script part true =
+    if_ok (λ image. Unit {0}) (SameScript script) (λ image. record { image = image; steps = script.steps })
+    (part_loaded script.image part) (any_image (part_loaded script.image part)) (λ image h. (refl, refl))
+counts_by script part false =
+    if_ok (SameCounts script.steps) (SameScript script) (λ steps. record { image = script.image; steps = steps })
+    (part_of_last script.steps part) (counts_of_last script.steps part) (λ steps h. h)
+
+counts_of_script : (script : Script) (part : Part) → IfOk (part_of_script script part) (SameScript script)
+counts_of_script script part = counts_by script part (eqb (length script.steps) 0)
+
+-- a block is counted after a part was loaded
+pub still_counted : {Z : Type 0} (result : Result (Unit {0}) Cause) (block : Block Z) (new : KeptScript Z) (part : Part)
+    → IsCounted block → TakesLine result (script_of new) (part_of_script (script_of block.script) part)
+    → OnOk result (IsCounted (record { script = new; exec = block.exec; births = block.births }))
+still_counted (Ok done) block new part counted takes =
+    let same = rw takes at (counts_of_script (script_of block.script) part) in
+    record {
+      exec = counted.exec ∙ sym same.0;
+      births = counted.births ∙ ap (λ (born : List ℕ). length born) (sym same.1);
+    }
+still_counted (Err cause) block new part counted takes = tt

@@ -1,0 +1,243 @@
+//! The block that is open while a case file is read: its script so far, and what the next step is tested against.
+
+ghost use Rattle.std.specs.Prelude.{◌≡◌, ◌<◌, ◌≤◌, ◌++◌, ◌∷◌, [], IfOk, None, OnOk, length, map, option_to_list};
+ghost use Rattle.trace_script.specs.CaseFile.{children_of, fill_fault, late_of, next_step_fault, no_script};
+ghost use Rattle.trace_script.specs.CaseFile.{place_after, step_fault};
+ghost use Rattle.trace_script.specs.CaseFile as file;
+ghost use Rattle.trace_script.specs.Kept.{fill_of, image_of, script_of, step_of};
+ghost use Rattle.trace_script.specs.OpenBlock.{IsCounted, IsSmallStep, exec_after};
+ghost use Rattle.trace_script.specs.RawLine.{IsTestedFill, IsTestedStep, call_said, fill_said, step_said};
+
+use crate::case::image::{close_image, decode, no_image};
+use crate::case::keyword::Place;
+use crate::case::late::{Late, LateStep};
+use crate::case::raw_line::{RawCall, RawFill, RawStep};
+use crate::cause::Cause;
+use crate::limits::MOST_STEPS;
+use crate::script::{Call, Fill, Image, Script, Step};
+use crate::signals::can_arrive;
+use std::alloc::Allocator;
+use trace_pages::NoMemory;
+
+/// A script so far.
+#[derive(Drop)]
+pub struct Block<A: Allocator> {
+    pub script: Script<A>,
+    /// The place of the last exec among the steps.
+    pub exec: Option<usize>,
+    /// How many of the steps create a child.
+    pub births: u32,
+}
+
+/// A block without a step, and with an empty image.
+pub fn new_block<A: Allocator + Copy>(alloc: A) -> Block<A>
+    ensures script { script_of result.script ≡ no_script }
+    ensures counted { IsCounted result }
+{
+    Block {
+        script: Script {
+            image: no_image(alloc),
+            steps: Vec::new(alloc),
+        },
+        exec: None,
+        births: 0,
+    }
+}
+
+/// Why a step cannot be the next one of a block.
+pub fn next_step_fault<A: Allocator>(block: &Block<A>, step: RawStep) -> Option<Cause>
+    requires counted { IsCounted block.now }
+    requires tested { IsTestedStep step }
+    ensures fault { result ≡ next_step_fault (script_of block.now.script) (step_said step.entry) }
+    ensures small { result ≡ None → IsSmallStep step.entry }
+{
+    if block.script.steps.len() >= MOST_STEPS {
+        return Some(Cause::TooMany);
+    }
+    step_fault(in_force(block), step)
+}
+
+/// The image in force: that of the last exec, or else the first.
+fn in_force<A: Allocator>(block: &Block<A>) -> &Image<A>
+    requires { IsCounted block.now }
+    ensures { image_of result.now
+        ≡ file.in_force (image_of block.now.script.image) (map step_of block.now.script.steps.items) }
+{
+    match block.exec {
+        None => &block.script.image,
+        Some(at) => image_in(&block.script.steps[at], &block.script.image),
+    }
+}
+
+/// The image of an exec, or else the other one.
+fn image_in<'a, A: Allocator>(step: &'a Step<A>, other: &'a Image<A>) -> &'a Image<A>
+    ensures { image_of result.now ≡ file.image_after (image_of other.now) (step_of step.now) }
+{
+    match step {
+        Step::Exec { image, .. } => image,
+        _ => other,
+    }
+}
+
+fn step_fault<A: Allocator>(image: &Image<A>, step: RawStep) -> Option<Cause>
+    requires { IsTestedStep step }
+    ensures fault { result ≡ step_fault (image_of image.now).memory (step_said step.entry) }
+    ensures small { result ≡ None → IsSmallStep step.entry }
+{
+    match step {
+        RawStep::Call(call) => fill_fault(image, call.fill),
+        RawStep::Signal(signal, _) => {
+            if can_arrive(signal) {
+                None
+            } else {
+                Some(Cause::Signal)
+            }
+        }
+        _ => None,
+    }
+}
+
+fn fill_fault<A: Allocator>(image: &Image<A>, fill: Option<RawFill>) -> Option<Cause>
+    requires { IsTestedFill fill }
+    ensures { result ≡ fill_fault (image_of image.now).memory (fill_said fill.entry) }
+{
+    match fill {
+        None => None,
+        Some(fill) => match image.memory.check_run(fill.addr, fill.bytes.len() / 2) {
+            Ok(()) => None,
+            Err(_) => Some(Cause::Unmapped),
+        },
+    }
+}
+
+/// Adds a step that has no fault to a block. The image that the lines before it described is closed.
+pub fn add_step<A: Allocator + Copy>(
+    alloc: A,
+    place: Place,
+    block: &mut Block<A>,
+    step: RawStep,
+) -> Result<(), NoMemory>
+    requires counted { IsCounted block.old }
+    requires tested { IsTestedStep step }
+    requires small { IsSmallStep step }
+    requires room { length block.old.script.steps.items < MOST_STEPS }
+    ensures steps { OnOk result (script_of block.new.script
+        ≡ record {
+          image = image_of block.old.script.image;
+          steps = map step_of block.old.script.steps.items ++ step_said step.entry ∷ [];
+        }) }
+    ensures counted { OnOk result (IsCounted block.new) }
+{
+    close_loaded(place, &mut block.script);
+    let kept = keep_step(alloc, step)?;
+    let at = block.script.steps.len();
+    block.script.steps.push(kept)?;
+    block.exec = exec_after(block.exec, at, step);
+    block.births += births_of(step);
+    Ok(())
+}
+
+/// Closes the image that the lines before this place have described.
+pub fn close_loaded<A: Allocator>(place: Place, script: &mut Script<A>)
+    ensures { script_of script.new ≡ script_of script.old }
+{
+    if place == Place::Loading {
+        close_image(script);
+    }
+}
+
+/// The place of the last exec after a step at this place.
+fn exec_after(exec: Option<usize>, at: usize, step: RawStep) -> Option<usize>
+    ensures { result ≡ exec_after exec at (step_said step.entry) }
+{
+    match step {
+        RawStep::Exec(_) => Some(at),
+        _ => exec,
+    }
+}
+
+/// How many children a step creates.
+fn births_of(step: RawStep) -> u32
+    ensures births { result ≡ length (children_of (step_said step.entry)) }
+    ensures few { result ≤ 1 }
+{
+    match step {
+        RawStep::Fork(_) => 1,
+        RawStep::Thread(_) => 1,
+        _ => 0,
+    }
+}
+
+/// Where the line after a step is.
+pub fn place_after(step: RawStep) -> Place
+    ensures { result ≡ place_after (step_said step.entry) }
+{
+    match step {
+        RawStep::Exec(_) => Place::Loading,
+        _ => Place::Stepping,
+    }
+}
+
+/// What the late tests look at in a step.
+pub fn late_of(line: u32, row: u32, births: u32, step: RawStep) -> Option<Late>
+    ensures { option_to_list result ≡ late_of line row births (step_said step.entry) }
+{
+    let step = match step {
+        RawStep::Fork(child) => LateStep::Fork(child),
+        RawStep::Thread(child) => LateStep::Thread(child),
+        RawStep::Exec(_) => LateStep::Exec,
+        _ => return None,
+    };
+    Some(Late {
+        line,
+        row,
+        births,
+        step,
+    })
+}
+
+/// The step as it is kept, its bytes decoded.
+fn keep_step<A: Allocator + Copy>(alloc: A, step: RawStep) -> Result<Step<A>, NoMemory>
+    requires { IsSmallStep step }
+    ensures { IfOk result (λ kept. step_of kept ≡ step_said step.entry) }
+{
+    match step {
+        RawStep::Call(call) => keep_call(alloc, call),
+        RawStep::Fork(child) => Ok(Step::Fork(child)),
+        RawStep::Thread(child) => Ok(Step::Thread(child)),
+        RawStep::Exec(path) => Ok(Step::Exec {
+            path,
+            image: no_image(alloc),
+        }),
+        RawStep::Signal(signal, deadly) => Ok(Step::Signal {
+            signal: signal as u8,
+            deadly,
+        }),
+        RawStep::Exit(status) => Ok(Step::Exit(status)),
+    }
+}
+
+fn keep_call<A: Allocator + Copy>(alloc: A, call: RawCall) -> Result<Step<A>, NoMemory>
+    ensures { IfOk result (λ kept. step_of kept ≡ call_said call.entry) }
+{
+    let fill = match call.fill {
+        None => None,
+        Some(fill) => Some(keep_fill(alloc, fill)?),
+    };
+    Ok(Step::Call(Call {
+        nr: call.nr,
+        args: call.args,
+        answer: call.answer,
+        fill,
+    }))
+}
+
+fn keep_fill<A: Allocator + Copy>(alloc: A, fill: RawFill) -> Result<Fill<A>, NoMemory>
+    ensures { IfOk result (λ kept. Some (fill_of kept) ≡ fill_said (Some fill.entry)) }
+{
+    let bytes = decode(alloc, fill.bytes)?;
+    Ok(Fill {
+        addr: fill.addr,
+        bytes,
+    })
+}

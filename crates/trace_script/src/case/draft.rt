@@ -1,0 +1,169 @@
+//! What was read of a case file so far.
+
+ghost use Rattle.std.specs.Prelude.{◌≡◌, ◌++◌, OnOk, option_to_list};
+ghost use Rattle.trace_script.specs.CaseFile.{line_read, nothing_read, with_line};
+ghost use Rattle.trace_script.specs.CaseLine as line;
+ghost use Rattle.trace_script.specs.Draft.{reading_of};
+ghost use Rattle.trace_script.specs.OpenBlock.{IsCounted};
+ghost use Rattle.trace_script.specs.RawLine.{IsTested, IsTestedPart, IsTestedStep, line_said, part_said, step_said};
+ghost use Rattle.trace_script.specs.Reading.{TakesLine};
+
+use crate::case::block::{
+    Block, add_step, close_loaded, late_of, new_block, next_step_fault, place_after,
+};
+use crate::case::image::load_part;
+use crate::case::keyword::Place;
+use crate::case::late::Late;
+use crate::case::line::read_line;
+use crate::case::raw_line::{RawLine, RawPart, RawStep};
+use crate::cause::Cause;
+use crate::script::Script;
+use std::alloc::Allocator;
+use std::mem;
+use stop_board::{Roster, Row};
+use trace_pages::NoMemory;
+
+/// What was read so far.
+#[derive(Drop)]
+pub struct Draft<A: Allocator> {
+    /// Where the next line is.
+    pub place: Place,
+    /// The rows of all blocks.
+    pub rows: Roster<A>,
+    /// The scripts of the blocks that are closed.
+    pub scripts: Vec<Script<A>, A>,
+    /// The block that is open.
+    pub block: Block<A>,
+    /// The steps that are tested after the last line, in the order of lines.
+    pub late: Vec<Late, A>,
+}
+
+/// A draft of nothing.
+pub fn new_draft<A: Allocator + Copy>(alloc: A) -> Draft<A>
+    ensures reading { reading_of result ≡ nothing_read }
+    ensures counted { IsCounted result.block }
+{
+    Draft {
+        place: Place::Outside,
+        rows: Roster::empty(alloc),
+        scripts: Vec::new(alloc),
+        block: new_block(alloc),
+        late: Vec::new(alloc),
+    }
+}
+
+/// Takes one more line, or returns its first fault.
+pub fn take_line<A: Allocator + Copy>(
+    alloc: A,
+    draft: &mut Draft<A>,
+    number: u32,
+    line: &[u8],
+) -> Result<(), Cause>
+    requires { IsCounted draft.old.block }
+    ensures line { TakesLine result (reading_of draft.new) (line_read number (reading_of draft.old) line.now) }
+    ensures counted { OnOk result (IsCounted draft.new.block) }
+{
+    let said = read_line(draft.place, line)?;
+    take_said(alloc, draft, number, said)
+}
+
+/// Takes what one more line says.
+fn take_said<A: Allocator + Copy>(
+    alloc: A,
+    draft: &mut Draft<A>,
+    number: u32,
+    line: RawLine,
+) -> Result<(), Cause>
+    requires counted { IsCounted draft.old.block }
+    requires tested { IsTested line }
+    ensures line { TakesLine result (reading_of draft.new)
+        (with_line number (reading_of draft.old) (line_said line.entry)) }
+    ensures counted { OnOk result (IsCounted draft.new.block) }
+{
+    match line {
+        RawLine::Nothing => Ok(()),
+        RawLine::Opens(row) => open_block(alloc, draft, row),
+        RawLine::Loads(part) => load_in_block(alloc, draft, part),
+        RawLine::Does(step) => take_step(alloc, draft, number, step),
+        RawLine::Closes => close_block(alloc, draft),
+    }
+}
+
+/// Opens the block of a row.
+fn open_block<A: Allocator + Copy>(alloc: A, draft: &mut Draft<A>, row: Row) -> Result<(), Cause>
+    ensures line { TakesLine result (reading_of draft.new) (with_line 0 (reading_of draft.old) (line.Opens row)) }
+    ensures counted { OnOk result (IsCounted draft.new.block) }
+{
+    draft.rows.push(row)?;
+    draft.place = Place::Loading;
+    draft.block = new_block(alloc);
+    Ok(())
+}
+
+/// Loads one more part of an image.
+fn load_in_block<A: Allocator + Copy>(
+    alloc: A,
+    draft: &mut Draft<A>,
+    part: RawPart,
+) -> Result<(), Cause>
+    requires counted { IsCounted draft.old.block }
+    requires tested { IsTestedPart part }
+    ensures line { TakesLine result (reading_of draft.new)
+        (with_line 0 (reading_of draft.old) (line.Loads (part_said part.entry))) }
+    ensures counted { OnOk result (IsCounted draft.new.block) }
+{
+    load_part(alloc, &mut draft.block.script, part)
+}
+
+/// Takes one more step.
+fn take_step<A: Allocator + Copy>(
+    alloc: A,
+    draft: &mut Draft<A>,
+    number: u32,
+    step: RawStep,
+) -> Result<(), Cause>
+    requires counted { IsCounted draft.old.block }
+    requires tested { IsTestedStep step }
+    ensures line { TakesLine result (reading_of draft.new)
+        (with_line number (reading_of draft.old) (line.Does (step_said step.entry))) }
+    ensures counted { OnOk result (IsCounted draft.new.block) }
+{
+    if let Some(fault) = next_step_fault(&draft.block, step) {
+        return Err(fault);
+    }
+    let row = draft.rows.len().saturating_sub(1);
+    let late = late_of(number, row, draft.block.births, step);
+    if push_late(&mut draft.late, late).is_err() {
+        return Err(Cause::NoMemory);
+    }
+    if add_step(alloc, draft.place, &mut draft.block, step).is_err() {
+        return Err(Cause::NoMemory);
+    }
+    draft.place = place_after(step);
+    Ok(())
+}
+
+/// Adds what is tested late, if the step is.
+fn push_late<A: Allocator>(all: &mut Vec<Late, A>, late: Option<Late>) -> Result<(), NoMemory>
+    ensures { OnOk result (all.new.items ≡ all.old.items ++ option_to_list late) }
+{
+    if let Some(late) = late {
+        all.push(late)?;
+    }
+    Ok(())
+}
+
+/// Closes the block. What its script has kept for further steps is given back.
+fn close_block<A: Allocator + Copy>(alloc: A, draft: &mut Draft<A>) -> Result<(), Cause>
+    ensures line { TakesLine result (reading_of draft.new) (with_line 0 (reading_of draft.old) line.Closes) }
+    ensures counted { OnOk result (IsCounted draft.new.block) }
+{
+    close_loaded(draft.place, &mut draft.block.script);
+    draft.block.script.steps.shrink_to_fit();
+    let Block { script, .. } = mem::replace(&mut draft.block, new_block(alloc));
+    if draft.scripts.push(script).is_err() {
+        return Err(Cause::NoMemory);
+    }
+    draft.place = Place::Outside;
+    Ok(())
+}

@@ -1,0 +1,145 @@
+//! The image that the lines after `tracee` and `exec` describe, part by part.
+
+ghost use Rattle.std.specs.Prelude.{◌≡◌, ◌/◌, ◌%◌, Ok, true, IfOk, length};
+ghost use Rattle.trace_script.specs.CaseFile.{page_loaded, part_loaded, part_of_last, part_of_script, part_of_step};
+ghost use Rattle.trace_script.specs.CaseLine as line;
+ghost use Rattle.trace_script.specs.CaseLine.{bytes_written, is_byte_word, no_image};
+ghost use Rattle.trace_script.specs.Kept.{image_of, script_of, step_of};
+ghost use Rattle.trace_script.specs.RawLine.{IsTestedPart, part_said};
+ghost use Rattle.trace_script.specs.Reading.{TakesLine};
+ghost use Rattle.trace_pages.specs.Memory.{map_refusal};
+
+use crate::case::raw_line::RawPart;
+use crate::cause::Cause;
+use crate::script::{Image, Script, Step};
+use std::alloc::Allocator;
+use trace_pages::{MapError, Memory, NoMemory, PAGE_SIZE};
+
+/// A program of no page, whose registers are 0.
+pub fn no_image<A: Allocator + Copy>(alloc: A) -> Image<A>
+    ensures { image_of result ≡ no_image }
+{
+    Image {
+        memory: Memory::new(alloc),
+        rip: 0,
+        rsp: 0,
+    }
+}
+
+/// The bytes that a byte word writes.
+pub fn decode<A: Allocator + Copy>(alloc: A, word: &[u8]) -> Result<Vec<u8, A>, NoMemory>
+    ensures { IfOk result (λ bytes. bytes.items ≡ bytes_written word.now) }
+{
+    match hex::decode(alloc, word) {
+        Ok(bytes) => Ok(bytes),
+        Err(_) => Err(NoMemory),
+    }
+}
+
+/// Loads one more part of the image that is described now: the script's own, or that of its last step, an exec.
+pub fn load_part<A: Allocator + Copy>(
+    alloc: A,
+    script: &mut Script<A>,
+    part: RawPart,
+) -> Result<(), Cause>
+    requires { IsTestedPart part }
+    ensures { TakesLine result (script_of script.new) (part_of_script (script_of script.old) (part_said part.entry)) }
+{
+    let count = script.steps.len();
+    if count == 0 {
+        return load_in_image(alloc, &mut script.image, part);
+    }
+    load_in_step(alloc, &mut script.steps[count - 1], part)
+}
+
+/// Loads one more part of an exec's image.
+fn load_in_step<A: Allocator + Copy>(
+    alloc: A,
+    step: &mut Step<A>,
+    part: RawPart,
+) -> Result<(), Cause>
+    requires { IsTestedPart part }
+    ensures { TakesLine result (step_of step.new) (part_of_step (step_of step.old) (part_said part.entry)) }
+{
+    match step {
+        Step::Exec { image, .. } => load_in_image(alloc, image, part),
+        _ => Ok(()),
+    }
+}
+
+fn load_in_image<A: Allocator + Copy>(
+    alloc: A,
+    image: &mut Image<A>,
+    part: RawPart,
+) -> Result<(), Cause>
+    requires { IsTestedPart part }
+    ensures { TakesLine result (image_of image.new) (part_loaded (image_of image.old) (part_said part.entry)) }
+{
+    match part {
+        RawPart::Page(page) => map_page(image, page),
+        RawPart::Data(addr, bytes) => put_bytes(alloc, image, addr, bytes),
+        RawPart::Start(rip, rsp) => {
+            image.rip = rip;
+            image.rsp = rsp;
+            Ok(())
+        }
+    }
+}
+
+/// Maps a page of zeros.
+#[tactic(auto, using(trace_pages::proofs::Memories::mapped_is))]
+fn map_page<A: Allocator>(image: &mut Image<A>, page: u64) -> Result<(), Cause>
+    requires { page % PAGE_SIZE ≡ 0 }
+    ensures { TakesLine result (image_of image.new) (part_loaded (image_of image.old) (line.Page page)) }
+{
+    match image.memory.map(page) {
+        Ok(()) => Ok(()),
+        Err(MapError::Mapped) => Err(Cause::BadNumber),
+        Err(MapError::TooMany) => Err(Cause::TooMany),
+        Err(MapError::NoMemory) => Err(Cause::NoMemory),
+    }
+}
+
+/// Stores the bytes of a byte word. They are decoded once it is known that their addresses are mapped.
+fn put_bytes<A: Allocator + Copy>(
+    alloc: A,
+    image: &mut Image<A>,
+    addr: u64,
+    word: &[u8],
+) -> Result<(), Cause>
+    requires { is_byte_word word.now ≡ true }
+    ensures { TakesLine result (image_of image.new)
+        (part_loaded (image_of image.old) (line.Data addr (bytes_written word.now))) }
+{
+    if image.memory.check_run(addr, word.len() / 2).is_err() {
+        return Err(Cause::Unmapped);
+    }
+    let Ok(bytes) = decode(alloc, word) else {
+        return Err(Cause::NoMemory);
+    };
+    match image.memory.store(addr, bytes.as_slice()) {
+        Ok(()) => Ok(()),
+        Err(_) => unreachable!(),
+    }
+}
+
+/// Gives back the room that the image described now has kept for further pages.
+pub fn close_image<A: Allocator>(script: &mut Script<A>)
+    ensures { script_of script.new ≡ script_of script.old }
+{
+    let count = script.steps.len();
+    if count == 0 {
+        script.image.memory.shrink_to_fit();
+    } else {
+        close_step(&mut script.steps[count - 1]);
+    }
+}
+
+fn close_step<A: Allocator>(step: &mut Step<A>)
+    ensures { step_of step.new ≡ step_of step.old }
+{
+    match step {
+        Step::Exec { image, .. } => image.memory.shrink_to_fit(),
+        _ => (),
+    }
+}

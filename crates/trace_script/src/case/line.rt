@@ -1,0 +1,138 @@
+//! What a line of a case file says, by its words. All words are looked at before any number, and numbers before bytes.
+
+ghost use Rattle.std.specs.Prelude.{◌≡◌, IfOk, map};
+ghost use Rattle.text_lines.specs.Lines.{words_in};
+ghost use Rattle.trace_script.specs.CaseLine.{data_part, exec_step, exit_step, fork_step, line_of, page_part};
+ghost use Rattle.trace_script.specs.CaseLine.{rest_of, signal_of, signal_step, start_part, thread_step};
+ghost use Rattle.trace_script.specs.RawLine.{IsTested, IsTestedPart, IsTestedStep, if_said, line_said, part_said, step_said};
+
+use crate::case::call::read_call;
+use crate::case::keyword::{Keyword, Place, keyword_at};
+use crate::case::raw_line::{RawLine, RawPart, RawStep};
+use crate::case::words::{any_number, byte_word, page_address};
+use crate::row_words::{id, row_of_words};
+use text_lines::{LineFault, first_words};
+
+/// How many words of a line are looked at: one more than any line may have.
+const WORDS_LOOKED_AT: usize = 14;
+
+/// What a line at this place says, or its first fault.
+pub fn read_line<'a>(place: Place, line: &'a [u8]) -> Result<RawLine<'a>, LineFault>
+    ensures line { if_said line_said result ≡ line_of place (words_in line.now) }
+    ensures range { IfOk result IsTested }
+{
+    let mut words: [&[u8]; WORDS_LOOKED_AT] = [&[]; WORDS_LOOKED_AT];
+    let count = first_words(line, &mut words);
+    read_words(place, &words[..count])
+}
+
+/// What the words of a line say.
+fn read_words<'a>(place: Place, words: &[&'a [u8]]) -> Result<RawLine<'a>, LineFault>
+    ensures line { if_said line_said result ≡ line_of place (map (λ w. w.now) words.now) }
+    ensures range { IfOk result IsTested }
+{
+    match words {
+        [] => Ok(RawLine::Nothing),
+        [first, ..] if first.first() == Some(&b'#') => Ok(RawLine::Nothing),
+        [first, words @ ..] => {
+            let keyword = keyword_at(place, first)?;
+            rest_of(keyword, words)
+        }
+    }
+}
+
+/// What the words after the first one say.
+fn rest_of<'a>(keyword: Keyword, words: &[&'a [u8]]) -> Result<RawLine<'a>, LineFault>
+    ensures line { if_said line_said result ≡ rest_of keyword (map (λ w. w.now) words.now) }
+    ensures range { IfOk result IsTested }
+{
+    match keyword {
+        Keyword::Tracee => match words {
+            [tid, tgid, pgid, parent] => {
+                Ok(RawLine::Opens(row_of_words(tid, tgid, pgid, parent)?))
+            }
+            _ => Err(LineFault::UnknownWord),
+        },
+        Keyword::Page => match words {
+            [address] => Ok(RawLine::Loads(page_part(address)?)),
+            _ => Err(LineFault::UnknownWord),
+        },
+        Keyword::Data => match words {
+            [address, bytes] => Ok(RawLine::Loads(data_part(address, bytes)?)),
+            _ => Err(LineFault::UnknownWord),
+        },
+        Keyword::At => match words {
+            [rip, rsp] => Ok(RawLine::Loads(start_part(rip, rsp)?)),
+            _ => Err(LineFault::UnknownWord),
+        },
+        Keyword::Call => Ok(RawLine::Does(RawStep::Call(read_call(words)?))),
+        Keyword::Fork => match words {
+            [tid] => Ok(RawLine::Does(RawStep::Fork(id(tid)?))),
+            _ => Err(LineFault::UnknownWord),
+        },
+        Keyword::Thread => match words {
+            [tid] => Ok(RawLine::Does(RawStep::Thread(id(tid)?))),
+            _ => Err(LineFault::UnknownWord),
+        },
+        Keyword::Exec => match words {
+            [address] => Ok(RawLine::Does(RawStep::Exec(any_number(address)?))),
+            _ => Err(LineFault::UnknownWord),
+        },
+        Keyword::Signal => Ok(RawLine::Does(signal_of(words)?)),
+        Keyword::Exit => match words {
+            [status] => Ok(RawLine::Does(RawStep::Exit(any_number(status)?))),
+            _ => Err(LineFault::UnknownWord),
+        },
+        Keyword::End => match words {
+            [] => Ok(RawLine::Closes),
+            _ => Err(LineFault::UnknownWord),
+        },
+    }
+}
+
+/// A page of zeros.
+fn page_part<'a>(address: &[u8]) -> Result<RawPart<'a>, LineFault>
+    ensures line { if_said part_said result ≡ page_part address.now }
+    ensures range { IfOk result IsTestedPart }
+{
+    Ok(RawPart::Page(page_address(address)?))
+}
+
+/// Bytes from an address on.
+fn data_part<'a>(address: &[u8], bytes: &'a [u8]) -> Result<RawPart<'a>, LineFault>
+    ensures line { if_said part_said result ≡ data_part address.now bytes.now }
+    ensures range { IfOk result IsTestedPart }
+{
+    let addr = any_number(address)?;
+    let bytes = byte_word(bytes)?;
+    Ok(RawPart::Data(addr, bytes))
+}
+
+/// The two registers that a program starts with.
+fn start_part<'a>(rip: &[u8], rsp: &[u8]) -> Result<RawPart<'a>, LineFault>
+    ensures line { if_said part_said result ≡ start_part rip.now rsp.now }
+    ensures range { IfOk result IsTestedPart }
+{
+    let rip = any_number(rip)?;
+    let rsp = any_number(rsp)?;
+    Ok(RawPart::Start(rip, rsp))
+}
+
+/// A signal, and whether it is deadly.
+fn signal_of<'a>(words: &[&[u8]]) -> Result<RawStep<'a>, LineFault>
+    ensures line { if_said step_said result ≡ signal_of (map (λ w. w.now) words.now) }
+    ensures range { IfOk result IsTestedStep }
+{
+    match words {
+        [signal] => signal_step(signal, false),
+        [signal, word] if *word == b"deadly".as_slice() => signal_step(signal, true),
+        _ => Err(LineFault::UnknownWord),
+    }
+}
+
+fn signal_step<'a>(signal: &[u8], deadly: bool) -> Result<RawStep<'a>, LineFault>
+    ensures line { if_said step_said result ≡ signal_step signal.now deadly }
+    ensures range { IfOk result IsTestedStep }
+{
+    Ok(RawStep::Signal(any_number(signal)?, deadly))
+}

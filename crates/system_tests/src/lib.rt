@@ -5,6 +5,8 @@
 #[cfg(test)]
 mod board;
 #[cfg(test)]
+mod case;
+#[cfg(test)]
 mod definitions;
 #[cfg(test)]
 mod expected_words;

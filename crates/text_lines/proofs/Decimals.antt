@@ -1,14 +1,18 @@
 -- What `decimal` writes is a word, and is read as its number.
 use Rattle.std.proofs.Common.{refl, ◌≡◌, ◌+◌, ◌*◌, ◌^◌, ◌<◌, ◌≤◌, ◌&&◌, ◌∷◌, [], ℕ, Bool, true, false, nat_lt, nat_le}
 use Rattle.std.proofs.Common.{List, Some, None, Ok, length, drop, cond, arith, eqb, ne_eqb, lt-ltb, le-leb, decimal}
-use Rattle.std.proofs.Common.{ap, ◌∙◌}
+use Rattle.std.proofs.Common.{suc, ap, ◌∙◌, ℤ, pos, negsuc}
+use Rattle.std.specs.Prelude.{neg_ℤ}
+use Rattle.std.specs.Fmt.{signed_decimal}
+use Rattle.std.specs.Int.Signed.{mag}
 use Rattle.std.proofs.lemmas.Bool.{and_from}
 use Rattle.std.proofs.lemmas.Fmt.{decimal_is_IsNumeral}
 use Rattle.std.proofs.lemmas.Str.Parse.{digit_from_value}
 use Rattle.std.specs.Char.{digit_value}
 use Rattle.std.specs.Str.Parse.{AllDigits, IsNumeral, digits_value, digits_value_after}
 use Rattle.text_lines.specs.Lines.{has_letters}
-use Rattle.text_lines.specs.Numbers.{digits_after, is_hex, number_of, numeral, within_u64}
+use Rattle.text_lines.specs.Numbers.{digits_after, integer_of, is_hex, is_negative, negated_integer, number_of, numeral}
+use Rattle.text_lines.specs.Numbers.{plain_integer, within_u64}
 use Rattle.text_lines.specs.Ranges.{number_between, ranged}
 use Rattle.text_lines.proofs.Spelled.{all_above, is_word}
 
@@ -60,3 +64,34 @@ pub decimal_between : (low high n : ℕ) → low ≤ n → n ≤ high → high <
 decimal_between low high n least most small =
     ap (ranged low high) (decimal_read n (omega arith))
     ∙ rw (and_from (nat_le low n) (nat_le n high) (le-leb low n least) (le-leb n high most))
+
+-- ---- integers
+decimal_numeral : (n : ℕ) → n < 2 ^ 64 → numeral 10 (decimal n) ≡ Some n
+decimal_numeral n small =
+    let known = decimal_is_IsNumeral n small in
+    numeral_read (decimal n) known.0 ∙ ap Some known.1
+
+-- a decimal has no sign
+no_minus : (ds : List ℕ) → AllDigits 10 ds → is_negative ds ≡ false
+no_minus [] h = refl
+no_minus (d ∷ ds) h =
+    let range = digit_from_value d h.0 in
+    ne_eqb d 45 (λ same. omega arith)
+
+-- what is written of an integer is read as it
+pub integer_read : (z : ℤ) → mag z < 2 ^ 63 → integer_of (signed_decimal z) ≡ Some z
+integer_read (pos n) small =
+    ap (λ b. cond b (negated_integer (numeral 10 (drop 1 (decimal n)))) (plain_integer (numeral 10 (decimal n))))
+    (no_minus (decimal n) (decimal_is_IsNumeral n (omega arith)).0.1)
+    ∙ ap plain_integer (decimal_numeral n (omega arith))
+    ∙ ap (λ b. cond b (Some (pos n)) None) (lt-ltb n (2 ^ 63) small)
+integer_read (negsuc n) small =
+    ap negated_integer (decimal_numeral (suc n) (omega arith))
+    ∙ ap (λ b. cond b (Some (neg_ℤ (pos (suc n)))) None) (le-leb (suc n) (2 ^ 63) (omega arith))
+
+pub integer_is_word : (z : ℤ) → mag z < 2 ^ 63 → is_word (signed_decimal z) ≡ true
+integer_is_word (pos n) small = decimal_is_word n (omega arith)
+integer_is_word (negsuc n) small =
+    and_from (has_letters (45 ∷ decimal (suc n))) (all_above (45 ∷ decimal (suc n)))
+    (lt-ltb 0 (length (45 ∷ decimal (suc n))) (omega arith))
+    (digits_above (decimal (suc n)) (decimal_is_IsNumeral (suc n) (omega arith)).0.1)

@@ -1,3 +1,3 @@
 mod Members
-mod Rows
-mod Tables
+pub mod Rows
+pub mod Tables

@@ -153,6 +153,30 @@ pub length-run-Full : (m : FlatMemory) (at n : ℕ) → run_end m at n ≡ Full 
 unfolding Says
 length-run-Full m at n e = rw e at (run_says m n at)
 
+some_is : (o : Option ℕ) → IsSome o → (byte : ℕ) × (o ≡ Some byte)
+some_is None is = cc
+some_is (Some byte) is = (byte, refl)
+
+-- the bytes of a run that has all of them
+pub get_or-run : (m : FlatMemory) (at n k : ℕ) → run_end m at n ≡ Full → k < n
+    → byte_at m (at + k) ≡ Some (get_or (run m at n) k 0)
+get_or-run m at zero k whole h = absurd (omega arith)
+get_or-run m at (suc n) zero whole h =
+    let here : at + 0 ≡ at = omega arith in
+    let first = run_end-Full m at (suc n) whole 0 h in
+    let byte = some_is (byte_at m at) (rw here at first.1) in
+    ap (byte_at m) here ∙ byte.1
+    ∙ ap (λ (l : List ℕ). Some (get_or l 0 0)) (sym (run_step m at n byte.0 (omega (arith, first.0)) byte.1))
+get_or-run m at (suc n) (suc k) whole h =
+    let here : at + 0 ≡ at = omega arith in
+    let on : at + suc k ≡ at + 1 + k = omega arith in
+    let first = run_end-Full m at (suc n) whole 0 (omega arith) in
+    let byte = some_is (byte_at m at) (rw here at first.1) in
+    let below : at < 2 ^ 64 = omega (arith, first.0) in
+    ap (byte_at m) on
+    ∙ get_or-run m (at + 1) n k (sym (step m at n byte.0 below byte.1) ∙ whole) (omega arith)
+    ∙ ap (λ (l : List ℕ). Some (get_or l (suc k) 0)) (sym (run_step m at n byte.0 below byte.1))
+
 pub run_end-whole : (m : FlatMemory) (at n : ℕ) → length (run m at n) ≡ n → run_end m at n ≡ Full
 run_end-whole m at n whole = whole_end (run_end m at n) at n (length (run m at n)) (run_says m n at) whole
 

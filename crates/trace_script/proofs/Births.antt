@@ -1,7 +1,7 @@
 -- Stops and deaths are ones that a tracee can have, and name its children in order.
 use Rattle.std.proofs.Common.{refl, ◌≡◌, ◌%◌, ◌<◌, ◌∷◌, ◌++◌, [], ℕ, Bool, true, false, List, Option, Some, None}
-use Rattle.std.proofs.Common.{length, cond, eqb, arith, ap, sym, ◌∙◌, subst, inl, inr}
-use Rattle.std.proofs.lemmas.Bool.Decides.{eqb_tells}
+use Rattle.std.proofs.Common.{◌&&◌, nat_le, not, length, cond, eqb, arith, ap, sym, ◌∙◌, subst, inl, inr}
+use Rattle.std.proofs.lemmas.Bool.Decides.{eqb_tells, nat_tests}
 use Rattle.trace_options.specs.declared.options.TheConstants.Options.{TRACEEXEC}
 use Rattle.trace_pages.specs.FlatMemory.{RunEnd, Full, Absent, Top, run_end, stored}
 use Rattle.trace_pages.specs.Memory.{store_answer}
@@ -12,14 +12,18 @@ use Rattle.trace_record.specs.declared.resume.Resume.{Resume}
 use Rattle.trace_record.specs.declared.stop.Stop.{Stop}
 use Rattle.trace_script.specs.Births.{AreGood, AreInRange, IsGoodOutcome, IsInRange, NamesByOption, TellsBirths}
 use Rattle.trace_script.specs.Births.{TellsNoBirths, born_by, children_of, children_told, may_halt, told_if, with_child}
+use Rattle.trace_script.specs.CaseFacts.{AreSteps}
 use Rattle.trace_script.specs.Script.{Fill, Script, Step}
 use Rattle.trace_script.specs.Script as step
+use Rattle.trace_script.specs.Signals.{can_arrive, kills_or_stops}
 use Rattle.trace_script.specs.StepStops.{Act, Halts, Loads, Calls, Becomes, Stores, Answers, Delivers, Dies, acts_of}
 use Rattle.trace_script.specs.StepStops.{When, Always, Traced, Filtered, Told, acts_of_script, acts_of_steps, halts}
 use Rattle.trace_script.specs.StepStops.{has_option}
 use Rattle.trace_script.specs.StopTrace.{Context, Stops, GoesOn, Ends}
 use Rattle.trace_script.specs.StopTrace.{advance, context, outcome_by, store_effect}
 use Rattle.trace_script.specs.declared.setting.Setting.{Setting}
+use Rattle.trace_script.specs.declared.signals.TheConstants.{LAST_STANDARD}
+use Rattle.trace_status.specs.WaitStatus.{IsSignal}
 
 -- ---- what comes next
 
@@ -169,3 +173,25 @@ untold_steps s (step ∷ steps) tells =
 
 pub untold_script : (s : Setting) (script : Script) → TellsNoBirths s → children_told s (acts_of_script s script) ≡ []
 untold_script s script tells = untold_steps s script.steps tells
+
+-- ---- the signals of a case
+
+arriving_by : (low high : Bool) (signal : ℕ) (others : Bool) → nat_le 1 signal ≡ low → nat_le signal LAST_STANDARD ≡ high
+    → (low && (high && others)) ≡ true → IsSignal signal
+arriving_by true true signal others first last can = grind (arith, nat_tests)
+arriving_by true false signal others first last can = cc can
+arriving_by false high signal others first last can = cc can
+
+-- a signal that can arrive is one of Linux's
+arriving : (signal : ℕ) → can_arrive signal ≡ true → IsSignal signal
+arriving signal can =
+    arriving_by (nat_le 1 signal) (nat_le signal LAST_STANDARD) signal (not (kills_or_stops signal)) refl refl can
+
+pub arriving_in_range : (steps : List Step) → AreSteps steps → AreInRange steps
+arriving_in_range [] can = tt
+arriving_in_range (step.Call nr arguments answer fill ∷ steps) can = (tt, arriving_in_range steps can.1)
+arriving_in_range (step.Fork child ∷ steps) can = (tt, arriving_in_range steps can.1)
+arriving_in_range (step.Thread child ∷ steps) can = (tt, arriving_in_range steps can.1)
+arriving_in_range (step.Exec path image ∷ steps) can = (tt, arriving_in_range steps can.1)
+arriving_in_range (step.Signal signal deadly ∷ steps) can = (arriving signal can.0, arriving_in_range steps can.1)
+arriving_in_range (step.Exit status ∷ steps) can = (tt, arriving_in_range steps can.1)

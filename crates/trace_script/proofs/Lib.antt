@@ -1,11 +1,14 @@
 pub mod Births
 pub mod ByteWords
+pub mod CaseBack
 pub mod Cases
 pub mod Fills
 pub mod FourteenWords
 pub mod Images
+pub mod ImagesBack
 pub mod LinePlaces
 pub mod LinesRead
+pub mod LinesSpelled
 pub mod Looks
 pub mod OpenBlocks
 pub mod Places

@@ -1,13 +1,14 @@
 -- The words of a row say that row.
-use Rattle.std.proofs.Common.{◌≡◌, ◌≤◌, ◌&&◌, ◌||◌, ℕ, Bool, true, false, not, Option, Some, None, List, Ok, length}
+use Rattle.std.proofs.Common.{◌≡◌, ◌<◌, [], nat_lt, lt-ltb, ◌≤◌, ◌&&◌, ◌||◌, ℕ, Bool, true, false, not, Option, Some, None, List, Ok, length}
 use Rattle.std.proofs.Common.{arith, cond, eqb, eqb-true, le-leb, leb-true, nat_le, decimal, is_some, refl, ap, ◌∙◌}
 use Rattle.std.proofs.Common.{inl, inr, ◌⊎◌, lit<}
 use Rattle.std.proofs.lemmas.Bool.{and_from, and_parts, not-false, or_cases}
-use Rattle.stop_history.specs.declared.limits.TheConstants.{LAST_ID}
+use Rattle.stop_history.specs.declared.limits.TheConstants.{LAST_ID, MOST_ROWS}
 use Rattle.stop_history.specs.declared.roster.Row.{Row}
 use Rattle.stop_history.specs.declared.roster.RosterError.{RosterError}
 use Rattle.stop_history.specs.declared.roster.RosterError.TheVariants as fault
-use Rattle.stop_history.specs.Roster.{family_fault, fault_after, has_ids, is_id, is_root, parent_in, with_tid}
+use Rattle.stop_history.specs.declared.roster.RosterError.TheVariants.{TooMany}
+use Rattle.stop_history.specs.Roster.{IsRoster, family_fault, first_fault, or_later, push_fault, fault_after, has_ids, is_id, is_root, parent_in, with_tid}
 use Rattle.text_lines.specs.Ranges.{◌>>=◌, number_between}
 use Rattle.text_lines.proofs.Decimals.{decimal_between, decimal_is_word}
 use Rattle.text_lines.proofs.Spelled.{AreWords, is_word}
@@ -92,3 +93,19 @@ row_are_words row has = (
   id_word row.tid has.tid,
   (id_word row.tgid has.tgid, (id_word row.pgid has.pgid, (up_to_last row.parent has.parent, tt))),
 )
+
+-- ---- rosters
+found_none : (b : Bool) (fault : Option RosterError) (many : RosterError) → cond b fault (Some many) ≡ None
+    → fault ≡ None
+found_none true fault many h = h
+found_none false fault many h = cc
+
+pub rows_fine : (rows : List Row) → IsRoster rows → first_fault [] rows ≡ None
+rows_fine rows roster = found_none _ _ _ roster
+
+-- a row without a fault of its own is added where there is room
+pub row_fits : (before : List Row) (row : Row) → length before < MOST_ROWS → fault_after before row ≡ None
+    → push_fault before row ≡ None
+row_fits before row room fits =
+    ap (λ fault. or_later fault (cond (nat_lt (length before) MOST_ROWS) None (Some TooMany))) fits
+    ∙ rw (lt-ltb (length before) MOST_ROWS room) refl

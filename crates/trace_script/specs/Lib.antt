@@ -4,6 +4,7 @@ pub mod CaseError
 pub mod CaseFacts
 pub mod CaseFile
 pub mod CaseLine
+pub mod CaseSpelling
 pub mod Cause
 pub mod Draft
 pub mod Fills

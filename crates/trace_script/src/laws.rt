@@ -1,6 +1,6 @@
 //! Laws of the definitions: each function is its contract alone.
 
-ghost use Rattle.std.specs.Prelude.{◌≡◌, ◌≢◌, ◌+◌, ◌*◌, ℕ, List, Some, [], codes, length, option_map};
+ghost use Rattle.std.specs.Prelude.{◌≡◌, ◌≢◌, ◌+◌, ◌*◌, ℕ, List, Some, [], codes, length, option_map, slice_get, Ok};
 ghost use Rattle.trace_options.specs.Syscalls.{syscall_named};
 ghost use Rattle.trace_record.specs.Resume.{IsResume};
 ghost use Rattle.trace_record.specs.declared.death.Death.{Death};
@@ -9,6 +9,9 @@ ghost use Rattle.trace_record.specs.Content.{Content};
 ghost use Rattle.trace_pages.specs.FlatMemory.{SameAddresses};
 ghost use Rattle.trace_script.specs.Births.{AreGood, AreInRange, IsGoodOutcome, TellsBirths, TellsNoBirths};
 ghost use Rattle.trace_script.specs.Births.{born_by, children_told};
+ghost use Rattle.trace_script.specs.CaseFacts.{IsCase, IsScript};
+ghost use Rattle.trace_script.specs.CaseFile.{CaseContent, case_of};
+ghost use Rattle.trace_script.specs.CaseSpelling.{IsSpelled, case_spelling};
 ghost use Rattle.trace_script.specs.Fills.{EndsDead, HasMappedFills, KeepsAddresses};
 ghost use Rattle.trace_script.specs.Script.{Script};
 ghost use Rattle.trace_script.specs.StopNumbers.{IsWithin};
@@ -79,4 +82,18 @@ pub fn steps_are_known_calls()
     ensures fork { option_map (λ call. call.number) (syscall_named (codes "fork")) ≡ Some FORK }
     ensures execve { option_map (λ call. call.number) (syscall_named (codes "execve")) ≡ Some EXECVE }
     ensures exit { option_map (λ call. call.number) (syscall_named (codes "exit")) ≡ Some EXIT }
+{}
+
+/// A case that is spelled as a file is read back from it. What `IsCase` says is known of every case that was read.
+pub fn what_a_case_spells_is_read()
+    ensures { (content : CaseContent) → IsCase content → IsSpelled content →
+        case_of (case_spelling content) ≡ Ok content }
+{}
+
+/// What a tracee's thread needs to know of the script of a row: it is as `IsScript` says, with its births in order, its
+/// fills mapped, and so few steps; and its signals are ones that a stop can have.
+pub fn scripts_of_cases_are_in_range()
+    ensures { (content : CaseContent) (row : ℕ) (script : Script) → IsCase content →
+        slice_get content.scripts row ≡ Some script →
+        IsScript content.rows row script × AreInRange script.steps }
 {}

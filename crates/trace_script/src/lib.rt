@@ -25,8 +25,8 @@ pub use calls::{CLONE, CLONE_THREAD_FLAGS, EXECVE, EXIT, FORK};
 pub use case::Case;
 pub use cause::{CaseError, Cause};
 pub use laws::{
-    mapped_fills_never_fault, runs_are_traces, steps_are_known_calls, stops_are_in_range,
-    stops_are_numbered,
+    mapped_fills_never_fault, runs_are_traces, scripts_of_cases_are_in_range,
+    steps_are_known_calls, stops_are_in_range, stops_are_numbered, what_a_case_spells_is_read,
 };
 pub use limits::{MOST_BYTES, MOST_STEPS};
 pub use machine::Machine;
@@ -34,4 +34,3 @@ pub use next::Next;
 pub use row_words::{id, row_of_words};
 pub use script::{Call, Fill, Image, Script, Step};
 pub use setting::Setting;
-pub use signals::{LAST_STANDARD, can_arrive};

@@ -47,19 +47,24 @@ fn is_byte_word(word: &[u8]) -> bool
     word.len() >= 2 && word.len() % 2 == 0 && are_hex_digits(word)
 }
 
+/// No digit ends the loop early, so that it is compiled to steps of many digits at once.
+#[inline(never)]
 fn are_hex_digits(word: &[u8]) -> bool
     ensures { result ≡ list_all is_hex_digit word.now }
 {
-    word.iter().all(|c| is_hex_digit(*c))
+    let mut all = true;
+    for c in word {
+        all &= is_hex_digit(*c);
+    }
+    all
 }
 
+/// Without branches, since digits and letters come in any order.
 fn is_hex_digit(c: u8) -> bool
     ensures { result ≡ is_hex_digit c }
 {
-    match c {
-        b'0'..=b'9' => true,
-        b'a'..=b'f' => true,
-        b'A'..=b'F' => true,
-        _ => false,
-    }
+    let is_decimal = c.wrapping_sub(b'0') < 10;
+    let is_lower = c.wrapping_sub(b'a') < 6;
+    let is_upper = c.wrapping_sub(b'A') < 6;
+    is_decimal | is_lower | is_upper
 }

@@ -21,5 +21,6 @@ bytes_are_halves word is =
     let even : length word % 2 ≡ 0 = eqb-true (length word % 2) 0 more.0 in
     let decoded = decode_of-digits word even (AllPass-from_list_all is_hex_digit word more.1) in
     let size = (decode_of-ok word decoded.0 decoded.1).2 in
-    let same : length decoded.0 ≡ length (bytes_written word) = ap (λ (bytes : List ℕ). length bytes) (written_is word decoded.0 decoded.1) in
+    let same : length decoded.0 ≡ length (bytes_written word) =
+    ap (λ (bytes : List ℕ). length bytes) (written_is word decoded.0 decoded.1) in
     omega arith

@@ -87,7 +87,8 @@ module _ {A B : Type 0} (text : List ℕ) (lines : Result A CaseError) (file : R
   refuses cause.NoMemory line is refused = absurd is
   refuses cause line is refused = refused
 
-error_found : (error : CaseError) (found : Option CaseError) → Some error ≡ found → IfFoundAt found → IsFound error.cause
+error_found : (error : CaseError) (found : Option CaseError) → Some error ≡ found → IfFoundAt found
+    → IsFound error.cause
 error_found error found same is = let there = rw (sym same) at is in there
 
 -- a fault after the last line refuses the file

@@ -57,11 +57,14 @@ mapped_as_tested memory address word is =
     ap (λ n. is_full (run_end memory address n)) (bytes_are_halves word is)
     ∙ full_is (run_end memory address (length word / 2))
 
+abbrev with_memory : Image → FlatMemory → Image
+with_memory image memory = record { memory = memory; rip = image.rip; rsp = image.rsp }
+
 pub data_refused : (image : Image) (address : ℕ) (word : List ℕ) → is_byte_word word ≡ true
     → is_ok (store_answer (run_end image.memory address (length word / 2))) ≡ false
     → part_loaded image (line.Data address (bytes_written word)) ≡ Err Unmapped
 data_refused image address word is refused =
-    ap (λ b. cond b (Ok (record { memory = stored image.memory address (bytes_written word); rip = image.rip; rsp = image.rsp })) (Err Unmapped))
+    ap (λ b. cond b (Ok (with_memory image (stored image.memory address (bytes_written word)))) (Err Unmapped))
     (mapped_as_tested image.memory address word is ∙ refused)
 
 pub data_loaded : (image : Image) (address : ℕ) (word : List ℕ) → is_byte_word word ≡ true
@@ -69,7 +72,7 @@ pub data_loaded : (image : Image) (address : ℕ) (word : List ℕ) → is_byte_
     → part_loaded image (line.Data address (bytes_written word))
     ≡ Ok (record { memory = stored image.memory address (bytes_written word); rip = image.rip; rsp = image.rsp })
 data_loaded image address word is taken =
-    ap (λ b. cond b (Ok (record { memory = stored image.memory address (bytes_written word); rip = image.rip; rsp = image.rsp })) (Err Unmapped))
+    ap (λ b. cond b (Ok (with_memory image (stored image.memory address (bytes_written word)))) (Err Unmapped))
     (mapped_as_tested image.memory address word is ∙ taken)
 
 pub data_is_ok : (image : Image) (address : ℕ) (word : List ℕ) → is_byte_word word ≡ true

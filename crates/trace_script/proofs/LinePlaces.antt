@@ -95,7 +95,8 @@ rest_comes keyword.Tracee words =
     (said_by keyword.Tracee line.Opens (λ row place h. h)
     (row_of_words (nth_word words 0) (nth_word words 1) (nth_word words 2) (nth_word words 3)))
 rest_comes keyword.Page words =
-    only_if keyword.Page (eqb (length words) 1) _ (loads_part keyword.Page (λ place h. h) (page_part (nth_word words 0)))
+    only_if keyword.Page (eqb (length words) 1) _
+    (loads_part keyword.Page (λ place h. h) (page_part (nth_word words 0)))
 rest_comes keyword.Data words =
     only_if keyword.Data (eqb (length words) 2) _
     (loads_part keyword.Data data_comes (data_part (nth_word words 0) (nth_word words 1)))

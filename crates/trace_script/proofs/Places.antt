@@ -6,7 +6,8 @@ use Rattle.std.proofs.lemmas.List.{length-map}
 
 module _ {X : Type 0} (p : X → Bool) where
   -- of a mapped list
-  first_of_map : {Y : Type 0} (f : Y → X) (ys : List Y) → position_or_len p (map f ys) ≡ position_or_len (λ y. p (f y)) ys
+  first_of_map : {Y : Type 0} (f : Y → X) (ys : List Y)
+      → position_or_len p (map f ys) ≡ position_or_len (λ y. p (f y)) ys
   first_of_map f [] = refl
   first_of_map f (y ∷ ys) = ap (λ n. cond (not (p (f y))) (1 + n) 0) (first_of_map f ys)
 

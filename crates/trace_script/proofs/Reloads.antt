@@ -72,7 +72,8 @@ SameScript old new = SameCounts old.steps new.steps
 
 counts_by : (script : Script) (part : Part) (none : Bool)
     → IfOk (cond none (part_loaded script.image part >>= λ image. Ok (record { image = image; steps = script.steps }))
-    (part_of_last script.steps part >>= λ steps. Ok (record { image = script.image; steps = steps }))) (SameScript script)
+    (part_of_last script.steps part >>= λ steps. Ok (record { image = script.image; steps = steps })))
+    (SameScript script)
 counts_by script part true =
     if_ok (λ image. Unit {0}) (SameScript script) (λ image. record { image = image; steps = script.steps })
     (part_loaded script.image part) (any_image (part_loaded script.image part)) (λ image h. (refl, refl))

@@ -150,7 +150,8 @@ plain_call nr arguments answer = do
   word ← answer_of answer
   Ok (step.Call nr numbers word None)
 
-abbrev pub filled_call : (nr : ℕ) → (arguments : List (List ℕ)) → (answer address bytes : List ℕ) → Result Step LineFault
+abbrev pub filled_call : (nr : ℕ) → (arguments : List (List ℕ)) → (answer address bytes : List ℕ)
+    → Result Step LineFault
 filled_call nr arguments answer address bytes = do
   numbers ← arguments_of arguments
   word ← answer_of answer
@@ -226,6 +227,9 @@ exec_step address = any_number address >>= λ path. Ok (step.Exec path no_image)
 abbrev pub exit_step : List ℕ → Result Step LineFault
 exit_step status = any_number status >>= λ n. Ok (step.Exit n)
 
+abbrev pub opens : Result Row LineFault → Result Line LineFault
+opens row = row >>= λ r. Ok (Opens r)
+
 abbrev pub does : Result Step LineFault → Result Line LineFault
 does step = step >>= λ s. Ok (Does s)
 
@@ -236,7 +240,7 @@ loads part = part >>= λ p. Ok (Loads p)
 abbrev pub rest_of : Keyword → List (List ℕ) → Result Line LineFault
 rest_of keyword.Tracee words =
     if length words == 4
-    then (row_of_words (nth_word words 0) (nth_word words 1) (nth_word words 2) (nth_word words 3) >>= λ row. Ok (Opens row))
+    then opens (row_of_words (nth_word words 0) (nth_word words 1) (nth_word words 2) (nth_word words 3))
     else Err UnknownWord
 rest_of keyword.Page words = if length words == 1 then loads (page_part (nth_word words 0)) else Err UnknownWord
 rest_of keyword.Data words =

@@ -2,7 +2,8 @@
 
 ghost use Rattle.std.specs.Prelude.{◌≡◌, ◌<◌, ◌≤◌, IfOk, length, map, position};
 ghost use Rattle.trace_script.specs.CaseLine.{answer_of, answered_call, any_number, argument, arguments_before};
-ghost use Rattle.trace_script.specs.CaseLine.{arguments_of, call_of, filled_call, has_own_line, is_byte_word, is_equals};
+ghost use Rattle.trace_script.specs.CaseLine.{arguments_of, call_of, filled_call, has_own_line, is_byte_word};
+ghost use Rattle.trace_script.specs.CaseLine.{is_equals};
 ghost use Rattle.trace_script.specs.CaseLine.{named_call, nr_named, plain_call};
 ghost use Rattle.trace_script.specs.RawLine.{IsTestedCall, call_said, if_said};
 

@@ -4,7 +4,8 @@ ghost use Rattle.std.specs.Prelude.{◌≡◌, IfOk, map};
 ghost use Rattle.text_lines.specs.Lines.{words_in};
 ghost use Rattle.trace_script.specs.CaseLine.{data_part, exec_step, exit_step, fork_step, line_of, page_part};
 ghost use Rattle.trace_script.specs.CaseLine.{rest_of, signal_of, signal_step, start_part, thread_step};
-ghost use Rattle.trace_script.specs.RawLine.{IsTested, IsTestedPart, IsTestedStep, if_said, line_said, part_said, step_said};
+ghost use Rattle.trace_script.specs.RawLine.{IsTested, IsTestedPart, IsTestedStep, if_said, line_said, part_said};
+ghost use Rattle.trace_script.specs.RawLine.{step_said};
 
 use crate::case::call::read_call;
 use crate::case::keyword::{Keyword, Place, keyword_at};

@@ -14,7 +14,8 @@ use text_lines::cut_line;
 /// What the lines of a file say, up to its first fault.
 pub fn read_lines<A: Allocator + Copy>(alloc: A, text: &[u8]) -> Result<Draft<A>, CaseError>
     requires { length text.now ≤ most_bytes }
-    ensures ok { IfOk result (λ draft. read_after line_read 1 nothing_read (lines_of text.now) ≡ Ok (reading_of draft)) }
+    ensures ok { IfOk result (λ draft.
+        read_after line_read 1 nothing_read (lines_of text.now) ≡ Ok (reading_of draft)) }
     ensures err { let read = read_after line_read 1 nothing_read (lines_of text.now) in
         IfErr result (λ error. Refuses text.now error.cause error.line read read) }
 {

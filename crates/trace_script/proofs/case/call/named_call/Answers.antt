@@ -7,15 +7,16 @@ use Rattle.trace_script.proofs.case.call.named_call.Goals as goal
 
 pub returns-clause-call : goal.returns-clause-call
 returns-clause-call c =
+    let read : List (Bor (List ℕ)) → List (List ℕ) = map (λ (w : Bor (List ℕ)). w.now) in
     let words = c.args.words.now in
     let count = c.in_ok-count.count in
-    let all : List (List ℕ) = map (λ (w : Bor (List ℕ)). w.now) words in
+    let all : List (List ℕ) = read words in
     let rest = drop (count + 1) words in
     let whole : length rest ≤ length words - (count + 1) = omega (arith, length-drop (count + 1) words) in
     c.answered_call.ensures.call
-    ∙ ap (λ ws. answered_call c.args.nr (map (λ (w : Bor (List ℕ)). w.now) (take count words)) (map (λ (w : Bor (List ℕ)). w.now) ws))
+    ∙ ap (λ ws. answered_call c.args.nr (read (take count words)) (read ws))
     (take_all (length words - (count + 1)) rest whole)
-    ∙ ap (λ ws. answered_call c.args.nr ws (map (λ (w : Bor (List ℕ)). w.now) rest))
+    ∙ ap (λ ws. answered_call c.args.nr ws (read rest))
     (sym (take-map (λ (w : Bor (List ℕ)). w.now) count words))
     ∙ ap (answered_call c.args.nr (take count all)) (sym (drop-map (λ (w : Bor (List ℕ)). w.now) (count + 1) words))
     ∙ ap (λ r. r >>= λ n. answered_call c.args.nr (take n all) (drop (n + 1) all)) c.in_ok-count.ensures.count

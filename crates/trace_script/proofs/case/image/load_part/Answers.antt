@@ -22,7 +22,8 @@ returns g c =
     omega (arith, c.len-count.ensures, c.if-count-eq0.false, length-map items step_of, c.args.script.now.steps.ok.0) in
     let is : last ≡ get_or steps i last =
     ap step_of c.index_mut.ensures.value ∙ sym (get_or-map step_of items i c.index_mut.result.now) in
-    let Taken : Script → Type 0 = λ s. TakesLine c.load_in_step.result s (part_of_script (script_with image steps) part) in
+    let Taken : Script → Type 0 =
+    λ s. TakesLine c.load_in_step.result s (part_of_script (script_with image steps) part) in
     subst Taken (ap (script_with image) (sym (map-set step_of items i c.load_in_step.new.step)))
     (rw (part_at_last image steps i last part end is)
     (takes_part (λ new. script_with image (set steps i new)) c.load_in_step.result (step_of c.load_in_step.new.step)

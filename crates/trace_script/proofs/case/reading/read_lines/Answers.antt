@@ -11,8 +11,8 @@ pub returns-in-Err-clause-err : goal.returns-in-Err-clause-err
 returns-in-Err-clause-err g c =
     let counted = ap (λ (ls : List (List ℕ)). length ls) c.cut_line.ensures.lines in
     rw (← c.loop-rest.invariant.read, c.cut_line.ensures.lines) (
-    ends_here line_read c.args.text.now c.loop-rest.number (reading_of c.loop-rest.draft) (reading_of c.take_line.new.draft)
-    c.cut_line.result.0.now (lines_of c.cut_line.result.1.now) c.in-Err.cause
+    ends_here line_read c.args.text.now c.loop-rest.number (reading_of c.loop-rest.draft)
+    (reading_of c.take_line.new.draft) c.cut_line.result.0.now (lines_of c.cut_line.result.1.now) c.in-Err.cause
     c.loop-rest.invariant.first (omega (arith, counted, c.loop-rest.invariant.counted)) c.in-Err.ensures.line)
 
 pub loop-rest-preserved : goal.loop-rest-preserved

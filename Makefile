@@ -7,6 +7,9 @@ RUSTC ?= rustc
 PYTHON ?= python3
 PREFIX ?= /usr/local
 OUT = bench/out
+# A program that reads a case file (bench/read_case.rt), in a copy of the libraries that it needs.
+READER = $(OUT)/reader
+LIBRARIES = trace_status trace_regs trace_options trace_pages trace_record stop_history stop_board text_lines trace_script
 # Takes the name and the status from a line of rt's report.
 ENDED = s/^case=\(.*\) run=ended status=\([0-9]*\) .*/\1: status \2/
 
@@ -41,6 +44,19 @@ examples:
 	  | diff -u examples/statuses - \
 	  || { echo "examples: FAILED: a status or a message is not that of examples/statuses (- wanted, + found)" >&2; exit 1; }
 	@echo "examples: each file printed the text that stands beside it, and ended with its status in examples/statuses"
+	@rm -rf $(READER)
+	@mkdir -p $(READER)/crates/read_case/src $(READER)/crates/read_case/specs $(READER)/crates/read_case/proofs
+	@for crate in $(LIBRARIES); do mkdir -p $(READER)/crates/$$crate \
+		&& cp -R crates/$$crate/src crates/$$crate/specs crates/$$crate/proofs $(READER)/crates/$$crate/ || exit 1; done
+	@cp bench/read_case.rt $(READER)/crates/read_case/src/main.rt
+	@touch $(READER)/crates/read_case/specs/Lib.antt $(READER)/crates/read_case/proofs/Lib.antt
+	@{ grep -v '^tracer\|^system_tests\|^refusing_allocator' crates.txt; echo "read_case: trace_script stop_board"; } \
+		> $(READER)/crates.txt
+	@found="$$(cd $(READER)/crates/read_case && $(RT) try --cases ../../../../../examples/run 2>&1)" \
+	  || { echo "$$found"; echo "examples: FAILED: a case file was not read" >&2; exit 1; }; \
+	echo "$$found" | sed -n -e '$(ENDED)' -e '/: status /p' | diff -u examples/cases - \
+	  || { echo "examples: FAILED: a case file was not read (- wanted, + found)" >&2; exit 1; }
+	@echo "examples: each case file of examples/run was read"
 
 check: kit
 	@echo "check: proving every crate from nothing, then the must-fail edits, tests and programs (docs/STATUS.md has the time)"
@@ -63,16 +79,20 @@ bench: tools all
 	@$(OUT)/generate > $(OUT)/replay.txt
 	@$(PYTHON) bench/compare.py "bin/tracer replay" $(OUT)/plain $(OUT)/replay.txt
 
-# CASE_READER is a command that reads a case file on standard input and prints how many rows and steps it has, or why
-# it is refused, as bench/plain_case.rs does. No program of the repository does so yet.
-bench-case: tools
-	@[ -n "$(CASE_READER)" ] || { echo "bench-case: give the command that reads a case, as CASE_READER=COMMAND"; exit 2; }
-	@echo "bench-case: timing $(CASE_READER) and a plain Rust program in turn on one case of 16 MB (some seconds)"
+# The program that is timed is a crate of the repository for as long as it is built.
+bench-case: tools kit
+	@echo "bench-case: timing the reader of cases and a plain Rust program in turn on one case of 16 MB (a minute)"
 	@mkdir -p $(OUT)
 	@$(RUSTC) -O --edition 2024 -o $(OUT)/generate_case bench/generate_case.rs
 	@$(RUSTC) -O --edition 2024 -o $(OUT)/plain_case bench/plain_case.rs
 	@$(OUT)/generate_case > $(OUT)/case.txt
-	@$(PYTHON) bench/compare.py --time 1.2 --memory 4 "$(CASE_READER)" $(OUT)/plain_case $(OUT)/case.txt
+	@cp crates.txt $(OUT)/crates.txt; trap 'cp $(OUT)/crates.txt crates.txt; rm -rf crates/read_case' EXIT INT TERM; \
+	mkdir -p crates/read_case/src crates/read_case/specs crates/read_case/proofs \
+	  && cp bench/read_case.rt crates/read_case/src/main.rt \
+	  && touch crates/read_case/specs/Lib.antt crates/read_case/proofs/Lib.antt \
+	  && echo "read_case: trace_script stop_board" >> crates.txt \
+	  && (cd crates/read_case && $(RT) run < /dev/null > /dev/null) && cp crates/read_case/out/read_case $(OUT)/read_case
+	@$(PYTHON) bench/compare.py --memory 4 $(OUT)/read_case $(OUT)/plain_case $(OUT)/case.txt
 
 tools:
 	@for command in $(RUSTC) $(PYTHON); do \

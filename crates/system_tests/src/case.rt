@@ -37,7 +37,10 @@ fn the_worked_case_is_read(rt: HostRuntime) -> Result<(), Fail> {
     assert_eq!(rt; case.roster().row(1).parent, 100);
     let root = case.script(0);
     assert_eq!(rt; root.steps.len(), 3);
-    assert_eq!(rt; called(root, 0), Some((1, [1, 0x10000, 3, 0, 0, 0], 3, None)));
+    assert_eq!(rt;
+        called(root, 0),
+        Some((1, [1, 0x10000, 3, 0, 0, 0], 3, None))
+    );
     assert!(rt; matches!(root.steps.as_slice().get(1), Some(Step::Fork(101))));
     assert!(rt; matches!(root.steps.as_slice().get(2), Some(Step::Exit(3))));
     for (addr, byte) in [
@@ -57,7 +60,8 @@ fn the_worked_case_is_read(rt: HostRuntime) -> Result<(), Fail> {
 }
 
 /// Each kind of line, with its free forms: spaces, comments, numbers in either base, digits in either case.
-const FORMS: &str = "# a case\n\n  tracee   7 0x7 7 0  \n at 1 2\n# the image goes on\npage 0x20000\nat 0x30 64\n\
+const FORMS: &str =
+    "# a case\n\n  tracee   7 0x7 7 0  \n at 1 2\n# the image goes on\npage 0x20000\nat 0x30 64\n\
                      data 0x20ffe 61Ff\ncall getpid = -2\n\
                      call read 0 0x20000 16 4 5 6 = 5 fill 0x20ffb 6869090aff\nsignal 15 deadly\nsignal 1\n\
                      exec 0x20000\npage 0x40000\ndata 0x40000 2f\nat 9 10\nexit 256\n\
@@ -70,10 +74,19 @@ fn each_line_is_read_in_its_free_forms(rt: HostRuntime) -> Result<(), Fail> {
     let script = case.script(0);
     assert_eq!(rt; (script.image.rip, script.image.rsp), (0x30, 64));
     assert_eq!(rt; script.image.memory.byte(0x20fff), Some(0xff));
-    assert_eq!(rt; called(script, 0), Some((39, [0; 6], 0xffff_ffff_ffff_fffe, None)));
+    assert_eq!(rt;
+        called(script, 0),
+        Some((39, [0; 6], 0xffff_ffff_ffff_fffe, None))
+    );
     let fill = Some((0x20ffb, 5));
-    assert_eq!(rt; called(script, 1), Some((0, [0, 0x20000, 16, 4, 5, 6], 5, fill)));
-    assert_eq!(rt; called(script, 6), Some((3, [3, 0, 0, 0, 0, 0], 1 << 63, None)));
+    assert_eq!(rt;
+        called(script, 1),
+        Some((0, [0, 0x20000, 16, 4, 5, 6], 5, fill))
+    );
+    assert_eq!(rt;
+        called(script, 6),
+        Some((3, [3, 0, 0, 0, 0, 0], 1 << 63, None))
+    );
     match script.steps.as_slice() {
         [
             _,
@@ -197,7 +210,10 @@ const FAULTY: [(&str, Cause); 64] = [
     ("call execve = 0", Cause::UnknownWord),
     ("call exit = 0", Cause::UnknownWord),
     ("call write 1 2 3 4 5 6 7 = 0", Cause::UnknownWord),
-    ("call write 1 2 3 4 5 6 7 8 9 10 11 12 13 = 0", Cause::UnknownWord),
+    (
+        "call write 1 2 3 4 5 6 7 8 9 10 11 12 13 = 0",
+        Cause::UnknownWord,
+    ),
     ("call write 1 =", Cause::UnknownWord),
     ("call write 1 = 0 0", Cause::UnknownWord),
     ("call write 1 = 0 fill 0x10000", Cause::UnknownWord),
@@ -279,23 +295,51 @@ const REFUSED: [(&str, u32, Cause); 22] = [
     ("tracee 100 100 77", 1, Cause::UnknownWord),
     ("tracee 0 100 77 0", 1, Cause::BadNumber),
     ("tracee 100 100 77 4194304", 1, Cause::BadNumber),
-    ("tracee 100 100 77 0\nend\ntracee 100 100 77 0\nend\n", 3, Cause::TwiceTracee),
+    (
+        "tracee 100 100 77 0\nend\ntracee 100 100 77 0\nend\n",
+        3,
+        Cause::TwiceTracee,
+    ),
     ("tracee 101 101 77 100", 1, Cause::ParentLater),
     ("tracee 101 101 77 101", 1, Cause::ParentLater),
     ("tracee 101 100 77 0", 1, Cause::GroupMismatch),
     ("tracee 100 100 77 0\n\n# open\n\n", 4, Cause::NoEnd),
     // A fault of a line comes before a block that is left open, and before the late tests.
-    ("tracee 100 100 77 0\nfork 101\nsignal 9\n", 3, Cause::Signal),
-    ("tracee 100 100 77 0\nfork 101\nend\ntracee 102 102 77 0\n", 4, Cause::NoEnd),
-    ("tracee 100 100 77 0\nfork 101\nfork 101\nend\ntracee 101 101 77 100\nend\n", 3, Cause::ChildOrder),
-    ("tracee 100 100 77 0\nthread 101\nend\ntracee 101 101 77 100\nend\n", 2, Cause::GroupMismatch),
-    ("tracee 100 100 77 0\nfork 101\nend\ntracee 101 100 77 100\nend\n", 2, Cause::GroupMismatch),
+    (
+        "tracee 100 100 77 0\nfork 101\nsignal 9\n",
+        3,
+        Cause::Signal,
+    ),
+    (
+        "tracee 100 100 77 0\nfork 101\nend\ntracee 102 102 77 0\n",
+        4,
+        Cause::NoEnd,
+    ),
+    (
+        "tracee 100 100 77 0\nfork 101\nfork 101\nend\ntracee 101 101 77 100\nend\n",
+        3,
+        Cause::ChildOrder,
+    ),
+    (
+        "tracee 100 100 77 0\nthread 101\nend\ntracee 101 101 77 100\nend\n",
+        2,
+        Cause::GroupMismatch,
+    ),
+    (
+        "tracee 100 100 77 0\nfork 101\nend\ntracee 101 100 77 100\nend\n",
+        2,
+        Cause::GroupMismatch,
+    ),
     (
         "tracee 100 100 77 0\nthread 101\nexec 0x10000\nend\ntracee 101 100 77 100\nend\n",
         3,
         Cause::SharedExec,
     ),
-    ("tracee 100 100 77 0\nend\ntracee 101 100 77 100\nexec 1\nend\n", 4, Cause::SharedExec),
+    (
+        "tracee 100 100 77 0\nend\ntracee 101 100 77 100\nexec 1\nend\n",
+        4,
+        Cause::SharedExec,
+    ),
     // Two late faults of one line, and of two.
     (
         "tracee 100 100 77 0\nthread 102\nend\ntracee 101 101 77 100\nend\ntracee 102 102 77 100\nend\n",
@@ -307,11 +351,7 @@ const REFUSED: [(&str, u32, Cause); 22] = [
         2,
         Cause::ChildOrder,
     ),
-    (
-        "tracee 100 100 77 0\nfork 100\nend\n",
-        2,
-        Cause::ChildOrder,
-    ),
+    ("tracee 100 100 77 0\nfork 100\nend\n", 2, Cause::ChildOrder),
     (
         "tracee 100 100 77 0\nexit 0\nfork 101\nend\n",
         3,
@@ -330,11 +370,23 @@ fn a_file_is_refused_at_its_first_fault(rt: HostRuntime) {
         let found = refusal(&rt, file.as_bytes());
         assert_eq!(rt; found, Some(CaseError { line, cause }), "{file}");
     }
-    assert_eq!(rt; refusal(&rt, b"tracee 100 100 77 0\xff\n"), Some(CaseError { line: 1, cause: Cause::BadNumber }));
+    assert_eq!(rt;
+        refusal(&rt, b"tracee 100 100 77 0\xff\n"),
+        Some(CaseError {
+            line: 1,
+            cause: Cause::BadNumber
+        })
+    );
 }
 
 /// A text of this many pieces.
-fn repeated(rt: &impl AllocGlobal, before: &str, piece: &str, count: usize, after: &str) -> Result<String, AllocError> {
+fn repeated(
+    rt: &impl AllocGlobal,
+    before: &str,
+    piece: &str,
+    count: usize,
+    after: &str,
+) -> Result<String, AllocError> {
     let mut text = String::from_str(rt.alloc(), before)?;
     for _ in 0..count {
         text.push_str(piece)?;
@@ -357,10 +409,23 @@ fn a_script_has_at_most_65536_steps(rt: HostRuntime) -> Result<(), Fail> {
     ] {
         let more = repeated(&rt, head, "exit 0\n", 65_536, step)?;
         let found = refusal(&rt, more.as_bytes());
-        assert_eq!(rt; found, Some(CaseError { line: 65_538, cause }), "{step}");
+        assert_eq!(rt;
+            found,
+            Some(CaseError {
+                line: 65_538,
+                cause
+            }),
+            "{step}"
+        );
     }
     // Lines of an image are no steps.
-    let loaded = repeated(&rt, head, "exit 0\n", 65_535, "exec 0\npage 0x1000\nat 1 1\nend\n")?;
+    let loaded = repeated(
+        &rt,
+        head,
+        "exit 0\n",
+        65_535,
+        "exec 0\npage 0x1000\nat 1 1\nend\n",
+    )?;
     assert_eq!(rt; refusal(&rt, loaded.as_bytes()), None);
     Ok(())
 }
@@ -368,15 +433,20 @@ fn a_script_has_at_most_65536_steps(rt: HostRuntime) -> Result<(), Fail> {
 #[test]
 fn an_image_has_at_most_256_pages(rt: HostRuntime) -> Result<(), Fail> {
     let mut file = String::from_str(rt.alloc(), "tracee 100 100 77 0\n")?;
-    for page in 0..257u64 {
+    for page in 0..256u64 {
         let line = format!(in rt.alloc(); "page {}\n", page * 4096)?;
         file.push_str(line.as_str())?;
     }
-    let too_many = CaseError {
-        line: 258,
-        cause: Cause::TooMany,
-    };
-    assert_eq!(rt; refusal(&rt, file.as_bytes()), Some(too_many));
+    // A page that is there already is a bad number, also where there is no room for it.
+    for (page, cause) in [
+        ("page 0x100000\n", Cause::TooMany),
+        ("page 0xff000\n", Cause::BadNumber),
+    ] {
+        let mut more = String::from_str(rt.alloc(), file.as_str())?;
+        more.push_str(page)?;
+        let found = refusal(&rt, more.as_bytes());
+        assert_eq!(rt; found, Some(CaseError { line: 258, cause }), "{page}");
+    }
     Ok(())
 }
 

@@ -2,7 +2,8 @@
 //! was called on is as it was.
 
 mod board;
+mod case;
+mod machine;
 mod memory;
 mod replay;
-mod script;
 mod world;

@@ -11,8 +11,8 @@ use Rattle.std.proofs.lemmas.Str.Parse.{digit_from_value}
 use Rattle.std.specs.Char.{digit_value}
 use Rattle.std.specs.Str.Parse.{AllDigits, IsNumeral, digits_value, digits_value_after}
 use Rattle.text_lines.specs.Lines.{has_letters}
-use Rattle.text_lines.specs.Numbers.{digits_after, integer_of, is_hex, is_negative, negated_integer, number_of, numeral}
-use Rattle.text_lines.specs.Numbers.{plain_integer, within_u64}
+use Rattle.text_lines.specs.Numbers.{digits_after, integer_of, is_hex, is_negative, negated_integer, number_of}
+use Rattle.text_lines.specs.Numbers.{numeral, plain_integer, within_u64}
 use Rattle.text_lines.specs.Ranges.{number_between, ranged}
 use Rattle.text_lines.proofs.Spelled.{all_above, is_word}
 

@@ -1,8 +1,8 @@
 -- A case that is spelled as a file is read back, block by block and line by line.
-use Rattle.std.proofs.Common.{refl, ◌≡◌, ◌+◌, ◌-◌, ◌<◌, ◌≤◌, ◌++◌, ◌∷◌, [], ℕ, true, false, List, length, map, Option, Some, None}
-use Rattle.std.proofs.Common.{Ok, Err, arith, ap, sym, subst, ◌∙◌, nat_le, lt-ltb, le-leb, ne_eqb, codes, append_assoc, append-nil, length-append}
+use Rattle.std.proofs.Common.{refl, ◌≡◌, ◌+◌, ◌-◌, ◌<◌, ◌≤◌, ◌++◌, ◌∷◌, [], ℕ, true, false, List, length, map, Option}
+use Rattle.std.proofs.Common.{Some, None, Ok, Err, arith, ap, sym, subst, ◌∙◌, nat_le, lt-ltb, le-leb, ne_eqb, codes}
+use Rattle.std.proofs.Common.{append_assoc, append-nil, length-append, leb-true}
 use Rattle.std.specs.Prelude.{IfSome, ◌&&◌, ◌^◌, not, if◌then◌else◌}
-use Rattle.std.proofs.Common.{leb-true}
 use Rattle.std.specs.List.{AllByRecursion, join_with_byte}
 use Rattle.stop_history.specs.History.{is_next_child}
 use Rattle.stop_history.specs.Roster.{fault_after, first_fault, is_leader, push_fault, row_at, row_of}
@@ -23,20 +23,25 @@ use Rattle.trace_script.specs.declared.cause.Cause.TheVariants as cause
 use Rattle.trace_script.specs.declared.limits.TheConstants.{MOST_STEPS}
 use Rattle.trace_script.specs.CaseFacts as facts
 use Rattle.trace_script.specs.CaseFacts.{IsCase}
-use Rattle.trace_script.specs.CaseFile.{CaseContent, fill_fault, fork_fault, is_full, kind_fault, thread_fault, unless, Reading, born_by, case_of, case_unless, children_of, closing_fault, image_after, in_force, late_cause}
-use Rattle.trace_script.specs.CaseFile.{late_fault, late_of, line_read, next_step_fault, no_script, nothing_read, or_after, part_loaded, part_of_last, part_of_script, place_after, roster_cause, step_fault}
-use Rattle.trace_script.specs.CaseFile.{unless_fault, with_block, with_line, with_script, with_step}
+use Rattle.trace_script.specs.CaseFile.{CaseContent, fill_fault, fork_fault, is_full, kind_fault, thread_fault, unless}
+use Rattle.trace_script.specs.CaseFile.{Reading, born_by, case_of, case_unless, children_of, closing_fault}
+use Rattle.trace_script.specs.CaseFile.{image_after, in_force, late_cause, late_fault, late_of, line_read}
+use Rattle.trace_script.specs.CaseFile.{next_step_fault, no_script, nothing_read, or_after, part_loaded, part_of_last}
+use Rattle.trace_script.specs.CaseFile.{part_of_script, place_after, roster_cause, step_fault, unless_fault}
+use Rattle.trace_script.specs.CaseFile.{with_block, with_line, with_script, with_step}
 use Rattle.trace_script.specs.CaseLine.{Line, Part, line_of, no_image}
 use Rattle.trace_script.specs.CaseLine as line
-use Rattle.trace_script.specs.CaseSpelling.{IsImage, IsSpelled, IsSpelledScript, IsSpelledStep, block_lines, blocks_lines, case_spelling, image_lines, image_parts}
-use Rattle.trace_script.specs.CaseSpelling.{lines_text, part_words, step_lines, step_words, steps_lines}
+use Rattle.trace_script.specs.CaseSpelling.{IsImage, IsSpelled, IsSpelledScript, IsSpelledStep, block_lines}
+use Rattle.trace_script.specs.CaseSpelling.{blocks_lines, case_spelling, image_lines, image_parts, lines_text}
+use Rattle.trace_script.specs.CaseSpelling.{part_words, step_lines, step_words, steps_lines}
 use Rattle.trace_script.specs.Reading.{most_bytes, read_after, with_cause}
 use Rattle.trace_script.specs.RowWords.{spelled_row}
 use Rattle.trace_script.specs.Script.{Fill, Image, Script, Step}
 use Rattle.trace_script.specs.Script as step
 use Rattle.trace_script.proofs.ImagesBack.{image_loads, parts_are_spelled, parts_loaded}
 use Rattle.trace_script.proofs.LinesRead.{all_read, goes_on}
-use Rattle.trace_script.proofs.LinesSpelled.{HasNumbers, IsInside, IsPart, end_says, part_are_words, part_says, row_says, step_are_words, step_says, without_image}
+use Rattle.trace_script.proofs.LinesSpelled.{HasNumbers, IsInside, IsPart, end_says, part_are_words, part_says}
+use Rattle.trace_script.proofs.LinesSpelled.{row_says, step_are_words, step_says, without_image}
 use Rattle.trace_script.proofs.RowsBack.{HasRanges, row_are_words, row_fits, row_ranges, rows_fine}
 
 -- ---- steps that are taken
@@ -76,7 +81,8 @@ thread_taken : (rows : List Row) (row births : ℕ) (child : Option ℕ) → is_
     → IfSome child (λ i. is_leader (row_at rows i) ≡ false) → thread_fault rows row births child ≡ None
 thread_taken rows row births None next follows = cc
 thread_taken rows row births (Some i) next follows =
-    ap (λ b. kind_fault (not b) (is_next_child rows row births (Some i))) follows ∙ ap (λ b. unless b cause.ChildOrder) next
+    ap (λ b. kind_fault (not b) (is_next_child rows row births (Some i))) follows
+    ∙ ap (λ b. unless b cause.ChildOrder) next
 
 -- what is known of every case, and what a file can write, are what the reader asks for
 steps_taken : (rows : List Row) (row births : ℕ) (image : Image) (steps : List Step) → facts.AreSteps steps
@@ -147,7 +153,8 @@ scripts_taken rows row (script ∷ scripts) size are spelled = (
   record {
     image = spelled.0.image;
     few = are.0.few;
-    steps = steps_taken rows row 0 script.image script.steps are.0.signals are.0.fills are.0.births are.0.alone spelled.0.steps;
+    steps = steps_taken rows row 0 script.image script.steps are.0.signals are.0.fills are.0.births are.0.alone
+        spelled.0.steps;
   },
   scripts_taken rows (row + 1) scripts (omega (arith, size)) are.1 spelled.1,
 )
@@ -168,14 +175,16 @@ Leads all lines s t = (n : ℕ) (late : List Late) (rest : List ℕ) → AreFine
 stays : (all : List Row) (s : Reading) → Leads all [] s s
 stays all s = λ n late rest fine. (n, late, fine, refl)
 
-joined : (a b : List (List (List ℕ))) (rest : List ℕ) → lines_text (a ++ b) ++ rest ≡ lines_text a ++ (lines_text b ++ rest)
+joined : (a b : List (List (List ℕ))) (rest : List ℕ) → lines_text (a ++ b) ++ rest ≡ lines_text a ++
+    (lines_text b ++ rest)
 joined [] b rest = refl
 joined (words ∷ a) b rest =
     append_assoc (line_text words) (lines_text (a ++ b)) rest
     ∙ ap (λ l. line_text words ++ l) (joined a b rest)
     ∙ sym (append_assoc (line_text words) (lines_text a) (lines_text b ++ rest))
 
-follow : (all : List Row) (a b : List (List (List ℕ))) (s t u : Reading) → Leads all a s t → Leads all b t u → Leads all (a ++ b) s u
+follow : (all : List Row) (a b : List (List (List ℕ))) (s t u : Reading) → Leads all a s t → Leads all b t u
+    → Leads all (a ++ b) s u
 follow all a b s t u first second = λ n late rest fine.
     let x = first n late (lines_text b ++ rest) fine in
     let y = second x.0 x.1 rest x.2 in
@@ -186,7 +195,8 @@ abbrev Makes : List Row → Line → (before after : Reading) → Type 0
 Makes all said s t = (n : ℕ) (late : List Late) → AreFine all late
     → (more : List Late) × AreFine all more × (with_line n (with_late s late) said ≡ Ok (with_late t more))
 
-one : (all : List Row) (words : List (List ℕ)) (said : Line) (s t : Reading) → AreWords words → line_of s.place words ≡ Ok said
+one : (all : List Row) (words : List (List ℕ)) (said : Line) (s t : Reading) → AreWords words
+    → line_of s.place words ≡ Ok said
     → Makes all said s t → Leads all (words ∷ []) s t
 one all words said s t are says makes = λ n late rest fine.
     let x = makes n late fine in
@@ -196,7 +206,8 @@ one all words said s t are says makes = λ n late rest fine.
       n + 1,
       x.0,
       x.1,
-      ap (λ l. read_after line_read n (with_late s late) (lines_of l)) (ap (λ l. l ++ rest) (append-nil (line_text words)))
+      ap (λ l. read_after line_read n (with_late s late) (lines_of l))
+          (ap (λ l. l ++ rest) (append-nil (line_text words)))
           ∙ ap (read_after line_read n (with_late s late)) (line_spelled words rest are)
           ∙ goes_on line_read n (with_late s late) (with_late t x.0) (join_with_byte 32 words) (lines_of rest) read,
     )
@@ -217,12 +228,14 @@ part_leads : (all rows : List Row) (scripts : List Script) (set : Image → Scri
     → (i j : Image) (part : Part) → IsPart part → part_loaded i part ≡ Ok j
     → Leads all (part_words part ∷ []) (inside Loading rows scripts (set i)) (inside Loading rows scripts (set j))
 part_leads all rows scripts set sets i j part is loads =
-    one all (part_words part) (line.Loads part) (inside Loading rows scripts (set i)) (inside Loading rows scripts (set j))
+    one all (part_words part) (line.Loads part) (inside Loading rows scripts (set i))
+    (inside Loading rows scripts (set j))
     (part_are_words part is) (part_says part is)
     (λ n late fine. (
       late,
       fine,
-      ap (λ r. r >>= λ script. Ok (with_script (with_late (inside Loading rows scripts (set i)) late) script)) (sets i j part loads),
+      ap (λ r. r >>= λ script. Ok (with_script (with_late (inside Loading rows scripts (set i)) late) script))
+          (sets i j part loads),
     ))
 
 same_ok : (x y : Image) → parts_loaded x [] ≡ Ok y → x ≡ y
@@ -232,11 +245,13 @@ parts_lead : (all rows : List Row) (scripts : List Script) (set : Image → Scri
     → (i j : Image) (parts : List Part) → AllByRecursion IsPart parts → parts_loaded i parts ≡ Ok j
     → Leads all (map part_words parts) (inside Loading rows scripts (set i)) (inside Loading rows scripts (set j))
 parts_lead all rows scripts set sets i j [] are loads =
-    subst (λ k. Leads all [] (inside Loading rows scripts (set i)) (inside Loading rows scripts (set k))) (same_ok i j loads)
+    subst (λ k. Leads all [] (inside Loading rows scripts (set i)) (inside Loading rows scripts (set k)))
+    (same_ok i j loads)
     (stays all (inside Loading rows scripts (set i)))
 parts_lead all rows scripts set sets i j (part ∷ parts) are loads =
     elim (part_loaded i part) as (λ r. part_loaded i part ≡ r → (r >>= λ more. parts_loaded more parts) ≡ Ok j
-    → Leads all (map part_words (part ∷ parts)) (inside Loading rows scripts (set i)) (inside Loading rows scripts (set j))) [
+    → Leads all (map part_words (part ∷ parts)) (inside Loading rows scripts (set i))
+    (inside Loading rows scripts (set j))) [
       | Ok k ↦ λ here later.
           follow all (part_words part ∷ []) (map part_words parts) (inside Loading rows scripts (set i))
           (inside Loading rows scripts (set k)) (inside Loading rows scripts (set j))
@@ -245,10 +260,13 @@ parts_lead all rows scripts set sets i j (part ∷ parts) are loads =
       | Err fault ↦ λ here later. cc
     ] refl loads
 
-image_leads : (all rows : List Row) (scripts : List Script) (set : Image → Script) → Sets set → (image : Image) → IsImage image
-    → Leads all (image_lines image) (inside Loading rows scripts (set no_image)) (inside Loading rows scripts (set image))
+image_leads : (all rows : List Row) (scripts : List Script) (set : Image → Script) → Sets set → (image : Image)
+    → IsImage image
+    → Leads all (image_lines image) (inside Loading rows scripts (set no_image))
+    (inside Loading rows scripts (set image))
 image_leads all rows scripts set sets image is =
-    parts_lead all rows scripts set sets no_image image (image_parts image) (parts_are_spelled image is) (image_loads image is)
+    parts_lead all rows scripts set sets no_image image (image_parts image) (parts_are_spelled image is)
+    (image_loads image is)
 
 -- the image of a script without steps, and that of its last step
 abbrev of_script : Image → Script
@@ -272,7 +290,8 @@ last_loaded (s ∷ next ∷ done) path i j part loads =
 sets_of_exec : (first : Image) (done : List Step) (path : ℕ) → Sets (of_exec first done path)
 sets_of_exec first done path i j part loads =
     let size = length-append done (step.Exec path i ∷ []) in
-    ap (λ b. if b then (part_loaded first part >>= λ image. Ok (record { image = image; steps = done ++ step.Exec path i ∷ [] }))
+    ap (λ b. if b then
+    (part_loaded first part >>= λ image. Ok (record { image = image; steps = done ++ step.Exec path i ∷ [] }))
     else (part_of_last (done ++ step.Exec path i ∷ []) part >>= λ steps. Ok (record { image = first; steps = steps })))
     (ne_eqb (length (done ++ step.Exec path i ∷ [])) 0 (λ none. omega (arith, size, none)))
     ∙ ap (λ r. r >>= λ steps. Ok (record { image = first; steps = steps })) (last_loaded done path i j part loads)
@@ -299,11 +318,13 @@ same_fault image (step.Exec path new) = refl
 same_fault image (step.Signal signal deadly) = refl
 same_fault image (step.Exit status) = refl
 
-in_force_after : (first : Image) (done : List Step) (s : Step) → in_force first (done ++ s ∷ []) ≡ image_after (in_force first done) s
+in_force_after : (first : Image) (done : List Step) (s : Step) → in_force first (done ++ s ∷ []) ≡ image_after
+    (in_force first done) s
 in_force_after first [] s = refl
 in_force_after first (d ∷ done) s = in_force_after (image_after first d) done s
 
-born_after : (done : List Step) (s : Step) → length (born_by (done ++ s ∷ [])) ≡ length (born_by done) + length (children_of s)
+born_after : (done : List Step) (s : Step) → length (born_by (done ++ s ∷ [])) ≡ length (born_by done) + length
+    (children_of s)
 born_after [] s = let same = ap (λ (l : List ℕ). length l) (append-nil (children_of s)) in omega (arith, same)
 born_after (d ∷ done) s =
     let more = born_after done s in
@@ -325,8 +346,10 @@ same_place (step.Exec path new) = refl
 same_place (step.Signal signal deadly) = refl
 same_place (step.Exit status) = refl
 
-line_leads : (all rows : List Row) (scripts : List Script) (row births : ℕ) (first image : Image) (done : List Step) (place : Place)
-    (s : Step) → IsInside place → IsAt rows row births first image done → length done < MOST_STEPS → HasNumbers s → IfExec s
+line_leads : (all rows : List Row) (scripts : List Script) (row births : ℕ) (first image : Image) (done : List Step)
+    (place : Place)
+    (s : Step) → IsInside place → IsAt rows row births first image done → length done < MOST_STEPS → HasNumbers s
+    → IfExec s
     → step_fault image.memory s ≡ None → AreFine all (late_of 1 row births s)
     → Leads all (step_words s ∷ []) (inside place rows scripts (record { image = first; steps = done }))
     (inside (place_after s) rows scripts (record { image = first; steps = done ++ without_image s ∷ [] }))
@@ -334,14 +357,17 @@ line_leads all rows scripts row births first image done place s in_block at room
     let before = inside place rows scripts (record { image = first; steps = done }) in
     let after = inside (place_after s) rows scripts (record { image = first; steps = done ++ without_image s ∷ [] }) in
     let none : next_step_fault (record { image = first; steps = done }) (without_image s) ≡ None =
-    ap (λ b. if b then step_fault (in_force first done).memory (without_image s) else Some cause.TooMany) (lt-ltb (length done) MOST_STEPS room)
+    ap (λ b. if b then step_fault (in_force first done).memory (without_image s) else Some cause.TooMany)
+    (lt-ltb (length done) MOST_STEPS room)
     ∙ ap (λ (i : Image). step_fault i.memory (without_image s)) at.image_is ∙ same_fault image s ∙ fits in
-    one all (step_words s) (line.Does (without_image s)) before after (step_are_words s is) (step_says place in_block s is)
+    one all (step_words s) (line.Does (without_image s)) before after (step_are_words s is)
+    (step_says place in_block s is)
     (λ n late fine_late. (
       late ++ late_of n (length rows - 1) (length (born_by done)) (without_image s),
       fine_both all late (late_of n (length rows - 1) (length (born_by done)) (without_image s)) fine_late
           (subst (λ r. AreFine all (late_of n r (length (born_by done)) (without_image s))) (sym at.row_is)
-          (subst (λ b. AreFine all (late_of n row b (without_image s))) (sym at.births_are) (fine_of all n row births s fine))),
+          (subst (λ b. AreFine all (late_of n row b (without_image s))) (sym at.births_are)
+          (fine_of all n row births s fine))),
       ap (λ o. unless_fault o (with_step n (with_late before late) (without_image s))) none
           ∙ ap (λ p. Ok (record {
             place = p;
@@ -352,25 +378,34 @@ line_leads all rows scripts row births first image done place s in_block at room
           })) (same_place s),
     ))
 
-step_leads : (all rows : List Row) (scripts : List Script) (row births : ℕ) (first image : Image) (done : List Step) (place : Place)
-    (s : Step) → IsInside place → IsAt rows row births first image done → length done < MOST_STEPS → HasNumbers s → IfExec s
+step_leads : (all rows : List Row) (scripts : List Script) (row births : ℕ) (first image : Image) (done : List Step)
+    (place : Place)
+    (s : Step) → IsInside place → IsAt rows row births first image done → length done < MOST_STEPS → HasNumbers s
+    → IfExec s
     → step_fault image.memory s ≡ None → AreFine all (late_of 1 row births s)
     → Leads all (step_lines s) (inside place rows scripts (record { image = first; steps = done }))
     (inside (place_after s) rows scripts (record { image = first; steps = done ++ s ∷ [] }))
 step_leads all rows scripts row births first image done place (step.Exec path new) in_block at room is loads fits fine =
     follow all (step_words (step.Exec path new) ∷ []) (image_lines new)
     (inside place rows scripts (record { image = first; steps = done }))
-    (inside Loading rows scripts (of_exec first done path no_image)) (inside Loading rows scripts (of_exec first done path new))
-    (line_leads all rows scripts row births first image done place (step.Exec path new) in_block at room is loads fits fine)
+    (inside Loading rows scripts (of_exec first done path no_image))
+    (inside Loading rows scripts (of_exec first done path new))
+    (line_leads all rows scripts row births first image done place
+    (step.Exec path new) in_block at room is loads fits fine)
     (image_leads all rows scripts (of_exec first done path) (sets_of_exec first done path) new loads)
-step_leads all rows scripts row births first image done place (step.Call nr arguments answer fill) in_block at room is loads fits fine =
-    line_leads all rows scripts row births first image done place (step.Call nr arguments answer fill) in_block at room is loads fits fine
+step_leads all rows scripts row births first image done place
+    (step.Call nr arguments answer fill) in_block at room is loads fits fine =
+    line_leads all rows scripts row births first image done place
+    (step.Call nr arguments answer fill) in_block at room is loads fits fine
 step_leads all rows scripts row births first image done place (step.Fork child) in_block at room is loads fits fine =
     line_leads all rows scripts row births first image done place (step.Fork child) in_block at room is loads fits fine
 step_leads all rows scripts row births first image done place (step.Thread child) in_block at room is loads fits fine =
-    line_leads all rows scripts row births first image done place (step.Thread child) in_block at room is loads fits fine
-step_leads all rows scripts row births first image done place (step.Signal signal deadly) in_block at room is loads fits fine =
-    line_leads all rows scripts row births first image done place (step.Signal signal deadly) in_block at room is loads fits fine
+    line_leads all rows scripts row births first image done place
+    (step.Thread child) in_block at room is loads fits fine
+step_leads all rows scripts row births first image done place
+    (step.Signal signal deadly) in_block at room is loads fits fine =
+    line_leads all rows scripts row births first image done place
+    (step.Signal signal deadly) in_block at room is loads fits fine
 step_leads all rows scripts row births first image done place (step.Exit status) in_block at room is loads fits fine =
     line_leads all rows scripts row births first image done place (step.Exit status) in_block at room is loads fits fine
 
@@ -387,7 +422,8 @@ abbrev place_of : Place → List Step → Place
 place_of place [] = place
 place_of place (s ∷ steps) = place_of (place_after s) steps
 
-steps_lead : (all rows : List Row) (scripts : List Script) (row births : ℕ) (first image : Image) (done steps : List Step) (place : Place)
+steps_lead : (all rows : List Row) (scripts : List Script) (row births : ℕ) (first image : Image)
+    (done steps : List Step) (place : Place)
     → IsInside place → IsAt rows row births first image done → length done + length steps ≤ MOST_STEPS
     → AreTaken all row births image steps
     → Leads all (steps_lines steps) (inside place rows scripts (record { image = first; steps = done }))
@@ -404,12 +440,14 @@ steps_lead all rows scripts row births first image done (s ∷ steps) place in_b
       births_are = born_after done s ∙ ap (λ n. n + length (children_of s)) at.births_are;
     } in
     subst (λ l. Leads all (steps_lines (s ∷ steps)) (inside place rows scripts (record { image = first; steps = done }))
-    (inside (place_of (place_after s) steps) rows scripts (record { image = first; steps = l }))) (append_assoc done (s ∷ []) steps)
+    (inside (place_of (place_after s) steps) rows scripts (record { image = first; steps = l })))
+    (append_assoc done (s ∷ []) steps)
     (follow all (step_lines s) (steps_lines steps) (inside place rows scripts (record { image = first; steps = done }))
     (inside (place_after s) rows scripts (record { image = first; steps = done ++ s ∷ [] }))
     (inside (place_of (place_after s) steps) rows scripts (record { image = first; steps = (done ++ s ∷ []) ++ steps }))
     (step_leads all rows scripts row births first image done place s in_block at (omega arith) are.0 are.1 are.2 are.3)
-    (steps_lead all rows scripts row (births + length (children_of s)) first (image_after image s) (done ++ s ∷ []) steps (place_after s)
+    (steps_lead all rows scripts row (births + length (children_of s)) first (image_after image s)
+    (done ++ s ∷ []) steps (place_after s)
     (inside_after s) next (omega (arith, longer)) are.4))
 
 inside_of : (place : Place) (steps : List Step) → IsInside place → IsInside (place_of place steps)
@@ -418,7 +456,8 @@ inside_of place (s ∷ steps) in_block = inside_of (place_after s) steps (inside
 
 -- ---- blocks
 row_opens : (all rows : List Row) (scripts : List Script) (row : Row) → push_fault rows row ≡ None → HasRanges row
-    → Leads all ((codes "tracee" ∷ spelled_row row) ∷ []) (outside rows scripts) (inside Loading (rows ++ row ∷ []) scripts (of_script no_image))
+    → Leads all ((codes "tracee" ∷ spelled_row row) ∷ []) (outside rows scripts)
+    (inside Loading (rows ++ row ∷ []) scripts (of_script no_image))
 row_opens all rows scripts row fits has =
     one all (codes "tracee" ∷ spelled_row row) (line.Opens row) (outside rows scripts)
     (inside Loading (rows ++ row ∷ []) scripts (of_script no_image)) (refl, row_are_words row has) (row_says row has)
@@ -431,10 +470,12 @@ row_opens all rows scripts row fits has =
 block_ends : (all rows : List Row) (scripts : List Script) (script : Script) (place : Place) → IsInside place
     → Leads all ((codes "end" ∷ []) ∷ []) (inside place rows scripts script) (outside rows (scripts ++ script ∷ []))
 block_ends all rows scripts script place in_block =
-    one all (codes "end" ∷ []) line.Closes (inside place rows scripts script) (outside rows (scripts ++ script ∷ [])) (refl, tt)
+    one all (codes "end" ∷ []) line.Closes (inside place rows scripts script) (outside rows (scripts ++ script ∷ []))
+    (refl, tt)
     (end_says place in_block) (λ n late fine. (late, fine, refl))
 
-block_leads : (all rows : List Row) (scripts : List Script) (row : Row) (script : Script) → push_fault rows row ≡ None → HasRanges row
+block_leads : (all rows : List Row) (scripts : List Script) (row : Row) (script : Script) → push_fault rows row ≡ None
+    → HasRanges row
     → IsTaken all (length rows) script
     → Leads all (block_lines row script) (outside rows scripts) (outside (rows ++ row ∷ []) (scripts ++ script ∷ []))
 block_leads all rows scripts row script fits has is =
@@ -447,26 +488,33 @@ block_leads all rows scripts row script fits has is =
     let opened = inside Loading (rows ++ row ∷ []) scripts (of_script no_image) in
     let loaded = inside Loading (rows ++ row ∷ []) scripts (of_script script.image) in
     let done = inside (place_of Loading script.steps) (rows ++ row ∷ []) scripts script in
-    follow all ((codes "tracee" ∷ spelled_row row) ∷ []) (image_lines script.image ++ (steps_lines script.steps ++ (codes "end" ∷ []) ∷ []))
-    (outside rows scripts) opened (outside (rows ++ row ∷ []) (scripts ++ script ∷ [])) (row_opens all rows scripts row fits has)
+    follow all ((codes "tracee" ∷ spelled_row row) ∷ [])
+    (image_lines script.image ++ (steps_lines script.steps ++ (codes "end" ∷ []) ∷ []))
+    (outside rows scripts) opened (outside (rows ++ row ∷ []) (scripts ++ script ∷ []))
+    (row_opens all rows scripts row fits has)
     (follow all (image_lines script.image) (steps_lines script.steps ++ (codes "end" ∷ []) ∷ []) opened loaded
     (outside (rows ++ row ∷ []) (scripts ++ script ∷ []))
     (image_leads all (rows ++ row ∷ []) scripts of_script sets_of_script script.image is.image)
-    (follow all (steps_lines script.steps) ((codes "end" ∷ []) ∷ []) loaded done (outside (rows ++ row ∷ []) (scripts ++ script ∷ []))
-    (steps_lead all (rows ++ row ∷ []) scripts (length rows) 0 script.image script.image [] script.steps Loading tt begin
+    (follow all (steps_lines script.steps) ((codes "end" ∷ []) ∷ []) loaded done
+    (outside (rows ++ row ∷ []) (scripts ++ script ∷ []))
+    (steps_lead all (rows ++ row ∷ []) scripts
+    (length rows) 0 script.image script.image [] script.steps Loading tt begin
     (let few = is.few in omega (arith, few)) is.steps)
-    (block_ends all (rows ++ row ∷ []) scripts script (place_of Loading script.steps) (inside_of Loading script.steps tt))))
+    (block_ends all (rows ++ row ∷ []) scripts script (place_of Loading script.steps)
+    (inside_of Loading script.steps tt))))
 
 count : (all : List Row) (i : ℕ) (scripts : List Script) → AreAllTaken all i scripts → i + length scripts ≡ length all
 count all i [] are = let last : i ≡ length all = are in omega (arith, last)
 count all i (script ∷ scripts) are = let more = count all (i + 1) scripts are.1 in omega (arith, more)
 
 blocks_lead : (all before rows : List Row) (done scripts : List Script) → first_fault before rows ≡ None
-    → length before + length rows ≤ MOST_ROWS → length before + length rows ≡ length all → AreAllTaken all (length before) scripts
+    → length before + length rows ≤ MOST_ROWS → length before + length rows ≡ length all → AreAllTaken all
+    (length before) scripts
     → Leads all (blocks_lines rows scripts) (outside before done) (outside (before ++ rows) (done ++ scripts))
 blocks_lead all before [] done [] fine few size are =
     subst (λ l. Leads all [] (outside before done) (outside l (done ++ []))) (sym (append-nil before))
-    (subst (λ l. Leads all [] (outside before done) (outside before l)) (sym (append-nil done)) (stays all (outside before done)))
+    (subst (λ l. Leads all [] (outside before done) (outside before l)) (sym (append-nil done))
+    (stays all (outside before done)))
 blocks_lead all before [] done (script ∷ scripts) fine few size are =
     absurd (let long = count all (length before) (script ∷ scripts) are in omega (arith, long, size))
 blocks_lead all before (row ∷ rows) done [] fine few size are =
@@ -476,13 +524,16 @@ blocks_lead all before (row ∷ rows) done (script ∷ scripts) fine few size ar
     let longer = length-append before (row ∷ []) in
     let next : length before + 1 ≡ length (before ++ row ∷ []) = omega (arith, longer) in
     let there = outside ((before ++ row ∷ []) ++ rows) ((done ++ script ∷ []) ++ scripts) in
-    subst (λ l. Leads all (blocks_lines (row ∷ rows) (script ∷ scripts)) (outside before done) (outside l (done ++ script ∷ scripts)))
+    subst (λ l. Leads all (blocks_lines (row ∷ rows) (script ∷ scripts)) (outside before done)
+    (outside l (done ++ script ∷ scripts)))
     (append_assoc before (row ∷ []) rows)
-    (subst (λ l. Leads all (blocks_lines (row ∷ rows) (script ∷ scripts)) (outside before done) (outside ((before ++ row ∷ []) ++ rows) l))
+    (subst (λ l. Leads all (blocks_lines (row ∷ rows) (script ∷ scripts)) (outside before done)
+    (outside ((before ++ row ∷ []) ++ rows) l))
     (append_assoc done (script ∷ []) scripts)
     (follow all (block_lines row script) (blocks_lines rows scripts) (outside before done)
     (outside (before ++ row ∷ []) (done ++ script ∷ [])) there
-    (block_leads all before done row script (row_fits before row (omega (arith, few)) parts.0) (row_ranges before row parts.0) are.0)
+    (block_leads all before done row script (row_fits before row (omega (arith, few)) parts.0)
+    (row_ranges before row parts.0) are.0)
     (blocks_lead all (before ++ row ∷ []) rows (done ++ script ∷ []) scripts parts.1 (omega (arith, longer, few))
     (omega (arith, longer, size)) (subst (λ i. AreAllTaken all i scripts) next are.1))))
 
@@ -492,16 +543,20 @@ no_late_fault all [] fine = refl
 no_late_fault all (l ∷ late) fine =
     ap (λ c. or_after l.line c (late_fault all late)) fine.0 ∙ no_late_fault all late fine.1
 
-pub case_back : (content : CaseContent) → IsCase content → IsSpelled content → case_of (case_spelling content) ≡ Ok content
+pub case_back : (content : CaseContent) → IsCase content → IsSpelled content → case_of
+    (case_spelling content) ≡ Ok content
 case_back content is spelled =
     let text = case_spelling content in
     let few = few_rows content.rows is.roster in
-    let taken = scripts_taken content.rows 0 content.scripts (let each = is.each in omega (arith, each)) is.scripts spelled.scripts in
-    let x = blocks_lead content.rows [] content.rows [] content.scripts (rows_fine content.rows is.roster) (omega (arith, few))
+    let taken = scripts_taken content.rows 0 content.scripts
+    (let each = is.each in omega (arith, each)) is.scripts spelled.scripts in
+    let x = blocks_lead content.rows [] content.rows [] content.scripts (rows_fine content.rows is.roster)
+    (omega (arith, few))
     (omega arith) taken 1 [] [] tt in
     let end = with_late (outside content.rows content.scripts) x.1 in
     let read : read_after line_read 1 nothing_read (lines_of text) ≡ Ok end =
-    ap (λ l. read_after line_read 1 nothing_read (lines_of l)) (sym (append-nil text)) ∙ x.3 ∙ all_read line_read x.0 end in
+    ap (λ l. read_after line_read 1 nothing_read (lines_of l)) (sym (append-nil text)) ∙ x.3
+    ∙ all_read line_read x.0 end in
     rw (le-leb (length text) most_bytes spelled.size)
     (ap (λ r. r >>= λ all. case_unless (closing_fault (last_line text) all) all) read
     ∙ ap (λ o. case_unless o end) (no_late_fault content.rows x.1 x.2))

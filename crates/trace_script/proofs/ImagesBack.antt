@@ -1,18 +1,20 @@
 -- The parts of an image load that image.
 use Rattle.std.proofs.Common.{refl, ◌≡◌, ◌⊎◌, ◌+◌, ◌-◌, ◌*◌, ◌%◌, ◌^◌, ◌<◌, ◌≤◌, ◌++◌, ◌∷◌, [], ℕ, Bool, true, false}
-use Rattle.std.proofs.Common.{◌&&◌, ◌||◌, ◌==◌, List, length, get_or, filter, map, cond, Option, Some, None, Result, Ok, Err, arith, ap, sym, ◌∙◌, inl, inr}
-use Rattle.std.proofs.Common.{is_some, nat_lt, nat_le, ltb-true, eqb-true, eq-eqb}
+use Rattle.std.proofs.Common.{◌&&◌, ◌||◌, ◌==◌, List, length, get_or, filter, map, cond, Option, Some, None, Result}
+use Rattle.std.proofs.Common.{Ok, Err, arith, ap, sym, ◌∙◌, inl, inr, is_some, nat_lt, nat_le, ltb-true, eqb-true}
+use Rattle.std.proofs.Common.{eq-eqb, lit<}
 use Rattle.std.specs.Prelude.{if◌then◌else◌, T}
-use Rattle.std.proofs.lemmas.Bool.{lt-leb}
+use Rattle.std.proofs.lemmas.Bool.{lt-leb, cases_lt}
 use Rattle.std.specs.List.{AllByRecursion, list_any}
 use Rattle.std.specs.Ordering.{eq_by_cmp, is_lt, nat_cmp}
 use Rattle.std.specs.declared.cmp.Ordering.TheVariants.{Less, Equal, Greater}
 use Rattle.std.specs.Cmp.{nat_cmp_total, unsigned_tied}
 use Rattle.std.specs.FinMap.Entries.{below_all, is_sorted}
-use Rattle.std.specs.FinMap.{contains_key-keys, empty, entries, entries_sorted, get-empty, keys, len, len-empty, len-insert}
-use Rattle.std.proofs.lemmas.Bool.{cases_lt}
+use Rattle.std.specs.FinMap.{contains_key-keys, empty, entries, entries_sorted, get-empty, keys, len, len-empty}
+use Rattle.std.specs.FinMap.{len-insert}
 use Rattle.text_lines.specs.Ranges.{◌>>=◌}
-use Rattle.trace_pages.specs.FlatMemory.{FlatMemory, Full, byte_after_store, byte_at, is_among, mapped, run, run_end, stored}
+use Rattle.trace_pages.specs.FlatMemory.{FlatMemory, Full, byte_after_store, byte_at, is_among, mapped, run, run_end}
+use Rattle.trace_pages.specs.FlatMemory.{stored}
 use Rattle.trace_pages.specs.Pages.{base_of}
 use Rattle.trace_pages.specs.Memory.{map_refusal}
 use Rattle.trace_pages.proofs.Among.{among_above, among_cases, among_yes}
@@ -27,7 +29,6 @@ use Rattle.trace_script.specs.CaseSpelling.{IsImage, image_parts, pages_of, page
 use Rattle.trace_script.specs.Script.{Image}
 use Rattle.trace_script.proofs.LinesSpelled.{IsPart}
 use Rattle.hex.specs.Hex.{IsBytes}
-use Rattle.std.proofs.Common.{lit<}
 use Rattle.std.proofs.lemmas.List.{get_or_past}
 
 -- what parts make of an image, one after the other
@@ -53,13 +54,15 @@ unfolding stored
 at_most m at [] = omega arith
 at_most m at (byte ∷ bytes) =
     let rest = at_most m (at + 1) bytes in
-    let added = one_more (is_some (byte_at (stored m (at + 1) bytes) at)) (len (stored m (at + 1) bytes)) (len m + length bytes) rest in
+    let added = one_more (is_some (byte_at (stored m (at + 1) bytes) at)) (len (stored m (at + 1) bytes))
+    (len m + length bytes) rest in
     let grown = len-insert nat_cmp_total (stored m (at + 1) bytes) at byte in
     omega (arith, added, grown)
 
 -- ---- one page
 -- the addresses of a page, where it is there
-there : (memory : FlatMemory) (page j : ℕ) → ((a : ℕ) → is_some (byte_at memory a) ≡ is_some (byte_at memory (base_of a)))
+there : (memory : FlatMemory) (page j : ℕ) →
+    ((a : ℕ) → is_some (byte_at memory a) ≡ is_some (byte_at memory (base_of a)))
     → page % 4096 ≡ 0 → is_some (byte_at memory page) ≡ true → j < 4096 → is_some (byte_at memory (page + j)) ≡ true
 there memory page j whole begins is below =
     let same : base_of (page + j) ≡ page = omega arith in
@@ -69,7 +72,8 @@ some_byte : (o : Option ℕ) → is_some o ≡ true → (byte : ℕ) × (o ≡ S
 some_byte None is = cc
 some_byte (Some byte) is = (byte, refl)
 
-full_page : (memory : FlatMemory) (page : ℕ) → ((a : ℕ) → is_some (byte_at memory a) ≡ is_some (byte_at memory (base_of a)))
+full_page : (memory : FlatMemory) (page : ℕ) →
+    ((a : ℕ) → is_some (byte_at memory a) ≡ is_some (byte_at memory (base_of a)))
     → page % 4096 ≡ 0 → page < 2 ^ 64 → is_some (byte_at memory page) ≡ true → run_end memory page 4096 ≡ Full
 full_page memory page whole begins below is =
     let all : 4096 ≡ 4096 + 0 = omega arith in
@@ -79,17 +83,20 @@ full_page memory page whole begins below is =
 
 -- ---- the bytes of pages
 stored_byte : (m memory : FlatMemory) (page a : ℕ) → run_end memory page 4096 ≡ Full
-    → byte_at (stored m page (run memory page 4096)) a ≡ (if is_among page 4096 a then byte_at memory a else byte_at m a)
+    → byte_at (stored m page (run memory page 4096)) a ≡
+    (if is_among page 4096 a then byte_at memory a else byte_at m a)
 stored_byte m memory page a full =
     byte_at-store m page (run memory page 4096) a
     ∙ ap (λ n. if is_among page n a then Some (get_or (run memory page 4096) (a - page) 0) else byte_at m a)
     (length-run-Full memory page 4096 full)
-    ∙ elim (among_cases page 4096 a) as (λ _. (if is_among page 4096 a then Some (get_or (run memory page 4096) (a - page) 0) else byte_at m a)
+    ∙ elim (among_cases page 4096 a) as
+    (λ _. (if is_among page 4096 a then Some (get_or (run memory page 4096) (a - page) 0) else byte_at m a)
     ≡ (if is_among page 4096 a then byte_at memory a else byte_at m a)) [
       | inl inside ↦
           let on : page + (a - page) ≡ a = omega (arith, inside.0) in
           let here : byte_at memory a ≡ Some (get_or (run memory page 4096) (a - page) 0) =
-          ap (byte_at memory) (sym on) ∙ get_or-run memory page 4096 (a - page) full (omega (arith, inside.0, inside.1)) in
+          ap (byte_at memory) (sym on)
+          ∙ get_or-run memory page 4096 (a - page) full (omega (arith, inside.0, inside.1)) in
           ap (λ (o : Option ℕ). if is_among page 4096 a then o else byte_at m a) (sym here)
       | inr off ↦ rw off refl
     ]
@@ -106,7 +113,8 @@ either false false h = cc
 abbrev on_pages : ℕ → List ℕ → Bool
 on_pages a pages = list_any (λ page. is_among page 4096 a) pages
 
-other_bytes : (memory m : FlatMemory) (pages : List ℕ) (a : ℕ) → AllByRecursion (λ page. run_end memory page 4096 ≡ Full) pages
+other_bytes : (memory m : FlatMemory) (pages : List ℕ) (a : ℕ) → AllByRecursion
+    (λ page. run_end memory page 4096 ≡ Full) pages
     → on_pages a pages ≡ false → byte_at (with_pages memory m pages) a ≡ byte_at m a
 other_bytes memory m [] a full off = refl
 other_bytes memory m (page ∷ pages) a full off =
@@ -114,7 +122,8 @@ other_bytes memory m (page ∷ pages) a full off =
     other_bytes memory (stored m page (run memory page 4096)) pages a full.1 parts.1
     ∙ stored_byte m memory page a full.0 ∙ rw parts.0 refl
 
-page_bytes : (memory m : FlatMemory) (pages : List ℕ) (a : ℕ) → AllByRecursion (λ page. run_end memory page 4096 ≡ Full) pages
+page_bytes : (memory m : FlatMemory) (pages : List ℕ) (a : ℕ) → AllByRecursion
+    (λ page. run_end memory page 4096 ≡ Full) pages
     → on_pages a pages ≡ true → byte_at (with_pages memory m pages) a ≡ byte_at memory a
 page_bytes memory m [] a full on = cc
 page_bytes memory m (page ∷ pages) a full on = elim (either (is_among page 4096 a) (on_pages a pages) on) [
@@ -134,7 +143,8 @@ zeros_gone : (m : FlatMemory) (page : ℕ) (bytes : List ℕ) → length bytes �
     → stored (mapped m page) page bytes ≡ stored m page bytes
 zeros_gone m page bytes size = same_memory _ _ (λ a.
     byte_at-store (mapped m page) page bytes a
-    ∙ elim (among_cases page 4096 a) as (λ _. byte_after_store (mapped m page) page bytes a ≡ byte_after_store m page bytes a) [
+    ∙ elim (among_cases page 4096 a) as
+    (λ _. byte_after_store (mapped m page) page bytes a ≡ byte_after_store m page bytes a) [
       | inl inside ↦ rw (size, among_yes page 4096 a inside.0 inside.1) refl
       | inr off ↦ rw (size, off) (byte_at-map m page a ∙ rw off refl)
     ]
@@ -166,14 +176,17 @@ pages_load memory m rip rsp low (page ∷ pages) rest apart full none few =
     stored_byte m memory page a full.0 ∙ rw (among_above page 4096 a high) (none a (omega (arith, apart.0))) in
     ap (λ r. page_loaded (record { memory = m; rip = rip; rsp = rsp }) page r >>= λ more. parts_loaded more
     (line.Data page bytes ∷ (pages_parts memory pages ++ rest))) free
-    ∙ ap (λ b. (if b then Ok (record { memory = stored (mapped m page) page bytes; rip = rip; rsp = rsp }) else Err Unmapped)
+    ∙ ap (λ b. (if b then Ok
+    (record { memory = stored (mapped m page) page bytes; rip = rip; rsp = rsp }) else Err Unmapped)
     >>= λ more. parts_loaded more (pages_parts memory pages ++ rest)) there
-    ∙ ap (λ (n : FlatMemory). parts_loaded (record { memory = n; rip = rip; rsp = rsp }) (pages_parts memory pages ++ rest))
+    ∙ ap (λ (n : FlatMemory). parts_loaded (record { memory = n; rip = rip; rsp = rsp })
+    (pages_parts memory pages ++ rest))
     (zeros_gone m page bytes size)
     ∙ pages_load memory (stored m page bytes) rip rsp (page + 4096) pages rest apart.3 full.1 after more
 
 -- ---- the pages of a memory
-each_weaker : {X : Type 0} (P Q : X → Type 0) → ((x : X) → P x → Q x) → (xs : List X) → AllByRecursion P xs → AllByRecursion Q xs
+each_weaker : {X : Type 0} (P Q : X → Type 0) → ((x : X) → P x → Q x) → (xs : List X) → AllByRecursion P xs
+    → AllByRecursion Q xs
 each_weaker P Q weaker [] all = tt
 each_weaker P Q weaker (x ∷ xs) all = (weaker x all.0, each_weaker P Q weaker xs all.1)
 
@@ -202,7 +215,8 @@ next_page : (x y : ℕ) → x % 4096 ≡ 0 → x < y → y % 4096 ≡ 0 → x + 
 next_page x y begins above also = omega arith
 
 -- the multiples of a page's size among rising numbers
-pages_apart : (low : ℕ) (es : List (ℕ × ℕ)) → T (is_sorted nat_cmp es) → AllByRecursion (λ e. e.0 % 4096 ≡ 0 → low ≤ e.0) es
+pages_apart : (low : ℕ) (es : List (ℕ × ℕ)) → T (is_sorted nat_cmp es) → AllByRecursion
+    (λ e. e.0 % 4096 ≡ 0 → low ≤ e.0) es
     → AllByRecursion (λ e. e.0 < 2 ^ 64) es → AreApart low (pages_in es)
 pages_apart low [] sorted above below = tt
 pages_apart low (e ∷ es) sorted above below =
@@ -214,7 +228,8 @@ pages_apart low (e ∷ es) sorted above below =
             begins,
             below.0,
             pages_apart (e.0 + 4096) es parts.1
-                (each_weaker (λ d. e.0 < d.0) (λ d. d.0 % 4096 ≡ 0 → e.0 + 4096 ≤ d.0) (λ d h also. next_page e.0 d.0 begins h also) es
+                (each_weaker (λ d. e.0 < d.0) (λ d. d.0 % 4096 ≡ 0 → e.0 + 4096 ≤ d.0)
+                (λ d h also. next_page e.0 d.0 begins h also) es
                 (rising e.0 es parts.0))
                 below.1,
           )
@@ -222,10 +237,12 @@ pages_apart low (e ∷ es) sorted above below =
     ] refl
 
 -- what holds of each key that begins a page
-each_page : (P : ℕ → Type 0) (es : List (ℕ × ℕ)) → AllByRecursion (λ e. e.0 % 4096 ≡ 0 → P e.0) es → AllByRecursion P (pages_in es)
+each_page : (P : ℕ → Type 0) (es : List (ℕ × ℕ)) → AllByRecursion (λ e. e.0 % 4096 ≡ 0 → P e.0) es → AllByRecursion P
+    (pages_in es)
 each_page P [] all = tt
 each_page P (e ∷ es) all =
-    elim (e.0 % 4096 == 0) as (λ b. (e.0 % 4096 == 0) ≡ b → AllByRecursion P (cond b (e.0 ∷ pages_in es) (pages_in es))) [
+    elim (e.0 % 4096 == 0) as
+    (λ b. (e.0 % 4096 == 0) ≡ b → AllByRecursion P (cond b (e.0 ∷ pages_in es) (pages_in es))) [
       | true ↦ λ is. (all.0 (eqb-true (e.0 % 4096) 0 is), each_page P es all.1)
       | false ↦ λ is. each_page P es all.1
     ] refl
@@ -268,7 +285,8 @@ page_found page a (e ∷ es) begins inside is =
     ]
 
 -- ---- an image
-key_there : (memory : FlatMemory) (key : ℕ) → list_any (eq_by_cmp nat_cmp key) (keys memory) ≡ true → is_some (byte_at memory key) ≡ true
+key_there : (memory : FlatMemory) (key : ℕ) → list_any (eq_by_cmp nat_cmp key) (keys memory) ≡ true → is_some
+    (byte_at memory key) ≡ true
 key_there memory key is = contains_key-keys memory key ∙ is
 
 pages_full : (image : Image) → IsImage image
@@ -324,7 +342,8 @@ spelled_bytes : (image : Image) → IsImage image → (page : ℕ) → run_end i
     → IsBytes (run image.memory page 4096)
 spelled_bytes image is page full i =
     elim (cases_lt i 4096) [
-      | inl inside ↦ is.bytes (page + i) (get_or (run image.memory page 4096) i 0) (get_or-run image.memory page 4096 i full inside)
+      | inl inside ↦ is.bytes (page + i) (get_or (run image.memory page 4096) i 0)
+          (get_or-run image.memory page 4096 i full inside)
       | inr past ↦
           let size = length-run-Full image.memory page 4096 full in
           rw (get_or_past (run image.memory page 4096) i 0 (omega (arith, size, past))) (lit< tt)

@@ -1,13 +1,13 @@
 -- The words of each line of a case say that line.
-use Rattle.std.proofs.Common.{refl, ◌≡◌, ◌+◌, ◌%◌, ◌^◌, ◌<◌, ◌≤◌, ◌&&◌, ◌++◌, ◌∷◌, [], ℕ, Bool, true, false}
-use Rattle.std.proofs.Common.{◌==◌, List, length, map, cond, Option, Some, None, Result, Ok, Err, arith, ap, sym, ◌∙◌}
-use Rattle.std.proofs.Common.{nat_le, nat_lt, lt-ltb, le-leb, ne_eqb, eq-eqb, eqb-true, codes, decimal, drop, take, find, IfSome}
+use Rattle.std.proofs.Common.{refl, ◌≡◌, ◌+◌, ◌%◌, ◌^◌, ◌<◌, ◌≤◌, ◌&&◌, ◌++◌, ◌∷◌, [], ℕ, Bool, true, false, ◌==◌}
+use Rattle.std.proofs.Common.{List, length, map, cond, Option, Some, None, Result, Ok, Err, arith, ap, sym, ◌∙◌}
+use Rattle.std.proofs.Common.{nat_le, nat_lt, lt-ltb, le-leb, ne_eqb, eq-eqb, eqb-true, codes, decimal, drop, take}
+use Rattle.std.proofs.Common.{find, IfSome, inl, inr}
 use Rattle.std.specs.Prelude.{IsSome, ok_or, if◌then◌else◌}
 use Rattle.std.specs.Int.{cast_signed, w64}
 use Rattle.std.specs.Int.Signed.{mag}
 use Rattle.std.specs.List.{AllByRecursion, list_all}
 use Rattle.std.specs.Result.{result_unwrap_or}
-use Rattle.std.proofs.Common.{inl, inr}
 use Rattle.std.proofs.lemmas.Bool.{and_from, and_parts, cases_lt, lt-leb}
 use Rattle.std.proofs.lemmas.List.Sums.{list_all-from_AllPass}
 use Rattle.std.proofs.lemmas.Fmt.{decimal_is_IsNumeral}
@@ -23,7 +23,11 @@ use Rattle.text_lines.proofs.Decimals.{decimal_is_word, decimal_read, integer_is
 use Rattle.text_lines.proofs.Spelled.{AreWords, all_above, is_word}
 use Rattle.trace_script.specs.declared.case.keyword.Place.{Place}
 use Rattle.trace_script.specs.declared.case.keyword.Place.TheVariants.{Loading, Outside, Stepping}
-use Rattle.trace_script.specs.CaseLine.{Part, Line, any_number, argument, arguments_before, arguments_of, call_of, data_part, does, filled_call, has_own_line, is_equals, loads, named_call, no_image, nr_in, nr_named, page_part, plain_call, start_part, answer_of, answered_call, bytes_of, bytes_written, is_byte_word, line_of, whole_page, word_of}
+use Rattle.trace_script.specs.CaseLine.{Part, Line, any_number, argument, arguments_before, arguments_of, call_of}
+use Rattle.trace_script.specs.CaseLine.{data_part, does, filled_call, has_own_line, is_equals, loads, named_call}
+use Rattle.trace_script.specs.CaseLine.{no_image, nr_in, nr_named, page_part, plain_call, start_part, answer_of}
+use Rattle.trace_script.specs.CaseLine.{answered_call, bytes_of, bytes_written, is_byte_word, line_of, whole_page}
+use Rattle.trace_script.specs.CaseLine.{word_of}
 use Rattle.trace_script.specs.CaseLine as line
 use Rattle.trace_script.specs.Script.{Fill, Image, Step}
 use Rattle.trace_script.specs.Script as step
@@ -73,7 +77,8 @@ hex_is_byte_word bytes are some =
 pub bytes_read : (bytes : List ℕ) → IsBytes bytes → 1 ≤ length bytes → bytes_of (encode_lower bytes) ≡ Ok bytes
 unfolding bytes_written
 bytes_read bytes are some =
-    ap (λ b. if b then Ok (result_unwrap_or (decode_of (encode_lower bytes)) []) else Err BadHex) (hex_is_byte_word bytes are some)
+    ap (λ b. if b then Ok (result_unwrap_or (decode_of (encode_lower bytes)) []) else Err BadHex)
+    (hex_is_byte_word bytes are some)
     ∙ ap (λ (r : Result (List ℕ) FromHexError). Ok (result_unwrap_or r [])) (decode_of-encode_lower bytes are)
 
 pub bytes_are_word : (bytes : List ℕ) → IsBytes bytes → 1 ≤ length bytes → is_word (encode_lower bytes) ≡ true
@@ -137,8 +142,31 @@ part_are_words (line.Start rip rsp) is = (refl, (decimal_is_word rip is.0, (deci
 -- ---- calls
 is_named : AllByRecursion (λ call. is_word call.name ≡ true) syscall_table
 unfolding syscall_table
-is_named =
-    (refl, (refl, (refl, (refl, (refl, (refl, (refl, (refl, (refl, (refl, (refl, (refl, (refl, (refl, (refl, tt)))))))))))))))
+is_named = (
+  refl,
+  (
+    refl,
+    (
+      refl,
+      (
+        refl,
+        (
+          refl,
+          (
+            refl,
+            (
+              refl,
+              (
+                refl,
+                (refl, (refl, (refl, (refl, (refl, (refl, (refl, tt))))))),
+              ),
+            ),
+          ),
+        ),
+      ),
+    ),
+  ),
+)
 
 passes : {X : Type 0} (test : X → Bool) (xs : List X) (x : X) → find test xs ≡ Some x → test x ≡ true
 passes test [] x is = cc
@@ -155,12 +183,15 @@ named nr (Some call) is there other back =
     let same : call.number ≡ nr = eqb-true call.number nr (passes (λ c. c.number == nr) syscall_table call is) in
     ap nr_in back ∙ rw same (ap (λ b. if b then Err UnknownWord else Ok nr) other)
 
-pub nr_read : (nr : ℕ) → IsSome (syscall_numbered nr) → has_own_line nr ≡ false → nr_named (name_in (syscall_numbered nr)) ≡ Ok nr
+pub nr_read : (nr : ℕ) → IsSome (syscall_numbered nr) → has_own_line nr ≡ false → nr_named
+    (name_in (syscall_numbered nr)) ≡ Ok nr
 nr_read nr known other =
     named nr (syscall_numbered nr) refl known other
-    (found {X = SyscallRow} (λ call. call.number == nr) (λ call. syscall_named call.name ≡ Some call) syscall_table found_by_name)
+    (found {X = SyscallRow} (λ call. call.number == nr)
+    (λ call. syscall_named call.name ≡ Some call) syscall_table found_by_name)
 
-name_word : (o : Option SyscallRow) → IsSome o → IfSome o (λ call. is_word call.name ≡ true) → is_word (name_in o) ≡ true
+name_word : (o : Option SyscallRow) → IsSome o → IfSome o (λ call. is_word call.name ≡ true) → is_word
+    (name_in o) ≡ true
 name_word None there is = cc
 name_word (Some call) there is = is
 
@@ -187,7 +218,8 @@ six_before a b c d e f rest ha hb hc hd he hf =
     rw (ha, hb, hc, hd, he, hf, inside) refl
 
 six_read : (a b c d e f : ℕ) → a < 2 ^ 64 → b < 2 ^ 64 → c < 2 ^ 64 → d < 2 ^ 64 → e < 2 ^ 64 → f < 2 ^ 64
-    → arguments_of (decimal a ∷ decimal b ∷ decimal c ∷ decimal d ∷ decimal e ∷ decimal f ∷ []) ≡ Ok (a ∷ b ∷ c ∷ d ∷ e ∷ f ∷ [])
+    → arguments_of (decimal a ∷ decimal b ∷ decimal c ∷ decimal d ∷ decimal e ∷ decimal f ∷ []) ≡ Ok
+    (a ∷ b ∷ c ∷ d ∷ e ∷ f ∷ [])
 six_read a b c d e f ha hb hc hd he hf =
     rw (any_read a ha, any_read b hb, any_read c hc, any_read d hd, any_read e he, any_read f hf) refl
 
@@ -203,26 +235,35 @@ filled_said : (nr : ℕ) (words : List (List ℕ)) (arguments : List ℕ) (answe
     ≡ Ok (step.Call nr arguments answer (Some fill))
 filled_said nr words arguments answer fill reads small is =
     ap (λ r. r >>= λ numbers. answer_of (answer_word answer) >>= λ word. any_number (decimal fill.address) >>= λ at.
-    bytes_of (encode_lower fill.bytes) >>= λ written. Ok (step.Call nr numbers word (Some (record { address = at; bytes = written })))) reads
+    bytes_of (encode_lower fill.bytes) >>= λ written. Ok
+    (step.Call nr numbers word (Some (record { address = at; bytes = written })))) reads
     ∙ ap (λ r. r >>= λ word. any_number (decimal fill.address) >>= λ at.
-    bytes_of (encode_lower fill.bytes) >>= λ written. Ok (step.Call nr arguments word (Some (record { address = at; bytes = written })))) (answer_read answer small)
+    bytes_of (encode_lower fill.bytes) >>= λ written. Ok
+    (step.Call nr arguments word (Some (record { address = at; bytes = written })))) (answer_read answer small)
     ∙ ap (λ r. r >>= λ at.
-    bytes_of (encode_lower fill.bytes) >>= λ written. Ok (step.Call nr arguments answer (Some (record { address = at; bytes = written })))) (any_read fill.address is.address)
-    ∙ ap (λ r. r >>= λ written. Ok (step.Call nr arguments answer (Some (record { address = fill.address; bytes = written })))) (bytes_read fill.bytes is.bytes is.some)
+    bytes_of (encode_lower fill.bytes) >>= λ written. Ok
+    (step.Call nr arguments answer (Some (record { address = at; bytes = written }))))
+    (any_read fill.address is.address)
+    ∙ ap (λ r. r >>= λ written. Ok
+    (step.Call nr arguments answer (Some (record { address = fill.address; bytes = written }))))
+    (bytes_read fill.bytes is.bytes is.some)
 
 answered : (nr : ℕ) (words : List (List ℕ)) (arguments : List ℕ) (answer : ℕ) (fill : Option Fill)
     → arguments_of words ≡ Ok arguments → answer < 2 ^ 64 → AreFills fill
     → answered_call nr words (answer_word answer ∷ fill_words fill) ≡ Ok (step.Call nr arguments answer fill)
 answered nr words arguments answer None reads small is = plain_said nr words arguments answer reads small
-answered nr words arguments answer (Some fill) reads small is = filled_said nr words arguments answer fill reads small is
+answered nr words arguments answer
+    (Some fill) reads small is = filled_said nr words arguments answer fill reads small is
 
-with_name : (name : List ℕ) (rest : List (List ℕ)) → call_of (name ∷ rest) ≡ (nr_named name >>= λ nr. named_call nr rest)
+with_name : (name : List ℕ) (rest : List (List ℕ)) → call_of (name ∷ rest) ≡
+    (nr_named name >>= λ nr. named_call nr rest)
 with_name name rest =
     ap (λ b. if b then Err UnknownWord else (nr_named name >>= λ nr. named_call nr rest))
     (ne_eqb (length (name ∷ rest)) 0 (λ none. omega (arith, none)))
 
 call_said : (nr : ℕ) (arguments : List ℕ) (answer : ℕ) (fill : Option Fill) → IsCall nr arguments answer fill
-    → call_of (name_in (syscall_numbered nr) ∷ (map decimal arguments ++ codes "=" ∷ answer_word answer ∷ fill_words fill))
+    → call_of (name_in (syscall_numbered nr) ∷
+    (map decimal arguments ++ codes "=" ∷ answer_word answer ∷ fill_words fill))
     ≡ Ok (step.Call nr arguments answer fill)
 call_said nr (a ∷ b ∷ c ∷ d ∷ e ∷ f ∷ []) answer fill is =
     let n = is.numbers in
@@ -230,9 +271,11 @@ call_said nr (a ∷ b ∷ c ∷ d ∷ e ∷ f ∷ []) answer fill is =
     let rest = answer_word answer ∷ fill_words fill in
     with_name (name_in (syscall_numbered nr)) (words ++ codes "=" ∷ rest)
     ∙ ap (λ r. r >>= λ nr. named_call nr (words ++ codes "=" ∷ rest)) (nr_read nr is.known is.other)
-    ∙ ap (λ r. r >>= λ count. answered_call nr (take count (words ++ codes "=" ∷ rest)) (drop (count + 1) (words ++ codes "=" ∷ rest)))
+    ∙ ap (λ r. r >>= λ count. answered_call nr (take count (words ++ codes "=" ∷ rest))
+    (drop (count + 1) (words ++ codes "=" ∷ rest)))
     (six_before (decimal a) (decimal b) (decimal c) (decimal d) (decimal e) (decimal f) rest (no_equals_in a n.0)
-    (no_equals_in b n.1.0) (no_equals_in c n.1.1.0) (no_equals_in d n.1.1.1.0) (no_equals_in e n.1.1.1.1.0) (no_equals_in f n.1.1.1.1.1.0))
+    (no_equals_in b n.1.0) (no_equals_in c n.1.1.0) (no_equals_in d n.1.1.1.0) (no_equals_in e n.1.1.1.1.0)
+    (no_equals_in f n.1.1.1.1.1.0))
     ∙ answered nr words (a ∷ b ∷ c ∷ d ∷ e ∷ f ∷ []) answer fill
     (six_read a b c d e f n.0 n.1.0 n.1.1.0 n.1.1.1.0 n.1.1.1.1.0 n.1.1.1.1.1.0) is.word is.filled
 call_said nr [] answer fill is = absurd (let six = is.six in omega (arith, six))

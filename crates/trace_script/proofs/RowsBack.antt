@@ -1,14 +1,15 @@
 -- The words of a row say that row.
-use Rattle.std.proofs.Common.{◌≡◌, ◌<◌, [], nat_lt, lt-ltb, ◌≤◌, ◌&&◌, ◌||◌, ℕ, Bool, true, false, not, Option, Some, None, List, Ok, length}
-use Rattle.std.proofs.Common.{arith, cond, eqb, eqb-true, le-leb, leb-true, nat_le, decimal, is_some, refl, ap, ◌∙◌}
-use Rattle.std.proofs.Common.{inl, inr, ◌⊎◌, lit<}
+use Rattle.std.proofs.Common.{◌≡◌, ◌<◌, [], nat_lt, lt-ltb, ◌≤◌, ◌&&◌, ◌||◌, ℕ, Bool, true, false, not, Option, Some}
+use Rattle.std.proofs.Common.{None, List, Ok, length, arith, cond, eqb, eqb-true, le-leb, leb-true, nat_le, decimal}
+use Rattle.std.proofs.Common.{is_some, refl, ap, ◌∙◌, inl, inr, ◌⊎◌, lit<}
 use Rattle.std.proofs.lemmas.Bool.{and_from, and_parts, not-false, or_cases}
 use Rattle.stop_history.specs.declared.limits.TheConstants.{LAST_ID, MOST_ROWS}
 use Rattle.stop_history.specs.declared.roster.Row.{Row}
 use Rattle.stop_history.specs.declared.roster.RosterError.{RosterError}
 use Rattle.stop_history.specs.declared.roster.RosterError.TheVariants as fault
 use Rattle.stop_history.specs.declared.roster.RosterError.TheVariants.{TooMany}
-use Rattle.stop_history.specs.Roster.{IsRoster, family_fault, first_fault, or_later, push_fault, fault_after, has_ids, is_id, is_root, parent_in, with_tid}
+use Rattle.stop_history.specs.Roster.{IsRoster, family_fault, first_fault, or_later, push_fault, fault_after, has_ids}
+use Rattle.stop_history.specs.Roster.{is_id, is_root, parent_in, with_tid}
 use Rattle.text_lines.specs.Ranges.{◌>>=◌, number_between}
 use Rattle.text_lines.proofs.Decimals.{decimal_between, decimal_is_word}
 use Rattle.text_lines.proofs.Spelled.{AreWords, is_word}

@@ -61,7 +61,8 @@ fill_words (Some fill) = codes "fill" ∷ decimal fill.address ∷ encode_lower 
 
 abbrev pub step_words : Step → List (List ℕ)
 step_words (step.Call nr arguments answer fill) =
-    codes "call" ∷ name_in (syscall_numbered nr) ∷ (map decimal arguments ++ codes "=" ∷ answer_word answer ∷ fill_words fill)
+    codes "call" ∷ name_in (syscall_numbered nr) ∷
+    (map decimal arguments ++ codes "=" ∷ answer_word answer ∷ fill_words fill)
 step_words (step.Fork child) = codes "fork" ∷ decimal child ∷ []
 step_words (step.Thread child) = codes "thread" ∷ decimal child ∷ []
 step_words (step.Exec path image) = codes "exec" ∷ decimal path ∷ []
@@ -83,7 +84,8 @@ steps_lines (step ∷ steps) = step_lines step ++ steps_lines steps
 -- the lines of a row's block, each as its words
 abbrev pub block_lines : Row → Script → List (List (List ℕ))
 block_lines row script =
-    (codes "tracee" ∷ spelled_row row) ∷ (image_lines script.image ++ (steps_lines script.steps ++ (codes "end" ∷ []) ∷ []))
+    (codes "tracee" ∷ spelled_row row) ∷
+    (image_lines script.image ++ (steps_lines script.steps ++ (codes "end" ∷ []) ∷ []))
 
 abbrev pub blocks_lines : List Row → List Script → List (List (List ℕ))
 blocks_lines (row ∷ rows) (script ∷ scripts) = block_lines row script ++ blocks_lines rows scripts

@@ -1,14 +1,10 @@
 -- A spelled content is read back, row by row and then order by order.
-use Rattle.std.proofs.Common.{◌≡◌, ◌+◌, ◌<◌, ◌≤◌, ◌++◌, ◌∷◌, [], ℕ, Bool, true, false, None, Some, Option, List, Ok}
-use Rattle.std.proofs.Common.{length, length-append, arith, cond, nat_lt, le-leb, lt-ltb, append_assoc, append-nil}
-use Rattle.std.proofs.Common.{ap, sym}
-use Rattle.std.proofs.Common.{◌∙◌}
+use Rattle.std.proofs.Common.{◌≡◌, ◌+◌, ◌<◌, ◌≤◌, ◌++◌, ◌∷◌, [], ℕ, None, List, Ok, length, length-append, arith}
+use Rattle.std.proofs.Common.{le-leb, append_assoc, append-nil, ap, sym, ◌∙◌}
 use Rattle.std.proofs.lemmas.List.Elements.{All-head, All-tail}
 use Rattle.std.specs.List.{All, join_with_byte}
 use Rattle.stop_history.specs.declared.roster.Row.{Row}
-use Rattle.stop_history.specs.declared.roster.RosterError.{RosterError}
-use Rattle.stop_history.specs.declared.roster.RosterError.TheVariants.{TooMany}
-use Rattle.stop_history.specs.Roster.{IsRoster, fault_after, first_fault, or_later, row_at}
+use Rattle.stop_history.specs.Roster.{IsRoster, fault_after, first_fault, row_at}
 use Rattle.stop_history.specs.declared.limits.TheConstants.{MOST_ROWS}
 use Rattle.stop_history.proofs.Rosters.{both_none, few_rows, row_of-tid, tid_in_range}
 use Rattle.tracer_cli.specs.declared.order.Order.{Order}
@@ -20,12 +16,11 @@ use Rattle.text_lines.specs.Lines.{line_text, lines_of}
 use Rattle.trace_script.specs.Reading.{most_bytes, with_cause}
 use Rattle.tracer_cli.specs.File.{ReplayContent, content_after, content_of, has_begun, line_added, line_read}
 use Rattle.tracer_cli.specs.File.{order_added, row_added}
-use Rattle.tracer_cli.specs.Spelling.{IsContent, IsOrderOf, order_words, orders_text, row_words, rows_text}
-use Rattle.tracer_cli.specs.Spelling.{spelling}
+use Rattle.tracer_cli.specs.Spelling.{IsContent, IsOrderOf, order_words, orders_text, row_words, rows_text, spelling}
 use Rattle.tracer_cli.proofs.LinesBack.{command_are_words, command_line_read, row_line_are_words, row_line_read}
 use Rattle.text_lines.proofs.Spelled.{AreWords, line_spelled, words_joined}
 use Rattle.trace_script.proofs.LinesRead.{all_read, goes_on}
-use Rattle.trace_script.proofs.RowsBack.{ends_id, row_ranges}
+use Rattle.trace_script.proofs.RowsBack.{ends_id, row_fits, row_ranges, rows_fine}
 
 -- a spelled line is the first line, and its words are read
 first_line : (n : ℕ) (so_far new : ReplayContent) (words : List (List ℕ)) (said : Line) (rest : List ℕ) → AreWords words
@@ -46,10 +41,7 @@ with_orders rows orders = record { rows = rows; orders = orders }
 
 row_takes : (before : List Row) (row : Row) → length before < MOST_ROWS → fault_after before row ≡ None
     → line_added (only_rows before) (line.Row row) ≡ Ok (only_rows (before ++ row ∷ []))
-row_takes before row room fits =
-    ap (λ fault. row_added (only_rows before) row
-    (or_later fault (cond (nat_lt (length before) MOST_ROWS) None (Some TooMany)))) fits
-    ∙ rw (lt-ltb (length before) MOST_ROWS room)
+row_takes before row room fits = ap (row_added (only_rows before) row) (row_fits before row room fits)
 
 -- rows are read after those before them
 rows_read : (before rows : List Row) (rest : List ℕ) (all : ReplayContent) → first_fault before rows ≡ None
@@ -95,16 +87,12 @@ orders_read rows before (order ∷ orders) roster all n =
     ∙ orders_read rows (before ++ order ∷ []) orders roster (All-tail (IsOrderOf rows) order orders all) (n + 1)
     ∙ ap (λ os. Ok (with_orders rows os)) (append_assoc before (order ∷ []) orders)
 
-no_fault : (b : Bool) (fault : Option RosterError) (many : RosterError) → cond b fault (Some many) ≡ None → fault ≡ None
-no_fault true fault many h = h
-no_fault false fault many h = cc
-
 -- what is spelled is read
 pub read_back : (content : ReplayContent) → IsContent content → content_of (spelling content) ≡ Ok content
 read_back content is =
     let small : length (spelling content) ≤ most_bytes = is.size in
     let few : length content.rows ≤ MOST_ROWS = few_rows content.rows is.roster in
     rw (le-leb (length (spelling content)) most_bytes small)
-    (rows_read [] content.rows (orders_text content.rows content.orders) content (no_fault _ _ _ is.roster)
+    (rows_read [] content.rows (orders_text content.rows content.orders) content (rows_fine content.rows is.roster)
     (omega arith)
     (orders_read content.rows [] content.orders is.roster is.orders) 1)

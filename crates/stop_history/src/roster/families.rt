@@ -59,8 +59,6 @@ pub fn is_next_child(rows: &[Row], parent: usize, births: usize, child: Option<u
 {
     match child {
         None => false,
-        Some(child) => {
-            rows[child].parent == rows[parent].tid && rank(rows, child) == births
-        }
+        Some(child) => { rows[child].parent == rows[parent].tid && rank(rows, child) == births }
     }
 }

@@ -153,13 +153,12 @@ fn push_late<A: Allocator>(all: &mut Vec<Late, A>, late: Option<Late>) -> Result
     Ok(())
 }
 
-/// Closes the block. What its script has kept for further steps is given back.
+/// Closes the block.
 fn close_block<A: Allocator + Copy>(alloc: A, draft: &mut Draft<A>) -> Result<(), Cause>
     ensures line { TakesLine result (reading_of draft.new) (with_line 0 (reading_of draft.old) line.Closes) }
     ensures counted { OnOk result (IsCounted draft.new.block) }
 {
     close_loaded(draft.place, &mut draft.block.script);
-    draft.block.script.steps.shrink_to_fit();
     let Block { script, .. } = mem::replace(&mut draft.block, new_block(alloc));
     if draft.scripts.push(script).is_err() {
         return Err(Cause::NoMemory);

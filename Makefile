@@ -7,7 +7,7 @@ RUSTC ?= rustc
 PYTHON ?= python3
 PREFIX ?= /usr/local
 OUT = bench/out
-# A program that reads a case file (bench/read_case.rt), in a copy of the libraries that it needs.
+# A program that reads a case file (bench/read_case.rattle), in a copy of the libraries that it needs.
 READER = $(OUT)/reader
 LIBRARIES = trace_status trace_regs trace_options trace_pages trace_record stop_history stop_board text_lines trace_script
 # Takes the name and the status from a line of rt's report.
@@ -48,7 +48,7 @@ examples:
 	@mkdir -p $(READER)/crates/read_case/src $(READER)/crates/read_case/specs $(READER)/crates/read_case/proofs
 	@for crate in $(LIBRARIES); do mkdir -p $(READER)/crates/$$crate \
 		&& cp -R crates/$$crate/src crates/$$crate/specs crates/$$crate/proofs $(READER)/crates/$$crate/ || exit 1; done
-	@cp bench/read_case.rt $(READER)/crates/read_case/src/main.rt
+	@cp bench/read_case.rattle $(READER)/crates/read_case/src/main.rt
 	@touch $(READER)/crates/read_case/specs/Lib.antt $(READER)/crates/read_case/proofs/Lib.antt
 	@{ grep -v '^tracer\|^system_tests\|^refusing_allocator' crates.txt; echo "read_case: trace_script stop_board"; } \
 		> $(READER)/crates.txt
@@ -56,6 +56,7 @@ examples:
 	  || { echo "$$found"; echo "examples: FAILED: a case file was not read" >&2; exit 1; }; \
 	echo "$$found" | sed -n -e '$(ENDED)' -e '/: status /p' | diff -u examples/cases - \
 	  || { echo "examples: FAILED: a case file was not read (- wanted, + found)" >&2; exit 1; }
+	@rm -rf $(READER)
 	@echo "examples: each case file of examples/run was read"
 
 check: kit
@@ -88,7 +89,7 @@ bench-case: tools kit
 	@$(OUT)/generate_case > $(OUT)/case.txt
 	@cp crates.txt $(OUT)/crates.txt; trap 'cp $(OUT)/crates.txt crates.txt; rm -rf crates/read_case' EXIT INT TERM; \
 	mkdir -p crates/read_case/src crates/read_case/specs crates/read_case/proofs \
-	  && cp bench/read_case.rt crates/read_case/src/main.rt \
+	  && cp bench/read_case.rattle crates/read_case/src/main.rt \
 	  && touch crates/read_case/specs/Lib.antt crates/read_case/proofs/Lib.antt \
 	  && echo "read_case: trace_script stop_board" >> crates.txt \
 	  && (cd crates/read_case && $(RT) run < /dev/null > /dev/null) && cp crates/read_case/out/read_case $(OUT)/read_case

@@ -186,7 +186,7 @@ fn prefixes_of_whole_lines_lack_an_end_or_a_child(rt: HostRuntime) {
 }
 
 /// Lines after `tracee 100 100 77 0` and `page 0x10000`, and the cause that the last of them is refused for.
-const FAULTY: [(&str, Cause); 64] = [
+const FAULTY: [(&str, Cause); 66] = [
     ("pages 0x20000", Cause::UnknownWord),
     ("tracee 101 101 77 100", Cause::UnknownWord),
     ("page", Cause::UnknownWord),
@@ -250,6 +250,8 @@ const FAULTY: [(&str, Cause); 64] = [
     ("signal 0", Cause::Signal),
     ("signal 9", Cause::Signal),
     ("signal 19", Cause::Signal),
+    ("signal 20", Cause::Signal),
+    ("signal 21", Cause::Signal),
     ("signal 22 deadly", Cause::Signal),
     ("signal 32", Cause::Signal),
     ("signal 265", Cause::Signal),

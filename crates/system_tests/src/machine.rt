@@ -21,6 +21,9 @@ const CONT: Resume = Resume {
     signal: 0,
 };
 
+/// A thread, and a signal that is the last one; the thread does nothing.
+const THREAD: &[u8] = b"tracee 5 5 5 0\nthread 6\nsignal 31\nend\ntracee 6 5 5 5\nend\n";
+
 /// What `rax` holds until a call has an answer.
 const NO_ANSWER: u64 = 18_446_744_073_709_551_578;
 
@@ -239,5 +242,47 @@ fn a_deadly_signal_kills_by_the_signal_of_the_restart(rt: HostRuntime) -> Result
         };
         assert_eq!(rt; machine.next(how, &mut record), Next::Death(*death));
     }
+    Ok(())
+}
+
+#[test]
+fn a_thread_is_a_clone_with_its_flags(rt: HostRuntime) -> Result<(), Fail> {
+    let case = Case::read(rt.alloc(), THREAD)?;
+    let Some(mut machine) = machine_of(rt.alloc(), &case, 0xb, &no_calls()) else {
+        return Ok(assert!(rt; false, "there is a machine"));
+    };
+    let mut record = StopRecord::empty(rt.alloc(), 5);
+    let stops = [(CONT, Stop::Start), (SYSCALL, Stop::Enter)];
+    assert_eq!(rt; stops_made(&mut machine, &mut record, &stops), 2);
+    assert_eq!(rt; (record.regs.orig_rax, record.regs.rdi), (56, 0x10900));
+    let stops = [
+        (CONT, Stop::Clone(6)),
+        (SYSCALL, Stop::Exit),
+        (CONT, Stop::Signal(31)),
+    ];
+    assert_eq!(rt; stops_made(&mut machine, &mut record, &stops), 3);
+    assert_eq!(rt; record.regs.rax, 6);
+    assert_eq!(rt;
+        machine.next(CONT, &mut record),
+        Next::Death(Death::Exited(0))
+    );
+    Ok(())
+}
+
+#[test]
+fn a_script_of_no_steps_stops_once(rt: HostRuntime) -> Result<(), Fail> {
+    let case = Case::read(rt.alloc(), b"tracee 7 7 7 0\nend\n")?;
+    let Some(mut machine) = machine_of(rt.alloc(), &case, 0x1, &no_calls()) else {
+        return Ok(assert!(rt; false, "there is a machine"));
+    };
+    let mut record = StopRecord::empty(rt.alloc(), 7);
+    assert_eq!(rt;
+        stops_made(&mut machine, &mut record, &[(SYSCALL, Stop::Start)]),
+        1
+    );
+    assert_eq!(rt;
+        machine.next(SYSCALL, &mut record),
+        Next::Death(Death::Exited(0))
+    );
     Ok(())
 }

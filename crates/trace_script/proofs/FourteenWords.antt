@@ -14,7 +14,7 @@ use Rattle.trace_script.specs.declared.case.keyword.Keyword.TheVariants as keywo
 use Rattle.trace_script.specs.declared.case.keyword.Place.{Place}
 use Rattle.trace_script.specs.CaseLine.{Line, Nothing, answered_call, arguments_before, call_of, data_part, does}
 use Rattle.trace_script.specs.CaseLine.{exec_step, exit_step, few_before, filled_call, fork_step, is_deadly_word, is_equals}
-use Rattle.trace_script.specs.CaseLine.{is_fill, keyword_at, line_of, loads, named_call, nr_named, page_part, plain_call}
+use Rattle.trace_script.specs.CaseLine.{is_fill, keyword_at, line_of, loads, named_call, only_word, nr_named, page_part, plain_call}
 use Rattle.trace_script.specs.CaseLine.{rest_of, signal_of, signal_step, start_part, thread_step}
 use Rattle.trace_script.specs.CaseLine as line
 use Rattle.trace_script.specs.RowWords.{row_of_words}
@@ -155,15 +155,16 @@ call words =
 
 -- ---- lines
 
+lone : (words : List (List ℕ)) → only_word (take 13 words) ≡ only_word words
+lone words = of_some 13 words 1 (λ ws. Ok (nth_word ws 0)) _ _ (lit< tt) (one 13 words (λ w. Ok w) (lit< tt)) refl
+
 at_most_twelve : (word : Keyword) (words : List (List ℕ)) → rest_of word (take 13 words) ≡ rest_of word words
 at_most_twelve keyword.Tracee words =
     of_some 13 words 4
     (λ ws. row_of_words (nth_word ws 0) (nth_word ws 1) (nth_word ws 2) (nth_word ws 3) >>= λ row. Ok (line.Opens row))
     _ _ (lit< tt)
     (four 13 words (λ a b c d. row_of_words a b c d >>= λ row. Ok (line.Opens row)) (lit< tt)) refl
-at_most_twelve keyword.Page words =
-    of_some 13 words 1 (λ ws. loads (page_part (nth_word ws 0))) _ _ (lit< tt)
-    (one 13 words (λ w. loads (page_part w)) (lit< tt)) refl
+at_most_twelve keyword.Page words = ap (λ only. only >>= λ word. loads (page_part word)) (lone words)
 at_most_twelve keyword.Data words =
     of_some 13 words 2 (λ ws. loads (data_part (nth_word ws 0) (nth_word ws 1))) _ _ (lit< tt)
     (two 13 words (λ a b. loads (data_part a b)) (lit< tt)) refl
@@ -171,23 +172,15 @@ at_most_twelve keyword.At words =
     of_some 13 words 2 (λ ws. loads (start_part (nth_word ws 0) (nth_word ws 1))) _ _ (lit< tt)
     (two 13 words (λ a b. loads (start_part a b)) (lit< tt)) refl
 at_most_twelve keyword.Call words = ap does (call words)
-at_most_twelve keyword.Fork words =
-    of_some 13 words 1 (λ ws. does (fork_step (nth_word ws 0))) _ _ (lit< tt)
-    (one 13 words (λ w. does (fork_step w)) (lit< tt)) refl
-at_most_twelve keyword.Thread words =
-    of_some 13 words 1 (λ ws. does (thread_step (nth_word ws 0))) _ _ (lit< tt)
-    (one 13 words (λ w. does (thread_step w)) (lit< tt)) refl
-at_most_twelve keyword.Exec words =
-    of_some 13 words 1 (λ ws. does (exec_step (nth_word ws 0))) _ _ (lit< tt)
-    (one 13 words (λ w. does (exec_step w)) (lit< tt)) refl
+at_most_twelve keyword.Fork words = ap (λ only. only >>= λ word. does (fork_step word)) (lone words)
+at_most_twelve keyword.Thread words = ap (λ only. only >>= λ word. does (thread_step word)) (lone words)
+at_most_twelve keyword.Exec words = ap (λ only. only >>= λ word. does (exec_step word)) (lone words)
 at_most_twelve keyword.Signal words = ap does
     (of_some 13 words 1 (λ ws. signal_step (nth_word ws 0) false) _ _ (lit< tt)
     (one 13 words (λ w. signal_step w false) (lit< tt))
     (of_some_and 13 words 2 1 is_deadly_word (λ ws. signal_step (nth_word ws 0) true) (Err UnknownWord) (lit< tt) (lit< tt)
     (one 13 words (λ w. signal_step w true) (lit< tt))))
-at_most_twelve keyword.Exit words =
-    of_some 13 words 1 (λ ws. does (exit_step (nth_word ws 0))) _ _ (lit< tt)
-    (one 13 words (λ w. does (exit_step w)) (lit< tt)) refl
+at_most_twelve keyword.Exit words = ap (λ only. only >>= λ word. does (exit_step word)) (lone words)
 at_most_twelve keyword.End words = of_some 13 words 0 (λ ws. Ok line.Closes) _ _ (lit< tt) refl refl
 
 pub first_fourteen : (place : Place) (words : List (List ℕ)) → line_of place (take 14 words) ≡ line_of place words

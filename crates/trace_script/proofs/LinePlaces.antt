@@ -9,7 +9,7 @@ use Rattle.trace_script.specs.declared.case.keyword.Keyword.{Keyword}
 use Rattle.trace_script.specs.declared.case.keyword.Keyword.TheVariants as keyword
 use Rattle.trace_script.specs.declared.case.keyword.Place.{Place}
 use Rattle.trace_script.specs.declared.case.keyword.Place.TheVariants.{Loading, Outside, Stepping}
-use Rattle.trace_script.specs.CaseLine.{Line, Part, call_of, data_part, does, exec_step, exit_step, fork_step, in_place}
+use Rattle.trace_script.specs.CaseLine.{only_word, Line, Part, call_of, data_part, does, exec_step, exit_step, fork_step, in_place}
 use Rattle.trace_script.specs.CaseLine.{keyword_at, keyword_of, line_of, loads, may_come, page_part, rest_of, signal_of}
 use Rattle.trace_script.specs.CaseLine.{start_part, thread_step}
 use Rattle.trace_script.specs.CaseLine as line
@@ -89,14 +89,18 @@ signal_in Outside = refl
 signal_in Loading = refl
 signal_in Stepping = refl
 
+by_only : (word : Keyword) (lone : Result (List ℕ) LineFault) (read : List ℕ → Result Line LineFault)
+    → ((w : List ℕ) → IfOk (read w) (ComesWith word)) → IfOk (lone >>= read) (ComesWith word)
+by_only word (Ok w) read each = each w
+by_only word (Err fault) read each = tt
+
 rest_comes : (word : Keyword) (words : List (List ℕ)) → IfOk (rest_of word words) (ComesWith word)
 rest_comes keyword.Tracee words =
     only_if keyword.Tracee (eqb (length words) 4) _
     (said_by keyword.Tracee line.Opens (λ row place h. h)
     (row_of_words (nth_word words 0) (nth_word words 1) (nth_word words 2) (nth_word words 3)))
 rest_comes keyword.Page words =
-    only_if keyword.Page (eqb (length words) 1) _
-    (loads_part keyword.Page (λ place h. h) (page_part (nth_word words 0)))
+    by_only keyword.Page (only_word words) _ (λ w. loads_part keyword.Page (λ place h. h) (page_part w))
 rest_comes keyword.Data words =
     only_if keyword.Data (eqb (length words) 2) _
     (loads_part keyword.Data data_comes (data_part (nth_word words 0) (nth_word words 1)))
@@ -105,18 +109,17 @@ rest_comes keyword.At words =
     (loads_part keyword.At at_comes (start_part (nth_word words 0) (nth_word words 1)))
 rest_comes keyword.Call words = does_step keyword.Call (step_comes keyword.Call call_in) (call_of words)
 rest_comes keyword.Fork words =
-    only_if keyword.Fork (eqb (length words) 1) _
-    (does_step keyword.Fork (step_comes keyword.Fork fork_in) (fork_step (nth_word words 0)))
+    by_only keyword.Fork (only_word words) _
+    (λ w. does_step keyword.Fork (step_comes keyword.Fork fork_in) (fork_step w))
 rest_comes keyword.Thread words =
-    only_if keyword.Thread (eqb (length words) 1) _
-    (does_step keyword.Thread (step_comes keyword.Thread thread_in) (thread_step (nth_word words 0)))
+    by_only keyword.Thread (only_word words) _
+    (λ w. does_step keyword.Thread (step_comes keyword.Thread thread_in) (thread_step w))
 rest_comes keyword.Exec words =
-    only_if keyword.Exec (eqb (length words) 1) _
-    (does_step keyword.Exec (step_comes keyword.Exec exec_in) (exec_step (nth_word words 0)))
+    by_only keyword.Exec (only_word words) _
+    (λ w. does_step keyword.Exec (step_comes keyword.Exec exec_in) (exec_step w))
 rest_comes keyword.Signal words = does_step keyword.Signal (step_comes keyword.Signal signal_in) (signal_of words)
 rest_comes keyword.Exit words =
-    only_if keyword.Exit (eqb (length words) 1) _
-    (does_step keyword.Exit (λ place h. h) (exit_step (nth_word words 0)))
+    by_only keyword.Exit (only_word words) _ (λ w. does_step keyword.Exit (λ place h. h) (exit_step w))
 rest_comes keyword.End words = only_if keyword.End (eqb (length words) 0) (Ok line.Closes) (λ place h. h)
 
 comes_in : (place : Place) (word : Keyword) (read : Result Line LineFault) → IfOk read (ComesWith word)

@@ -1,6 +1,7 @@
 //! Laws of the definitions: each function is its contract alone.
 
-ghost use Rattle.std.specs.Prelude.{◌≡◌, ◌≢◌, ◌+◌, ◌*◌, ℕ, List, Some, [], codes, length, option_map, slice_get, Ok};
+ghost use Rattle.std.specs.Prelude.{◌≡◌, ◌≢◌, ◌+◌, ◌*◌, ◌^◌, ℕ, List, Some, None, [], codes, length, option_map, slice_get, Ok};
+ghost use Rattle.trace_options.specs.SignalNames.{signal_name};
 ghost use Rattle.trace_options.specs.Syscalls.{syscall_named};
 ghost use Rattle.trace_record.specs.Resume.{IsResume};
 ghost use Rattle.trace_record.specs.declared.death.Death.{Death};
@@ -19,8 +20,12 @@ ghost use Rattle.trace_script.specs.StopTrace.{Broken, Context, Dead, DeathIs, F
 ghost use Rattle.trace_script.specs.StopTrace.{Position, StopIs, Turn, context_after, ended, how_after};
 ghost use Rattle.trace_script.specs.StopTrace.{next_element, next_position, opening_position, outcome_at};
 ghost use Rattle.trace_script.specs.StopTrace.{position_after, trace_at, trace_of, with_stops};
-ghost use Rattle.trace_script.specs.declared.calls.TheConstants.{CLONE, EXECVE, EXIT, FORK};
+ghost use Rattle.trace_script.specs.declared.calls.TheConstants.{CLONE, CLONE_THREAD_FLAGS, EXECVE, EXIT, FORK};
+ghost use Rattle.trace_script.specs.declared.case.keyword.TheConstants.{KEYWORDS};
+ghost use Rattle.trace_script.specs.declared.limits.TheConstants.{MOST_BYTES, MOST_STEPS};
 ghost use Rattle.trace_script.specs.declared.setting.Setting.{Setting};
+ghost use Rattle.trace_script.specs.declared.signals.TheConstants.{LAST_STANDARD, SIGKILL, SIGSTOP, SIGTSTP, SIGTTIN};
+ghost use Rattle.trace_script.specs.declared.signals.TheConstants.{SIGTTOU};
 
 /// A run is the trace: where each stop is the next element for the restart and the content taken up, and each restart
 /// the policy's, the stops of the run are those with which the trace under the policy begins; and it ends as the run
@@ -82,6 +87,27 @@ pub fn steps_are_known_calls()
     ensures fork { option_map (λ call. call.number) (syscall_named (codes "fork")) ≡ Some FORK }
     ensures execve { option_map (λ call. call.number) (syscall_named (codes "execve")) ≡ Some EXECVE }
     ensures exit { option_map (λ call. call.number) (syscall_named (codes "exit")) ≡ Some EXIT }
+{}
+
+/// The signals that cannot arrive have the names of the table of signals, and the last signal is its last.
+#[tactic(auto, unfolding(trace_options::specs::SignalNames::signal_table))]
+pub fn signals_are_known()
+    ensures kill { signal_name SIGKILL ≡ Some (codes "SIGKILL") }
+    ensures stop { signal_name SIGSTOP ≡ Some (codes "SIGSTOP") }
+    ensures tstp { signal_name SIGTSTP ≡ Some (codes "SIGTSTP") }
+    ensures ttin { signal_name SIGTTIN ≡ Some (codes "SIGTTIN") }
+    ensures ttou { signal_name SIGTTOU ≡ Some (codes "SIGTTOU") }
+    ensures last { signal_name LAST_STANDARD ≡ Some (codes "SIGSYS") }
+    ensures later { signal_name (LAST_STANDARD + 1) ≡ None }
+{}
+
+/// The limits of files and scripts, the flags of the clone that makes a thread (`<linux/sched.h>`, `CLONE_VM`,
+/// `CLONE_SIGHAND` and `CLONE_THREAD`), and how many words a line may begin with.
+pub fn numbers_are_fixed()
+    ensures bytes { MOST_BYTES ≡ 2 ^ 24 }
+    ensures steps { MOST_STEPS ≡ 2 ^ 16 }
+    ensures thread { CLONE_THREAD_FLAGS ≡ 0x100 + 0x800 + 0x10000 }
+    ensures words { length KEYWORDS ≡ 11 }
 {}
 
 /// A case that is spelled as a file is read back from it. What `IsCase` says is known of every case that was read.

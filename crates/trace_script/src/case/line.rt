@@ -2,7 +2,7 @@
 
 ghost use Rattle.std.specs.Prelude.{◌≡◌, IfOk, map};
 ghost use Rattle.text_lines.specs.Lines.{words_in};
-ghost use Rattle.trace_script.specs.CaseLine.{data_part, exec_step, exit_step, fork_step, line_of, page_part};
+ghost use Rattle.trace_script.specs.CaseLine.{data_part, line_of, only_word, page_part};
 ghost use Rattle.trace_script.specs.CaseLine.{rest_of, signal_of, signal_step, start_part, thread_step};
 ghost use Rattle.trace_script.specs.RawLine.{IsTested, IsTestedPart, IsTestedStep, if_said, line_said, part_said};
 ghost use Rattle.trace_script.specs.RawLine.{step_said};
@@ -54,10 +54,7 @@ fn rest_of<'a>(keyword: Keyword, words: &[&'a [u8]]) -> Result<RawLine<'a>, Line
             }
             _ => Err(LineFault::UnknownWord),
         },
-        Keyword::Page => match words {
-            [address] => Ok(RawLine::Loads(page_part(address)?)),
-            _ => Err(LineFault::UnknownWord),
-        },
+        Keyword::Page => Ok(RawLine::Loads(page_part(only(words)?)?)),
         Keyword::Data => match words {
             [address, bytes] => Ok(RawLine::Loads(data_part(address, bytes)?)),
             _ => Err(LineFault::UnknownWord),
@@ -67,27 +64,25 @@ fn rest_of<'a>(keyword: Keyword, words: &[&'a [u8]]) -> Result<RawLine<'a>, Line
             _ => Err(LineFault::UnknownWord),
         },
         Keyword::Call => Ok(RawLine::Does(RawStep::Call(read_call(words)?))),
-        Keyword::Fork => match words {
-            [tid] => Ok(RawLine::Does(RawStep::Fork(id(tid)?))),
-            _ => Err(LineFault::UnknownWord),
-        },
-        Keyword::Thread => match words {
-            [tid] => Ok(RawLine::Does(RawStep::Thread(id(tid)?))),
-            _ => Err(LineFault::UnknownWord),
-        },
-        Keyword::Exec => match words {
-            [address] => Ok(RawLine::Does(RawStep::Exec(any_number(address)?))),
-            _ => Err(LineFault::UnknownWord),
-        },
+        Keyword::Fork => Ok(RawLine::Does(RawStep::Fork(id(only(words)?)?))),
+        Keyword::Thread => Ok(RawLine::Does(RawStep::Thread(id(only(words)?)?))),
+        Keyword::Exec => Ok(RawLine::Does(RawStep::Exec(any_number(only(words)?)?))),
         Keyword::Signal => Ok(RawLine::Does(signal_of(words)?)),
-        Keyword::Exit => match words {
-            [status] => Ok(RawLine::Does(RawStep::Exit(any_number(status)?))),
-            _ => Err(LineFault::UnknownWord),
-        },
+        Keyword::Exit => Ok(RawLine::Does(RawStep::Exit(any_number(only(words)?)?))),
         Keyword::End => match words {
             [] => Ok(RawLine::Closes),
             _ => Err(LineFault::UnknownWord),
         },
+    }
+}
+
+/// The word, where there is one alone.
+fn only<'a>(words: &[&'a [u8]]) -> Result<&'a [u8], LineFault>
+    ensures { if_said (λ w. w.now) result ≡ only_word (map (λ w. w.now) words.now) }
+{
+    match words {
+        [word] => Ok(word),
+        _ => Err(LineFault::UnknownWord),
     }
 }
 

@@ -79,6 +79,7 @@ bench: tools all
 	@$(RUSTC) -O --edition 2024 -o $(OUT)/plain bench/plain.rs
 	@$(OUT)/generate > $(OUT)/replay.txt
 	@$(PYTHON) bench/compare.py "bin/tracer replay" $(OUT)/plain $(OUT)/replay.txt
+	@$(MAKE) --no-print-directory bench-case
 
 # The program that is timed is a crate of the repository for as long as it is built.
 bench-case: tools kit

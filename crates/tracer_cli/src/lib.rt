@@ -14,6 +14,6 @@ mod replies;
 
 pub use entry::{process, program};
 pub use failure::Failure;
-pub use laws::what_is_spelled_is_read;
+pub use laws::{what_is_spelled_is_read, words_are_counted};
 pub use replay::replay_text;
 pub use trace_script::{CaseError, Cause};

@@ -27,18 +27,19 @@ const THREAD: &[u8] = b"tracee 5 5 5 0\nthread 6\nsignal 31\nend\ntracee 6 5 5 5
 /// What `rax` holds until a call has an answer.
 const NO_ANSWER: u64 = 18_446_744_073_709_551_578;
 
-/// A machine of the first row, if the options are ones that a tracer takes.
+/// The machine of a row, if there is one and the options are ones that a tracer takes.
 pub(crate) fn machine_of<A: Allocator + Copy>(
     alloc: A,
     case: &Case<A>,
+    row: u32,
     bits: u32,
     filter: &Filter,
 ) -> Option<Machine<A>> {
     let options = Options::from_bits(bits)?;
-    if case.roster().len() == 0 || check(options).is_err() {
+    if row >= case.roster().len() || check(options).is_err() {
         return None;
     }
-    Machine::new(alloc, case, 0, options, filter).ok()
+    Machine::new(alloc, case, row, options, filter).ok()
 }
 
 /// A filter that stops no call.
@@ -72,7 +73,7 @@ fn stops_made<A: Allocator>(
 #[test]
 fn every_call_stops_twice_and_a_fork_once_more(rt: HostRuntime) -> Result<(), Fail> {
     let case = Case::read(rt.alloc(), FORK)?;
-    let Some(mut machine) = machine_of(rt.alloc(), &case, 0x1b, &no_calls()) else {
+    let Some(mut machine) = machine_of(rt.alloc(), &case, 0, 0x1b, &no_calls()) else {
         return Ok(assert!(rt; false, "there is a machine"));
     };
     let mut record = StopRecord::empty(rt.alloc(), 100);
@@ -112,7 +113,7 @@ fn a_filter_stops_its_calls_alone(rt: HostRuntime) -> Result<(), Fail> {
     let case = Case::read(rt.alloc(), FORK)?;
     let mut filter = no_calls();
     filter.calls.add(1);
-    let Some(mut machine) = machine_of(rt.alloc(), &case, 0x9b, &filter) else {
+    let Some(mut machine) = machine_of(rt.alloc(), &case, 0, 0x9b, &filter) else {
         return Ok(assert!(rt; false, "there is a machine"));
     };
     let mut record = StopRecord::empty(rt.alloc(), 100);
@@ -135,7 +136,7 @@ fn a_fault_changes_nothing(rt: HostRuntime) -> Result<(), Fail> {
     let text =
         b"tracee 100 100 77 0\npage 0x10000\ncall read 0 0x10000 1 = 1 fill 0x10000 61\nend\n";
     let case = Case::read(rt.alloc(), text)?;
-    let Some(mut machine) = machine_of(rt.alloc(), &case, 0x1, &no_calls()) else {
+    let Some(mut machine) = machine_of(rt.alloc(), &case, 0, 0x1, &no_calls()) else {
         return Ok(assert!(rt; false, "there is a machine"));
     };
     let mut record = StopRecord::empty(rt.alloc(), 100);
@@ -170,7 +171,7 @@ fn an_exec_puts_another_program_in(rt: HostRuntime) -> Result<(), Fail> {
         b"tracee 400 400 400 0\npage 0x10000\nat 1 2\nexec 0x10000\npage 0x20000\nat 0x20000 0x20ff0\n\
         call read 0 0x20000 1 = 1 fill 0x20000 62\nexit 0\nend\n";
     let case = Case::read(rt.alloc(), text)?;
-    let Some(mut machine) = machine_of(rt.alloc(), &case, 0x11, &no_calls()) else {
+    let Some(mut machine) = machine_of(rt.alloc(), &case, 0, 0x11, &no_calls()) else {
         return Ok(assert!(rt; false, "there is a machine"));
     };
     let mut record = StopRecord::empty(rt.alloc(), 400);
@@ -230,7 +231,7 @@ fn a_deadly_signal_kills_by_the_signal_of_the_restart(rt: HostRuntime) -> Result
         ),
     ];
     for (signal, death) in &deaths {
-        let Some(mut machine) = machine_of(rt.alloc(), &case, 0x1, &no_calls()) else {
+        let Some(mut machine) = machine_of(rt.alloc(), &case, 0, 0x1, &no_calls()) else {
             return Ok(assert!(rt; false, "there is a machine"));
         };
         let mut record = StopRecord::empty(rt.alloc(), 200);
@@ -248,7 +249,7 @@ fn a_deadly_signal_kills_by_the_signal_of_the_restart(rt: HostRuntime) -> Result
 #[test]
 fn a_thread_is_a_clone_with_its_flags(rt: HostRuntime) -> Result<(), Fail> {
     let case = Case::read(rt.alloc(), THREAD)?;
-    let Some(mut machine) = machine_of(rt.alloc(), &case, 0xb, &no_calls()) else {
+    let Some(mut machine) = machine_of(rt.alloc(), &case, 0, 0xb, &no_calls()) else {
         return Ok(assert!(rt; false, "there is a machine"));
     };
     let mut record = StopRecord::empty(rt.alloc(), 5);
@@ -272,7 +273,7 @@ fn a_thread_is_a_clone_with_its_flags(rt: HostRuntime) -> Result<(), Fail> {
 #[test]
 fn a_script_of_no_steps_stops_once(rt: HostRuntime) -> Result<(), Fail> {
     let case = Case::read(rt.alloc(), b"tracee 7 7 7 0\nend\n")?;
-    let Some(mut machine) = machine_of(rt.alloc(), &case, 0x1, &no_calls()) else {
+    let Some(mut machine) = machine_of(rt.alloc(), &case, 0, 0x1, &no_calls()) else {
         return Ok(assert!(rt; false, "there is a machine"));
     };
     let mut record = StopRecord::empty(rt.alloc(), 7);
@@ -280,6 +281,27 @@ fn a_script_of_no_steps_stops_once(rt: HostRuntime) -> Result<(), Fail> {
         stops_made(&mut machine, &mut record, &[(SYSCALL, Stop::Start)]),
         1
     );
+    assert_eq!(rt;
+        machine.next(SYSCALL, &mut record),
+        Next::Death(Death::Exited(0))
+    );
+    Ok(())
+}
+
+#[test]
+fn a_child_has_a_script_of_its_own(rt: HostRuntime) -> Result<(), Fail> {
+    let case = Case::read(rt.alloc(), FORK)?;
+    let Some(mut machine) = machine_of(rt.alloc(), &case, 1, 0x1b, &no_calls()) else {
+        return Ok(assert!(rt; false, "there is a machine"));
+    };
+    let mut record = StopRecord::empty(rt.alloc(), 101);
+    let stops = [(CONT, Stop::Start), (SYSCALL, Stop::Enter)];
+    assert_eq!(rt; stops_made(&mut machine, &mut record, &stops), 2);
+    assert_eq!(rt;
+        (record.tid, record.regs.orig_rax, record.regs.rdi),
+        (101, 60, 0)
+    );
+    assert_eq!(rt; record.memory.byte(0x10000), None);
     assert_eq!(rt;
         machine.next(SYSCALL, &mut record),
         Next::Death(Death::Exited(0))

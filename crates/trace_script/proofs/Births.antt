@@ -10,14 +10,14 @@ use Rattle.trace_record.specs.Stop.{IsStop, child_of}
 use Rattle.trace_record.specs.declared.death.Death.TheVariants.{Signaled}
 use Rattle.trace_record.specs.declared.resume.Resume.{Resume}
 use Rattle.trace_record.specs.declared.stop.Stop.{Stop}
-use Rattle.trace_script.specs.Births.{AreGood, AreInRange, IsGoodOutcome, IsInRange, NamesByOption, TellsBirths}
-use Rattle.trace_script.specs.Births.{TellsNoBirths, born_by, children_of, children_told, may_halt, told_if, with_child}
+use Rattle.trace_script.specs.Births.{AreGood, AreInRange, IsGoodOutcome, IsInRange, NamesByOption, ReportsBirths}
+use Rattle.trace_script.specs.Births.{ReportsNoBirths, born_by, children_of, children_reported, may_halt, reported_if, with_child}
 use Rattle.trace_script.specs.CaseFacts.{AreSteps}
 use Rattle.trace_script.specs.Script.{Fill, Script, Step}
 use Rattle.trace_script.specs.Script as step
 use Rattle.trace_script.specs.Signals.{can_arrive, kills_or_stops}
 use Rattle.trace_script.specs.StepStops.{Act, Halts, Loads, Calls, Becomes, Stores, Answers, Delivers, Dies, acts_of}
-use Rattle.trace_script.specs.StepStops.{When, Always, Traced, Filtered, Told, acts_of_script, acts_of_steps, halts}
+use Rattle.trace_script.specs.StepStops.{When, Always, Traced, Filtered, ByOption, acts_of_script, acts_of_steps, halts}
 use Rattle.trace_script.specs.StepStops.{has_option}
 use Rattle.trace_script.specs.StopTrace.{Context, Stops, GoesOn, Ends}
 use Rattle.trace_script.specs.StopTrace.{advance, context, outcome_by, store_effect}
@@ -27,37 +27,37 @@ use Rattle.trace_status.specs.WaitStatus.{IsSignal}
 
 -- ---- what comes next
 
-none_told : (b : Bool) → told_if b None ≡ None
-none_told true = refl
-none_told false = refl
+none_reported : (b : Bool) → reported_if b None ≡ None
+none_reported true = refl
+none_reported false = refl
 
 -- a child is named exactly where the tracee stops
-told_is : (s : Setting) (how : Resume) (when : When) (child : Option ℕ) → NamesByOption when child
-    → told_if (may_halt s when) child ≡ told_if (halts s how when) child
-told_is s how when None names = none_told (may_halt s when) ∙ sym (none_told (halts s how when))
-told_is s how (Told option) (Some child) names = refl
-told_is s how Always (Some child) names = absurd names
-told_is s how Traced (Some child) names = absurd names
-told_is s how (Filtered nr) (Some child) names = absurd names
+reported_is : (s : Setting) (how : Resume) (when : When) (child : Option ℕ) → NamesByOption when child
+    → reported_if (may_halt s when) child ≡ reported_if (halts s how when) child
+reported_is s how when None names = none_reported (may_halt s when) ∙ sym (none_reported (halts s how when))
+reported_is s how (ByOption option) (Some child) names = refl
+reported_is s how Always (Some child) names = absurd names
+reported_is s how Traced (Some child) names = absurd names
+reported_is s how (Filtered nr) (Some child) names = absurd names
 
 halt_by : (s : Setting) (how : Resume) (b : Bool) (at : Stop) (acts : List Act) (x : Context) (children : List ℕ)
-    → IsStop at → AreGood acts → children ≡ with_child (told_if b (child_of at)) (children_told s acts)
-    → IsGoodOutcome s (children_told s acts) (advance s how acts x)
+    → IsStop at → AreGood acts → children ≡ with_child (reported_if b (child_of at)) (children_reported s acts)
+    → IsGoodOutcome s (children_reported s acts) (advance s how acts x)
     → IsGoodOutcome s children (outcome_by (cond b (Stops at) (GoesOn x)) acts x (advance s how acts))
 halt_by s how true at acts x children stop good same again = (stop, good, same)
 halt_by s how false at acts x children stop good same again =
     subst (λ cs. IsGoodOutcome s cs (advance s how acts x)) (sym same) again
 
 at_store : (s : Setting) (how : Resume) (end : RunEnd) (acts : List Act) (x y : Context)
-    → IsGoodOutcome s (children_told s acts) (advance s how acts y)
-    → IsGoodOutcome s (children_told s acts) (outcome_by (store_effect (store_answer end) y) acts x (advance s how acts))
+    → IsGoodOutcome s (children_reported s acts) (advance s how acts y)
+    → IsGoodOutcome s (children_reported s acts) (outcome_by (store_effect (store_answer end) y) acts x (advance s how acts))
 at_store s how Full acts x y again = again
 at_store s how (Absent address) acts x y again = tt
 at_store s how Top acts x y again = tt
 
 at_signal : (s : Setting) (how : Resume) (acts : List Act) (x : Context) → IsResume how
-    → IsGoodOutcome s (children_told s acts) (advance s how acts x)
-    → IsGoodOutcome s (children_told s acts)
+    → IsGoodOutcome s (children_reported s acts) (advance s how acts x)
+    → IsGoodOutcome s (children_reported s acts)
     (outcome_by (cond (eqb how.signal 0) (GoesOn x) (Ends (Signaled how.signal false))) acts x (advance s how acts))
 at_signal s how acts x range again = elim (eqb_tells how.signal 0) [
   | inl none ↦ rw none.0 again
@@ -65,11 +65,11 @@ at_signal s how acts x range again = elim (eqb_tells how.signal 0) [
 ]
 
 pub good_next : (s : Setting) (how : Resume) (acts : List Act) (x : Context) → IsResume how → AreGood acts
-    → IsGoodOutcome s (children_told s acts) (advance s how acts x)
+    → IsGoodOutcome s (children_reported s acts) (advance s how acts x)
 good_next s how [] x range good = tt
 good_next s how (Halts when at ∷ acts) x range good =
     halt_by s how (halts s how when) at acts x _ good.0.0 good.1
-    (ap (λ child. with_child child (children_told s acts)) (told_is s how when (child_of at) good.0.1))
+    (ap (λ child. with_child child (children_reported s acts)) (reported_is s how when (child_of at) good.0.1))
     (good_next s how acts x range good.1)
 good_next s how (Loads image ∷ acts) x range good = good_next s how acts _ range good
 good_next s how (Calls nr arguments ∷ acts) x range good = good_next s how acts _ range good
@@ -118,61 +118,61 @@ with_append : (child : Option ℕ) (a b : List ℕ) → with_child child (a ++ b
 with_append None a b = refl
 with_append (Some child) a b = refl
 
-told_append : (s : Setting) (a b : List Act) → children_told s (a ++ b) ≡ children_told s a ++ children_told s b
-told_append s [] b = refl
-told_append s (Halts when at ∷ a) b =
-    let child = told_if (may_halt s when) (child_of at) in
-    ap (with_child child) (told_append s a b) ∙ with_append child (children_told s a) (children_told s b)
-told_append s (Loads image ∷ a) b = told_append s a b
-told_append s (Calls nr arguments ∷ a) b = told_append s a b
-told_append s (Becomes image ∷ a) b = told_append s a b
-told_append s (Stores fill ∷ a) b = told_append s a b
-told_append s (Answers answer ∷ a) b = told_append s a b
-told_append s (Delivers ∷ a) b = told_append s a b
-told_append s (Dies death ∷ a) b = told_append s a b
+reported_append : (s : Setting) (a b : List Act) → children_reported s (a ++ b) ≡ children_reported s a ++ children_reported s b
+reported_append s [] b = refl
+reported_append s (Halts when at ∷ a) b =
+    let child = reported_if (may_halt s when) (child_of at) in
+    ap (with_child child) (reported_append s a b) ∙ with_append child (children_reported s a) (children_reported s b)
+reported_append s (Loads image ∷ a) b = reported_append s a b
+reported_append s (Calls nr arguments ∷ a) b = reported_append s a b
+reported_append s (Becomes image ∷ a) b = reported_append s a b
+reported_append s (Stores fill ∷ a) b = reported_append s a b
+reported_append s (Answers answer ∷ a) b = reported_append s a b
+reported_append s (Delivers ∷ a) b = reported_append s a b
+reported_append s (Dies death ∷ a) b = reported_append s a b
 
-told_step : (s : Setting) (step : Step) → TellsBirths s → children_told s (acts_of s step) ≡ children_of step
-told_step s (step.Call nr arguments answer None) tells = refl
-told_step s (step.Call nr arguments answer (Some fill)) tells = refl
-told_step s (step.Fork child) tells = ap (λ b. with_child (told_if b (Some child)) []) tells.0
-told_step s (step.Thread child) tells = ap (λ b. with_child (told_if b (Some child)) []) tells.1
-told_step s (step.Exec path image) tells = ap (λ c. with_child c []) (none_told (has_option s TRACEEXEC))
-told_step s (step.Signal signal true) tells = refl
-told_step s (step.Signal signal false) tells = refl
-told_step s (step.Exit status) tells = refl
+reported_step : (s : Setting) (step : Step) → ReportsBirths s → children_reported s (acts_of s step) ≡ children_of step
+reported_step s (step.Call nr arguments answer None) tells = refl
+reported_step s (step.Call nr arguments answer (Some fill)) tells = refl
+reported_step s (step.Fork child) tells = ap (λ b. with_child (reported_if b (Some child)) []) tells.0
+reported_step s (step.Thread child) tells = ap (λ b. with_child (reported_if b (Some child)) []) tells.1
+reported_step s (step.Exec path image) tells = ap (λ c. with_child c []) (none_reported (has_option s TRACEEXEC))
+reported_step s (step.Signal signal true) tells = refl
+reported_step s (step.Signal signal false) tells = refl
+reported_step s (step.Exit status) tells = refl
 
-told_steps : (s : Setting) (steps : List Step) → TellsBirths s → children_told s (acts_of_steps s steps) ≡ born_by steps
+reported_steps : (s : Setting) (steps : List Step) → ReportsBirths s → children_reported s (acts_of_steps s steps) ≡ born_by steps
 unfolding acts_of_steps
-told_steps s [] tells = refl
-told_steps s (step ∷ steps) tells =
-    told_append s (acts_of s step) (acts_of_steps s steps)
-    ∙ ap (λ children. children ++ children_told s (acts_of_steps s steps)) (told_step s step tells)
-    ∙ ap (λ children. children_of step ++ children) (told_steps s steps tells)
+reported_steps s [] tells = refl
+reported_steps s (step ∷ steps) tells =
+    reported_append s (acts_of s step) (acts_of_steps s steps)
+    ∙ ap (λ children. children ++ children_reported s (acts_of_steps s steps)) (reported_step s step tells)
+    ∙ ap (λ children. children_of step ++ children) (reported_steps s steps tells)
 
-pub told_script : (s : Setting) (script : Script) → TellsBirths s
-    → children_told s (acts_of_script s script) ≡ born_by script.steps
-told_script s script tells = told_steps s script.steps tells
+pub reported_script : (s : Setting) (script : Script) → ReportsBirths s
+    → children_reported s (acts_of_script s script) ≡ born_by script.steps
+reported_script s script tells = reported_steps s script.steps tells
 
-untold_step : (s : Setting) (step : Step) → TellsNoBirths s → children_told s (acts_of s step) ≡ []
-untold_step s (step.Call nr arguments answer None) tells = refl
-untold_step s (step.Call nr arguments answer (Some fill)) tells = refl
-untold_step s (step.Fork child) tells = ap (λ b. with_child (told_if b (Some child)) []) tells.0
-untold_step s (step.Thread child) tells = ap (λ b. with_child (told_if b (Some child)) []) tells.1
-untold_step s (step.Exec path image) tells = ap (λ c. with_child c []) (none_told (has_option s TRACEEXEC))
-untold_step s (step.Signal signal true) tells = refl
-untold_step s (step.Signal signal false) tells = refl
-untold_step s (step.Exit status) tells = refl
+unreported_step : (s : Setting) (step : Step) → ReportsNoBirths s → children_reported s (acts_of s step) ≡ []
+unreported_step s (step.Call nr arguments answer None) tells = refl
+unreported_step s (step.Call nr arguments answer (Some fill)) tells = refl
+unreported_step s (step.Fork child) tells = ap (λ b. with_child (reported_if b (Some child)) []) tells.0
+unreported_step s (step.Thread child) tells = ap (λ b. with_child (reported_if b (Some child)) []) tells.1
+unreported_step s (step.Exec path image) tells = ap (λ c. with_child c []) (none_reported (has_option s TRACEEXEC))
+unreported_step s (step.Signal signal true) tells = refl
+unreported_step s (step.Signal signal false) tells = refl
+unreported_step s (step.Exit status) tells = refl
 
-untold_steps : (s : Setting) (steps : List Step) → TellsNoBirths s → children_told s (acts_of_steps s steps) ≡ []
+unreported_steps : (s : Setting) (steps : List Step) → ReportsNoBirths s → children_reported s (acts_of_steps s steps) ≡ []
 unfolding acts_of_steps
-untold_steps s [] tells = refl
-untold_steps s (step ∷ steps) tells =
-    told_append s (acts_of s step) (acts_of_steps s steps)
-    ∙ ap (λ children. children ++ children_told s (acts_of_steps s steps)) (untold_step s step tells)
-    ∙ untold_steps s steps tells
+unreported_steps s [] tells = refl
+unreported_steps s (step ∷ steps) tells =
+    reported_append s (acts_of s step) (acts_of_steps s steps)
+    ∙ ap (λ children. children ++ children_reported s (acts_of_steps s steps)) (unreported_step s step tells)
+    ∙ unreported_steps s steps tells
 
-pub untold_script : (s : Setting) (script : Script) → TellsNoBirths s → children_told s (acts_of_script s script) ≡ []
-untold_script s script tells = untold_steps s script.steps tells
+pub unreported_script : (s : Setting) (script : Script) → ReportsNoBirths s → children_reported s (acts_of_script s script) ≡ []
+unreported_script s script tells = unreported_steps s script.steps tells
 
 -- ---- the signals of a case
 

@@ -8,7 +8,7 @@ use Rattle.trace_status.specs.WaitStatus.{IsSignal}
 use Rattle.trace_script.specs.Script.{Step}
 use Rattle.trace_script.specs.Script as step
 use Rattle.trace_script.specs.StepStops.{Act, Halts, Loads, Calls, Becomes, Stores, Answers, Delivers, Dies}
-use Rattle.trace_script.specs.StepStops.{When, Always, Traced, Filtered, Told, has_option}
+use Rattle.trace_script.specs.StepStops.{When, Always, Traced, Filtered, ByOption, has_option}
 use Rattle.trace_script.specs.StopTrace.{Outcome, Stopped, Through, Died, Faulted}
 use Rattle.trace_script.specs.declared.setting.Setting.{Setting}
 
@@ -40,31 +40,31 @@ abbrev pub may_halt : Setting → When → Bool
 may_halt s Always = true
 may_halt s Traced = true
 may_halt s (Filtered nr) = true
-may_halt s (Told option) = has_option s option
+may_halt s (ByOption option) = has_option s option
 
-abbrev pub told_if : Bool → Option ℕ → Option ℕ
-told_if may child = if may then child else None
+abbrev pub reported_if : Bool → Option ℕ → Option ℕ
+reported_if may child = if may then child else None
 
 abbrev pub with_child : Option ℕ → List ℕ → List ℕ
 with_child None children = children
 with_child (Some child) children = child ∷ children
 
 -- the children that stops still name, in order
-abbrev pub children_told : Setting → List Act → List ℕ
-children_told s [] = []
-children_told s (Halts when at ∷ acts) = with_child (told_if (may_halt s when) (child_of at)) (children_told s acts)
-children_told s (Loads image ∷ acts) = children_told s acts
-children_told s (Calls nr arguments ∷ acts) = children_told s acts
-children_told s (Becomes image ∷ acts) = children_told s acts
-children_told s (Stores fill ∷ acts) = children_told s acts
-children_told s (Answers answer ∷ acts) = children_told s acts
-children_told s (Delivers ∷ acts) = children_told s acts
-children_told s (Dies death ∷ acts) = children_told s acts
+abbrev pub children_reported : Setting → List Act → List ℕ
+children_reported s [] = []
+children_reported s (Halts when at ∷ acts) = with_child (reported_if (may_halt s when) (child_of at)) (children_reported s acts)
+children_reported s (Loads image ∷ acts) = children_reported s acts
+children_reported s (Calls nr arguments ∷ acts) = children_reported s acts
+children_reported s (Becomes image ∷ acts) = children_reported s acts
+children_reported s (Stores fill ∷ acts) = children_reported s acts
+children_reported s (Answers answer ∷ acts) = children_reported s acts
+children_reported s (Delivers ∷ acts) = children_reported s acts
+children_reported s (Dies death ∷ acts) = children_reported s acts
 
 -- a stop that names a child comes by an option alone
 abbrev pub NamesByOption : When → Option ℕ → Type 0
 NamesByOption when None = Unit {0}
-NamesByOption (Told option) (Some child) = Unit {0}
+NamesByOption (ByOption option) (Some child) = Unit {0}
 NamesByOption Always (Some child) = ⊥
 NamesByOption Traced (Some child) = ⊥
 NamesByOption (Filtered nr) (Some child) = ⊥
@@ -85,14 +85,14 @@ AreGood (Delivers ∷ acts) = AreGood acts
 -- were still to be named
 abbrev pub IsGoodOutcome : Setting → (children : List ℕ) → Outcome → Type 0
 IsGoodOutcome s children (Stopped left at x) =
-    IsStop at × AreGood left × (children ≡ with_child (child_of at) (children_told s left))
+    IsStop at × AreGood left × (children ≡ with_child (child_of at) (children_reported s left))
 IsGoodOutcome s children (Died death) = IsDeath death
 IsGoodOutcome s children (Through x) = Unit {0}
 IsGoodOutcome s children (Faulted address) = Unit {0}
 
--- forks and clones are both told of, or neither is
-abbrev pub TellsBirths : Setting → Type 0
-TellsBirths s = (has_option s TRACEFORK ≡ true) × (has_option s TRACECLONE ≡ true)
+-- forks and clones are both reported, or neither is
+abbrev pub ReportsBirths : Setting → Type 0
+ReportsBirths s = (has_option s TRACEFORK ≡ true) × (has_option s TRACECLONE ≡ true)
 
-abbrev pub TellsNoBirths : Setting → Type 0
-TellsNoBirths s = (has_option s TRACEFORK ≡ false) × (has_option s TRACECLONE ≡ false)
+abbrev pub ReportsNoBirths : Setting → Type 0
+ReportsNoBirths s = (has_option s TRACEFORK ≡ false) × (has_option s TRACECLONE ≡ false)

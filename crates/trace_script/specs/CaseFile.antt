@@ -128,7 +128,7 @@ step_fault memory (step.Call nr arguments answer fill) = fill_fault memory fill
 step_fault memory (step.Signal signal deadly) = unless (can_arrive signal) cause.Signal
 step_fault memory other = None
 
--- one more step may be there, and this one fits
+-- there is room for a step, and this one has no fault
 abbrev pub next_step_fault : Script → Step → Option Cause
 next_step_fault script step =
     if nat_lt (length script.steps) MOST_STEPS

@@ -30,7 +30,7 @@ step_of (kept.Exit status) = step.Exit status
 abbrev pub script_of : {Z : Type 0} → KeptScript Z → Script
 script_of script = record { image = image_of script.image; steps = map step_of script.steps.items }
 
--- what a function gives behind a reference
+-- what a returned reference points to
 abbrev pub seen : {T E : Type 0} → Result (Bor T) E → Result T E
 seen (Ok x) = Ok x.now
 seen (Err e) = Err e

@@ -23,7 +23,7 @@ abbrev pub acts_at : Setting → Step → Stage → List Act
 acts_at s step stage.Before = acts_of s step
 acts_at s step stage.Entered = after_enter s step
 acts_at s step stage.Filtered = after_filter s step
-acts_at s step stage.Told = after_event step
+acts_at s step stage.Event = after_event step
 acts_at s step stage.Signaled = after_signal (is_deadly step)
 acts_at s step stage.Done = []
 

@@ -2,7 +2,7 @@
 use Rattle.std.specs.Prelude.{◌==◌, ◌&&◌, ◌||◌, ℕ, Bool, not, nat_le}
 use Rattle.trace_script.specs.declared.signals.TheConstants.{LAST_STANDARD, SIGKILL, SIGSTOP, SIGTSTP, SIGTTIN, SIGTTOU}
 
--- a tracer sees SIGKILL never, and four signals stop the tracee's whole group (signal(7); ptrace(2), "Group-stop")
+-- a tracer never sees SIGKILL, and four signals stop the tracee's whole group (signal(7); ptrace(2), "Group-stop")
 abbrev pub kills_or_stops : ℕ → Bool
 kills_or_stops signal =
     signal == SIGKILL || (signal == SIGSTOP || (signal == SIGTSTP || (signal == SIGTTIN || signal == SIGTTOU)))

@@ -29,7 +29,7 @@ pub data When : Type 0 where
   -- where PTRACE_O_TRACESECCOMP is set and the filter has the call
   Filtered : (nr : ℕ) → When
   -- where the option is set
-  Told : (option : Options) → When
+  ByOption : (option : Options) → When
 
 pub data Act : Type 0 where
   -- stops, if it does at this place
@@ -63,7 +63,7 @@ abbrev pub halts : Setting → Resume → When → Bool
 halts s how Always = true
 halts s how Traced = is_traced how.kind
 halts s how (Filtered nr) = is_filtered s nr
-halts s how (Told option) = has_option s option
+halts s how (ByOption option) = has_option s option
 
 -- the system call of a step and its six arguments (syscalls(2)); a signal is no call
 abbrev pub nr_of : Step → ℕ
@@ -85,7 +85,7 @@ arguments_of (step.Exec path image) = one_argument path
 arguments_of (step.Signal signal deadly) = one_argument 0
 arguments_of (step.Exit status) = one_argument status
 
--- ---- the acts of a step, from each place on at which its tracee may stand
+-- ---- the acts of a step, from each place on at which its tracee may stop
 
 abbrev pub stores : Option Fill → List Act
 stores None = []
@@ -106,9 +106,9 @@ after_event (step.Exit status) = []
 -- after the seccomp stop; the exit code is the status's low byte (exit(3))
 abbrev pub after_filter : Setting → Step → List Act
 after_filter s (step.Call nr arguments answer fill) = stores fill ++ answers answer
-after_filter s (step.Fork child) = Halts (Told TRACEFORK) (stop.Fork child) ∷ answers child
-after_filter s (step.Thread child) = Halts (Told TRACECLONE) (stop.Clone child) ∷ answers child
-after_filter s (step.Exec path image) = Becomes image ∷ Halts (Told TRACEEXEC) (stop.Exec s.tid) ∷ answers 0
+after_filter s (step.Fork child) = Halts (ByOption TRACEFORK) (stop.Fork child) ∷ answers child
+after_filter s (step.Thread child) = Halts (ByOption TRACECLONE) (stop.Clone child) ∷ answers child
+after_filter s (step.Exec path image) = Becomes image ∷ Halts (ByOption TRACEEXEC) (stop.Exec s.tid) ∷ answers 0
 after_filter s (step.Signal signal deadly) = []
 after_filter s (step.Exit status) = Dies (Exited (status % 256)) ∷ []
 

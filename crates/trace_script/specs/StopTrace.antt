@@ -72,7 +72,7 @@ abbrev pub advance : Setting → Resume → List Act → Context → Outcome
 advance s how [] x = Through x
 advance s how (act ∷ acts) x = outcome_by (effect_of s how act x) acts x (advance s how acts)
 
--- ---- positions: where a tracee stands in its script
+-- ---- positions: where a tracee is in its script
 
 pub record Position : Type 0 where
   pub setting : Setting

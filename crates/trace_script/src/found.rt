@@ -1,6 +1,6 @@
 //! What a look ahead finds.
 
-/// What comes first of what a tracee does next.
+/// What a look ahead finds first.
 #[derive(Clone, Copy, Debug, PartialEq, Eq)]
 pub enum Found {
     /// It stops or dies.

@@ -8,8 +8,8 @@ ghost use Rattle.trace_record.specs.declared.death.Death.{Death};
 ghost use Rattle.trace_record.specs.declared.resume.Resume.{Resume};
 ghost use Rattle.trace_record.specs.Content.{Content};
 ghost use Rattle.trace_pages.specs.FlatMemory.{SameAddresses};
-ghost use Rattle.trace_script.specs.Births.{AreGood, AreInRange, IsGoodOutcome, TellsBirths, TellsNoBirths};
-ghost use Rattle.trace_script.specs.Births.{born_by, children_told};
+ghost use Rattle.trace_script.specs.Births.{AreGood, AreInRange, IsGoodOutcome, ReportsBirths, ReportsNoBirths};
+ghost use Rattle.trace_script.specs.Births.{born_by, children_reported};
 ghost use Rattle.trace_script.specs.CaseFacts.{IsCase, IsScript};
 ghost use Rattle.trace_script.specs.CaseFile.{CaseContent, case_of};
 ghost use Rattle.trace_script.specs.CaseSpelling.{IsSpelled, case_spelling};
@@ -43,8 +43,7 @@ pub fn runs_are_traces()
         trace_of policy s script ≡ trace_at policy (opening_position s script) how x }
 {}
 
-/// The stops of a script are numbered 1, 2, 3 and so on, and a script of so many steps makes at most four stops a step
-/// and one more.
+/// The stops of a script are numbered 1, 2, 3 and so on, and a script of n steps makes at most 4 n + 1 stops.
 pub fn stops_are_numbered()
     ensures opening { (s : Setting) (script : Script) →
         IsWithin (1 + 4 * length script.steps) (opening_position s script) }
@@ -56,20 +55,20 @@ pub fn stops_are_numbered()
         × ((next_position p how x).number ≡ content.number) }
 {}
 
-/// What comes next is a stop or a death that a tracee can have, and births come in order: a stop names a child where
-/// the setting tells of births, and then the children of the script in their order; where it does not, no stop does.
+/// What comes next is a stop or a death that a tracee can have, and births come in order: where the setting reports
+/// births, stops name the children of the script in their order; where it does not, no stop names a child.
 pub fn stops_are_in_range()
     ensures next { (p : Position) (how : Resume) (x : Context) → IsResume how → AreGood p.left →
-        IsGoodOutcome p.setting (children_told p.setting p.left) (outcome_at p how x) }
+        IsGoodOutcome p.setting (children_reported p.setting p.left) (outcome_at p how x) }
     ensures opening { (s : Setting) (script : Script) → AreInRange script.steps →
         AreGood (opening_position s script).left }
-    ensures told { (s : Setting) (script : Script) → TellsBirths s →
-        children_told s (opening_position s script).left ≡ born_by script.steps }
-    ensures untold { (s : Setting) (script : Script) → TellsNoBirths s →
-        children_told s (opening_position s script).left ≡ [] }
+    ensures births { (s : Setting) (script : Script) → ReportsBirths s →
+        children_reported s (opening_position s script).left ≡ born_by script.steps }
+    ensures no_births { (s : Setting) (script : Script) → ReportsNoBirths s →
+        children_reported s (opening_position s script).left ≡ [] }
 {}
 
-/// A script whose fills are mapped never faults: under no policy, and in no run in which nobody has changed which
+/// A script whose fills are mapped never faults, under any policy, and in any run in which nobody changes which
 /// addresses are mapped.
 pub fn mapped_fills_never_fault()
     ensures trace { (policy : Policy) (s : Setting) (script : Script) → HasMappedFills script →
@@ -110,14 +109,15 @@ pub fn numbers_are_fixed()
     ensures words { length KEYWORDS ≡ 11 }
 {}
 
-/// A case that is spelled as a file is read back from it. What `IsCase` says is known of every case that was read.
+/// A case whose numbers a file can write, in a file that is not above the limit (`IsSpelled`), is read back from that
+/// file. What `IsCase` says is known of every case that was read.
 pub fn what_a_case_spells_is_read()
     ensures { (content : CaseContent) → IsCase content → IsSpelled content →
         case_of (case_spelling content) ≡ Ok content }
 {}
 
 /// What a tracee's thread needs to know of the script of a row: it is as `IsScript` says, with its births in order, its
-/// fills mapped, and so few steps; and its signals are ones that a stop can have.
+/// fills mapped and at most 65,536 steps; and its signals are ones that a stop can have.
 pub fn scripts_of_cases_are_in_range()
     ensures { (content : CaseContent) (row : ℕ) (script : Script) → IsCase content →
         slice_get content.scripts row ≡ Some script →

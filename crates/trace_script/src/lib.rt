@@ -25,8 +25,9 @@ pub use calls::{CLONE, CLONE_THREAD_FLAGS, EXECVE, EXIT, FORK};
 pub use case::Case;
 pub use cause::{CaseError, Cause};
 pub use laws::{
-    mapped_fills_never_fault, runs_are_traces, scripts_of_cases_are_in_range,
-    steps_are_known_calls, stops_are_in_range, stops_are_numbered, what_a_case_spells_is_read,
+    mapped_fills_never_fault, numbers_are_fixed, runs_are_traces, scripts_of_cases_are_in_range,
+    signals_are_known, steps_are_known_calls, stops_are_in_range, stops_are_numbered,
+    what_a_case_spells_is_read,
 };
 pub use limits::{MOST_BYTES, MOST_STEPS};
 pub use machine::Machine;

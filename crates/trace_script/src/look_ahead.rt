@@ -1,6 +1,6 @@
 //! A look ahead over steps: whether a store faults before the tracee stops or dies. Nothing is changed.
 //!
-//! There is a function for each place in a step at which a tracee can stand; each passes on to the next place. The
+//! There is a function for each place in a step at which a tracee can be; each passes on to the next place. The
 //! answer is the memory with which the look goes on, or what was found.
 
 ghost use Rattle.std.specs.Prelude.{◌≡◌, ◌<◌, ◌+◌, Ok, Err, if◌then◌else◌, drop, length};
@@ -97,7 +97,7 @@ fn look_at_step<'a, A: Allocator>(
         Stage::Before => before(step, setting, how, memory),
         Stage::Entered => enter(step, setting, how, memory),
         Stage::Filtered => filter(step, setting, how, memory),
-        Stage::Told => event(step, how, memory),
+        Stage::Event => event(step, how, memory),
         Stage::Signaled => signal(step, how, memory),
         Stage::Done => Ok(memory),
     }

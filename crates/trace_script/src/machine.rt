@@ -4,8 +4,8 @@
 //! traced and how, the number of the last stop, and what is left of the script from there on.
 //!
 //! What is left is kept so: before the first stop, the program and all steps; after it, the steps from the one underway
-//! on, and the place in that one; after the death, the death. That so few stops are left that no number passes the last
-//! one is the type's invariant.
+//! on, and the place in that one; after the death, the death. That no number of a stop that is left passes the
+//! last one is the type's invariant.
 
 mod calls;
 

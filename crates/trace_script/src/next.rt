@@ -2,7 +2,7 @@
 
 use trace_record::Death;
 
-/// What comes next of a tracee.
+/// What a tracee does next.
 #[derive(Clone, Copy, Debug, PartialEq, Eq, Hash)]
 pub enum Next {
     /// A stop; the record has its content.

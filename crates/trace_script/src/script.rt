@@ -36,7 +36,7 @@ pub struct Call<A: Allocator = Global> {
 /// One thing that a tracee does.
 #[derive(Drop)]
 pub enum Step<A: Allocator = Global> {
-    /// Any system call but those below.
+    /// Any system call except those below.
     Call(Call<A>),
     /// A fork(2) that creates the process of this thread id.
     Fork(u32),

@@ -10,7 +10,7 @@ pub enum Stage {
     /// The seccomp stop.
     Filtered,
     /// The event of a fork, a clone or an exec.
-    Told,
+    Event,
     /// The signal-delivery-stop.
     Signaled,
     /// The syscall-exit-stop: nothing is left of the step.

@@ -1,6 +1,6 @@
 //! One step of a script, done from a place in it on, up to the next stop, the death or the end of the step.
 //!
-//! There is a function for each place in a step at which a tracee can stand; each passes on to the next place. All are
+//! There is a function for each place in a step at which a tracee can be; each passes on to the next place. All are
 //! called only where no store on the way faults (`look_ahead`), so that none has to be taken back.
 
 ghost use Rattle.std.specs.Prelude.{◌≡◌, None, true, length, if◌then◌else◌};
@@ -56,7 +56,7 @@ pub fn run_from<A: Allocator>(
         Stage::Before => from_before(step, setting, how, held),
         Stage::Entered => from_enter(step, setting, how, held),
         Stage::Filtered => from_filter(step, setting, how, held),
-        Stage::Told => from_event(step, setting, how, held),
+        Stage::Event => from_event(step, setting, how, held),
         Stage::Signaled => from_signal(step, how),
         Stage::Done => Arrival::Through,
     }
@@ -161,14 +161,14 @@ fn from_filter<A: Allocator>(
         Step::Fork(child) => {
             if has_option(setting, Options::TRACEFORK) {
                 held.stop = Stop::Fork(*child);
-                return Arrival::Stopped(Stage::Told);
+                return Arrival::Stopped(Stage::Event);
             }
             answer(u64::from(*child), how, held)
         }
         Step::Thread(child) => {
             if has_option(setting, Options::TRACECLONE) {
                 held.stop = Stop::Clone(*child);
-                return Arrival::Stopped(Stage::Told);
+                return Arrival::Stopped(Stage::Event);
             }
             answer(u64::from(*child), how, held)
         }
@@ -176,7 +176,7 @@ fn from_filter<A: Allocator>(
             put_in(image, held);
             if has_option(setting, Options::TRACEEXEC) {
                 held.stop = Stop::Exec(setting.tid);
-                return Arrival::Stopped(Stage::Told);
+                return Arrival::Stopped(Stage::Event);
             }
             answer(0, how, held)
         }

@@ -19,7 +19,7 @@ fn a_machine_that_is_refused_a_growth_is_not_made(rt: HostRuntime) {
         if heap.has_refused() {
             continue;
         }
-        let made = machine_of(&heap, &case, 0x1, &no_calls()).is_some();
+        let made = machine_of(&heap, &case, 0, 0x1, &no_calls()).is_some();
         assert_eq!(rt; heap.has_refused(), !made, "{granted}");
         if made {
             break;

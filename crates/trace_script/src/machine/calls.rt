@@ -128,7 +128,7 @@ fn load<A: Allocator>(image: &mut Image<A>, held: &mut StopRecord<A>)
     held.stop = Stop::Start;
 }
 
-/// Puts in whose stop it is, and its number.
+/// Sets the record's tid and number.
 fn sign<A: Allocator>(tid: u32, number: u32, held: &mut StopRecord<A>)
     ensures { held.new ≡ content_by tid number held.old.stop held.old.regs held.old.memory }
 {

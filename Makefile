@@ -88,7 +88,7 @@ bench-case: tools kit
 	@$(RUSTC) -O --edition 2024 -o $(OUT)/generate_case bench/generate_case.rs
 	@$(RUSTC) -O --edition 2024 -o $(OUT)/plain_case bench/plain_case.rs
 	@$(OUT)/generate_case > $(OUT)/case.txt
-	@cp crates.txt $(OUT)/crates.txt; trap 'cp $(OUT)/crates.txt crates.txt; rm -rf crates/read_case' EXIT INT TERM; \
+	@cp crates.txt $(OUT)/crates_before; trap 'cp $(OUT)/crates_before crates.txt; rm -rf crates/read_case' EXIT INT TERM; \
 	mkdir -p crates/read_case/src crates/read_case/specs crates/read_case/proofs \
 	  && cp bench/read_case.rattle crates/read_case/src/main.rt \
 	  && touch crates/read_case/specs/Lib.antt crates/read_case/proofs/Lib.antt \

@@ -439,7 +439,7 @@ fn an_image_has_at_most_256_pages(rt: HostRuntime) -> Result<(), Fail> {
         let line = format!(in rt.alloc(); "page {}\n", page * 4096)?;
         file.push_str(line.as_str())?;
     }
-    // A page that is there already is a bad number, also where there is no room for it.
+    // A page that is mapped already is a bad number, even where no other page could be mapped.
     for (page, cause) in [
         ("page 0x100000\n", Cause::TooMany),
         ("page 0xff000\n", Cause::BadNumber),

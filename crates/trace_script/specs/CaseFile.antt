@@ -40,7 +40,7 @@ pub record CaseContent : Type 0 where
 abbrev pub no_script : Script
 no_script = record { image = no_image; steps = [] }
 
--- a script by its row's place; an empty one where there is no such row
+-- the script of the row at a place, or an empty one where there is no such row
 abbrev pub script_at : List Script → ℕ → Script
 script_at scripts row = slice_index_or scripts row no_script
 

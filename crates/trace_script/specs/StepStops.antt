@@ -65,7 +65,7 @@ halts s how Traced = is_traced how.kind
 halts s how (Filtered nr) = is_filtered s nr
 halts s how (ByOption option) = has_option s option
 
--- the system call of a step and its six arguments (syscalls(2)); a signal is no call
+-- the system call that a step makes, and its six arguments (syscalls(2)); a signal makes none
 abbrev pub nr_of : Step → ℕ
 nr_of (step.Call nr arguments answer fill) = nr
 nr_of (step.Fork child) = FORK

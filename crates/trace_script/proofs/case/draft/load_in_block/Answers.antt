@@ -1,4 +1,4 @@
--- A part of an image is no step.
+-- A part of an image is not a step.
 use Rattle.trace_script.specs.RawLine.{part_said}
 use Rattle.trace_script.proofs.Reloads.{still_counted}
 use Rattle.trace_script.proofs.case.draft.load_in_block.Goals as goal

@@ -30,7 +30,11 @@ step_of (kept.Exit status) = step.Exit status
 abbrev pub script_of : {Z : Type 0} → KeptScript Z → Script
 script_of script = record { image = image_of script.image; steps = map step_of script.steps.items }
 
+-- a result with this made of what it holds
+abbrev pub if_said : {A B E : Type 0} → (A → B) → Result A E → Result B E
+if_said said (Ok x) = Ok (said x)
+if_said said (Err e) = Err e
+
 -- what a returned reference points to
 abbrev pub seen : {T E : Type 0} → Result (Bor T) E → Result T E
-seen (Ok x) = Ok x.now
-seen (Err e) = Err e
+seen r = if_said (λ x. x.now) r

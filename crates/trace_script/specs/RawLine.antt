@@ -1,6 +1,5 @@
 -- A line as it is kept while a file is read, whose byte words are slices of the file, read as what it says.
-use Rattle.std.specs.Prelude.{◌≡◌, ◌%◌, true, Option, Some, None, Result, Ok, Err}
-use Rattle.text_lines.specs.declared.fault.LineFault.{LineFault}
+use Rattle.std.specs.Prelude.{◌≡◌, ◌%◌, true, Option, Some, None}
 use Rattle.trace_pages.specs.declared.pages.TheConstants.{PAGE_SIZE}
 use Rattle.trace_script.specs.declared.case.raw_line.RawCall.{RawCall}
 use Rattle.trace_script.specs.declared.case.raw_line.RawFill.{RawFill}
@@ -12,6 +11,7 @@ use Rattle.trace_script.specs.declared.case.raw_line.RawStep.{RawStep}
 use Rattle.trace_script.specs.declared.case.raw_line.RawStep.TheVariants as raw_step
 use Rattle.trace_script.specs.CaseLine.{Line, Part, bytes_written, is_byte_word, no_image}
 use Rattle.trace_script.specs.CaseLine as line
+pub use Rattle.trace_script.specs.Kept.{if_said}
 use Rattle.trace_script.specs.Script.{Fill, Step}
 use Rattle.trace_script.specs.Script as step
 
@@ -41,11 +41,6 @@ line_said (raw_line.Opens row) = line.Opens row
 line_said (raw_line.Loads part) = line.Loads (part_said part)
 line_said (raw_line.Does step) = line.Does (step_said step)
 line_said raw_line.Closes = line.Closes
-
--- what is said where a line has no fault
-abbrev pub if_said : {A B : Type 0} → (A → B) → Result A LineFault → Result B LineFault
-if_said said (Ok raw) = Ok (said raw)
-if_said said (Err fault) = Err fault
 
 -- what was tested with the line: a page's address is a multiple of its size, a byte word is one
 abbrev pub IsTestedPart : RawPart → Type 0

@@ -1,10 +1,13 @@
 -- What is too large stays so, however many digits follow.
 use Rattle.std.proofs.Common.{refl, ◌≡◌, ◌+◌, ◌*◌, ◌^◌, ◌<◌, ◌≤◌, ◌∷◌, [], ℕ, Bool, true, false, List, Option, Some}
 use Rattle.std.proofs.Common.{None, cond, arith, le-ltb, lt-ltb, nat_lt, suc, length, get_or, drop, drop-cons}
-use Rattle.std.proofs.Common.{if◌then◌else◌, ap, sym, ◌∙◌, inl, inr, mul-le-mul_left}
+use Rattle.std.proofs.Common.{if◌then◌else◌, ap, sym, ◌∙◌, inl, inr, mul-le-mul_left, eqb, min, zero, ◌&&◌}
 use Rattle.std.proofs.lemmas.Bool.{cases_lt}
 use Rattle.std.proofs.lemmas.Option.{cond_some}
 use Rattle.std.specs.Char.{digit_value}
+use Rattle.std.proofs.Math.Nat.{mul-le-mul_right, pow-le-pow_right, pow-suc}
+use Rattle.std.proofs.lemmas.Bool.{and_parts, eqb-true, ltb-true}
+use Rattle.text_lines.specs.declared.numbers.TheConstants.{DIGITS}
 use Rattle.text_lines.specs.Numbers.{digits_after, numeral, within_u64}
 
 abbrev AtLeast : ℕ → Option ℕ → Type 0
@@ -49,3 +52,60 @@ too_large_here base n k digits digit some within is over so_far =
     sym so_far ∙ ap within_u64 read
     ∙ too_large (n * base + digit) (digits_after base (n * base + digit) (drop (suc k) digits))
     (overflown (n * base + digit) over) (grows base (n * base + digit) (drop (suc k) digits) some)
+
+-- ---- the table
+
+agrees : ℕ → List ℕ → Bool
+agrees c [] = true
+agrees c (value ∷ values) = eqb value (min 16 (digit_value c)) && agrees (c + 1) values
+
+agreed : (c i : ℕ) (values : List ℕ) → agrees c values ≡ true → i < length values
+    → get_or values i 0 ≡ min 16 (digit_value (c + i))
+unfolding agrees
+agreed c i [] h within = absurd (omega arith)
+agreed c zero (value ∷ values) h within =
+    let parts = and_parts (eqb value (min 16 (digit_value c))) (agrees (c + 1) values) h in
+    let same : c ≡ c + 0 = omega arith in
+    eqb-true value (min 16 (digit_value c)) parts.0 ∙ ap (λ k. min 16 (digit_value k)) same
+agreed c (suc i) (value ∷ values) h within =
+    let parts = and_parts (eqb value (min 16 (digit_value c))) (agrees (c + 1) values) h in
+    let same : c + 1 + i ≡ c + suc i = omega arith in
+    agreed (c + 1) i values parts.1 (omega arith) ∙ ap (λ k. min 16 (digit_value k)) same
+
+table_agrees : agrees 0 DIGITS ≡ true
+unfolding agrees
+table_agrees = refl
+
+-- the table has the value of each digit, and 16 for what is none
+table_is : (c : ℕ) → c < 256 → get_or DIGITS c 0 ≡ min 16 (digit_value c)
+table_is c small =
+    let same : 0 + c ≡ c = omega arith in
+    agreed 0 c DIGITS table_agrees small ∙ ap (λ k. min 16 (digit_value k)) same
+
+pub digit_in_table : (base c value : ℕ) → base ≤ 16 → c < 256 → value ≡ get_or DIGITS c 0 → value < base
+    → Some value ≡ (if nat_lt (digit_value c) base then Some (digit_value c) else None)
+digit_in_table base c value few small is below =
+    let same = is ∙ table_is c small in
+    let digit : value ≡ digit_value c = omega (arith, same, below, few) in
+    rw (lt-ltb (digit_value c) base (omega (arith, digit, below))) (ap Some digit)
+
+pub no_digit_in_table : (base c value : ℕ) → base ≤ 16 → c < 256 → value ≡ get_or DIGITS c 0 → base ≤ value
+    → None ≡ (if nat_lt (digit_value c) base then Some (digit_value c) else None)
+no_digit_in_table base c value few small is above =
+    let same = is ∙ table_is c small in
+    rw (le-ltb (digit_value c) base (omega (arith, same, above)))
+
+-- ---- few digits
+
+-- a digit more, and the number is still below the power of its base
+pub digit_fits : (base n digit i most : ℕ) → 1 ≤ base → n < base ^ i → digit < base → i < most
+    → n * base + digit < base ^ most
+digit_fits base n digit i most some small below within =
+    let next : (n + 1) * base ≤ base ^ i * base = mul-le-mul_right base (omega arith) in
+    let up : base ^ suc i ≤ base ^ most = pow-le-pow_right some (omega arith) in
+    omega (arith, next, up, pow-suc base i)
+
+pub digit_below : (base value digit : ℕ) → Some digit ≡ (if nat_lt value base then Some value else None) → digit < base
+digit_below base value digit is =
+    let told = cond_some (nat_lt value base) value digit (sym is) in
+    omega (arith, ltb-true value base told.0, told.1)

@@ -3,6 +3,9 @@
 use Rattle.std.specs.Prelude.{◌==◌, ◌++◌, ◌∷◌, [], ℕ, Bool, max, nat_lt, List, length, filter, slice_index_or}
 use Rattle.std.specs.List.{join_with_byte, slice_split}
 
+abbrev pub is_feed : ℕ → Bool
+is_feed b = b == 10
+
 -- a part, unless it is empty
 abbrev pub filled : List ℕ → List (List ℕ)
 filled [] = []

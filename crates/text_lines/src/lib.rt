@@ -6,10 +6,11 @@ mod fault;
 mod keywords;
 mod lines;
 mod numbers;
+mod stops;
 
 pub use fault::LineFault;
 pub use keywords::keyword;
-pub use lines::{cut_line, first_words, last_line};
+pub use lines::{cut_line, cut_words, first_words, last_line};
 pub use numbers::{integer, number, number_between};
 
 #[cfg(test)]

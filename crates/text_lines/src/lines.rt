@@ -1,8 +1,12 @@
 //! The lines of a file and the words of a line, as slices of it.
 
-ghost use Rattle.std.specs.Prelude.{◌≡◌, ◌≢◌, ◌==◌, ◌<◌, ◌≤◌, ◌^◌, ◌∷◌, [], length, map, position, slice_index};
+ghost use Rattle.std.specs.List.{after_first, before_first};
+ghost use Rattle.std.specs.Prelude.{◌≡◌, ◌≢◌, ◌==◌, ◌<◌, ◌≤◌, ◌+◌, ◌^◌, ◌∷◌, ◌++◌, [], length, map, position, slice_index};
 ghost use Rattle.std.specs.Prelude.{MatchOption, drop, take};
-ghost use Rattle.text_lines.specs.Lines.{last_line, lines_of, words_in};
+ghost use Rattle.text_lines.specs.Lines.{filled, is_feed, last_line, lines_of, words_in};
+
+use crate::stops::next_stop;
+use memchr::memchr;
 
 /// The first line of a text that is not empty, without its line feed, and what follows it. The last line may lack the
 /// line feed.
@@ -37,7 +41,7 @@ pub fn last_line(text: &[u8]) -> u32
 fn line_feed(text: &[u8]) -> Option<usize>
     ensures { result ≡ position (λ b. b == 10) text.now }
 {
-    text.iter().position(|b| *b == b'\n')
+    memchr(b'\n', text)
 }
 
 /// Puts the first words of a line into `words`, as many as there is room for, and returns how many there are; the
@@ -59,6 +63,71 @@ pub fn first_words<'a>(line: &'a [u8], words: &mut [&'a [u8]]) -> usize
         rest = after;
     }
     count
+}
+
+/// Puts the first words of a text's first line into `words`, as many as there is room for, and returns how many there
+/// are and what follows the line. Of a text that is not empty.
+#[inline(never)]
+pub fn cut_words<'a>(text: &'a [u8], words: &mut [&'a [u8]]) -> (usize, &'a [u8])
+    requires { 0 < length text.now }
+    ensures few { result.0 ≤ length words.old }
+    ensures words { map (λ w. w.now) (take result.0 words.new)
+        ≡ take (length words.old) (words_in (before_first is_feed text.now)) }
+    ensures lines { lines_of text.now ≡ before_first is_feed text.now ∷ lines_of result.1.now }
+    ensures shorter { length result.1.now < length text.now }
+{
+    let mut count = 0;
+    let mut rest = text;
+    let mut marks = 0u64;
+    while count < words.len() {
+        let Some((end, left)) = next_stop(rest, marks) else {
+            return (add_word(words, count, rest), &[]);
+        };
+        let (word, after) = cut_at(rest, end);
+        count = add_word(words, count, word);
+        if rest[end] == b'\n' {
+            return (count, after);
+        }
+        rest = after;
+        marks = left;
+    }
+    (count, after_line(rest))
+}
+
+/// A text before and after the byte at a place.
+#[inline(always)]
+#[tactic(auto, using(crate::proofs::Cuts::whole_rest))]
+fn cut_at(text: &[u8], place: usize) -> (&[u8], &[u8])
+    requires { place < length text.now }
+    ensures before { result.0.now ≡ take place text.now }
+    ensures after { result.1.now ≡ drop (place + 1) text.now }
+{
+    (&text[..place], &text[place + 1..])
+}
+
+/// Stores a word after the first `count`, unless it is empty, and returns how many words there are then.
+#[inline(always)]
+fn add_word<'a>(words: &mut [&'a [u8]], count: usize, word: &'a [u8]) -> usize
+    requires { count < length words.old }
+    ensures few { result ≤ length words.old }
+    ensures words { map (λ w. w.now) (take result words.new)
+        ≡ map (λ w. w.now) (take count words.old) ++ filled word.now }
+{
+    if word.is_empty() {
+        return count;
+    }
+    words[count] = word;
+    count + 1
+}
+
+/// What follows the first line of a text.
+fn after_line(text: &[u8]) -> &[u8]
+    ensures { result.now ≡ after_first is_feed text.now }
+{
+    match line_feed(text) {
+        Some(end) => &text[end + 1..],
+        None => &[],
+    }
 }
 
 /// The first word of a line, and what follows it; None where there is none.

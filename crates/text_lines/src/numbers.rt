@@ -7,17 +7,53 @@ ghost use Rattle.text_lines.specs.Ranges.{number_between};
 
 use crate::fault::LineFault;
 
-/// How many decimal digits are read at once: so few fit 64 bits, whatever they are.
-const SHORT: usize = 9;
+/// How many decimal digits fit 64 bits, whatever they are.
+const SHORT: usize = 19;
+
+/// How many hexadecimal digits fit 64 bits.
+const SHORT_HEX: usize = 16;
+
+/// The entry of `DIGITS` for a byte that is not a digit.
+const NO_DIGIT: u8 = 16;
+
+/// The value of each byte as a hexadecimal digit in either case, or NO_DIGIT.
+static DIGITS: [u8; 256] = [
+    NO_DIGIT, NO_DIGIT, NO_DIGIT, NO_DIGIT, NO_DIGIT, NO_DIGIT, NO_DIGIT, NO_DIGIT, NO_DIGIT,
+    NO_DIGIT, NO_DIGIT, NO_DIGIT, NO_DIGIT, NO_DIGIT, NO_DIGIT, NO_DIGIT, NO_DIGIT, NO_DIGIT,
+    NO_DIGIT, NO_DIGIT, NO_DIGIT, NO_DIGIT, NO_DIGIT, NO_DIGIT, NO_DIGIT, NO_DIGIT, NO_DIGIT,
+    NO_DIGIT, NO_DIGIT, NO_DIGIT, NO_DIGIT, NO_DIGIT, NO_DIGIT, NO_DIGIT, NO_DIGIT, NO_DIGIT,
+    NO_DIGIT, NO_DIGIT, NO_DIGIT, NO_DIGIT, NO_DIGIT, NO_DIGIT, NO_DIGIT, NO_DIGIT, NO_DIGIT,
+    NO_DIGIT, NO_DIGIT, NO_DIGIT, 0, 1, 2, 3, 4, 5, 6, 7, 8, 9, NO_DIGIT, NO_DIGIT, NO_DIGIT,
+    NO_DIGIT, NO_DIGIT, NO_DIGIT, NO_DIGIT, 10, 11, 12, 13, 14, 15, NO_DIGIT, NO_DIGIT, NO_DIGIT,
+    NO_DIGIT, NO_DIGIT, NO_DIGIT, NO_DIGIT, NO_DIGIT, NO_DIGIT, NO_DIGIT, NO_DIGIT, NO_DIGIT,
+    NO_DIGIT, NO_DIGIT, NO_DIGIT, NO_DIGIT, NO_DIGIT, NO_DIGIT, NO_DIGIT, NO_DIGIT, NO_DIGIT,
+    NO_DIGIT, NO_DIGIT, NO_DIGIT, NO_DIGIT, NO_DIGIT, 10, 11, 12, 13, 14, 15, NO_DIGIT, NO_DIGIT,
+    NO_DIGIT, NO_DIGIT, NO_DIGIT, NO_DIGIT, NO_DIGIT, NO_DIGIT, NO_DIGIT, NO_DIGIT, NO_DIGIT,
+    NO_DIGIT, NO_DIGIT, NO_DIGIT, NO_DIGIT, NO_DIGIT, NO_DIGIT, NO_DIGIT, NO_DIGIT, NO_DIGIT,
+    NO_DIGIT, NO_DIGIT, NO_DIGIT, NO_DIGIT, NO_DIGIT, NO_DIGIT, NO_DIGIT, NO_DIGIT, NO_DIGIT,
+    NO_DIGIT, NO_DIGIT, NO_DIGIT, NO_DIGIT, NO_DIGIT, NO_DIGIT, NO_DIGIT, NO_DIGIT, NO_DIGIT,
+    NO_DIGIT, NO_DIGIT, NO_DIGIT, NO_DIGIT, NO_DIGIT, NO_DIGIT, NO_DIGIT, NO_DIGIT, NO_DIGIT,
+    NO_DIGIT, NO_DIGIT, NO_DIGIT, NO_DIGIT, NO_DIGIT, NO_DIGIT, NO_DIGIT, NO_DIGIT, NO_DIGIT,
+    NO_DIGIT, NO_DIGIT, NO_DIGIT, NO_DIGIT, NO_DIGIT, NO_DIGIT, NO_DIGIT, NO_DIGIT, NO_DIGIT,
+    NO_DIGIT, NO_DIGIT, NO_DIGIT, NO_DIGIT, NO_DIGIT, NO_DIGIT, NO_DIGIT, NO_DIGIT, NO_DIGIT,
+    NO_DIGIT, NO_DIGIT, NO_DIGIT, NO_DIGIT, NO_DIGIT, NO_DIGIT, NO_DIGIT, NO_DIGIT, NO_DIGIT,
+    NO_DIGIT, NO_DIGIT, NO_DIGIT, NO_DIGIT, NO_DIGIT, NO_DIGIT, NO_DIGIT, NO_DIGIT, NO_DIGIT,
+    NO_DIGIT, NO_DIGIT, NO_DIGIT, NO_DIGIT, NO_DIGIT, NO_DIGIT, NO_DIGIT, NO_DIGIT, NO_DIGIT,
+    NO_DIGIT, NO_DIGIT, NO_DIGIT, NO_DIGIT, NO_DIGIT, NO_DIGIT, NO_DIGIT, NO_DIGIT, NO_DIGIT,
+    NO_DIGIT, NO_DIGIT, NO_DIGIT, NO_DIGIT, NO_DIGIT, NO_DIGIT, NO_DIGIT, NO_DIGIT, NO_DIGIT,
+    NO_DIGIT, NO_DIGIT, NO_DIGIT, NO_DIGIT, NO_DIGIT, NO_DIGIT, NO_DIGIT, NO_DIGIT, NO_DIGIT,
+    NO_DIGIT, NO_DIGIT, NO_DIGIT, NO_DIGIT, NO_DIGIT, NO_DIGIT, NO_DIGIT, NO_DIGIT, NO_DIGIT,
+    NO_DIGIT, NO_DIGIT, NO_DIGIT, NO_DIGIT, NO_DIGIT, NO_DIGIT, NO_DIGIT, NO_DIGIT, NO_DIGIT,
+    NO_DIGIT, NO_DIGIT, NO_DIGIT, NO_DIGIT, NO_DIGIT, NO_DIGIT, NO_DIGIT,
+];
 
 /// The number that a word writes: decimal digits, or `0x` and hexadecimal digits in either case, below 2^64.
 pub fn number(word: &[u8]) -> Option<u64>
     ensures { result ≡ number_of word.now }
 {
     match word {
-        [b'0', b'x', digits @ ..] => number_in(16, digits),
-        _ if word.len() <= SHORT => short_number(word),
-        _ => number_in(10, word),
+        [b'0', b'x', digits @ ..] => hexadecimal(digits),
+        _ => decimal(word),
     }
 }
 
@@ -27,8 +63,8 @@ pub fn integer(word: &[u8]) -> Option<i64>
     ensures { result ≡ integer_of word.now }
 {
     match word {
-        [b'-', digits @ ..] => negated(number_in(10, digits)?),
-        _ => plain(number_in(10, word)?),
+        [b'-', digits @ ..] => negated(decimal(digits)?),
+        _ => plain(decimal(word)?),
     }
 }
 
@@ -56,9 +92,20 @@ pub fn number_between(low: u64, high: u64, word: &[u8]) -> Result<u64, LineFault
     }
 }
 
-/// The number that decimal digits write, if there are any and all are digits. They are too few to overflow, so that no
-/// sum is tested: most numbers are short, and reading them takes much of the time of a file.
-fn short_number(digits: &[u8]) -> Option<u64>
+/// The number that decimal digits write, if there are any and all are digits.
+fn decimal(digits: &[u8]) -> Option<u64>
+    ensures { result ≡ within_u64 (numeral 10 digits.now) }
+{
+    if digits.len() <= SHORT {
+        short_decimal(digits)
+    } else {
+        number_in(10, digits)
+    }
+}
+
+/// The same of few digits. They are too few to overflow, so that no sum is tested: most numbers are short, and reading
+/// them takes much of the time of a file.
+fn short_decimal(digits: &[u8]) -> Option<u64>
     requires { length digits.now ≤ SHORT }
     ensures { result ≡ within_u64 (numeral 10 digits.now) }
 {
@@ -68,6 +115,32 @@ fn short_number(digits: &[u8]) -> Option<u64>
     let mut n = 0u64;
     for c in digits {
         n = n * 10 + digit(10, *c)?;
+    }
+    Some(n)
+}
+
+/// The number that hexadecimal digits write, if there are any and all are digits.
+fn hexadecimal(digits: &[u8]) -> Option<u64>
+    ensures { result ≡ within_u64 (numeral 16 digits.now) }
+{
+    if digits.len() <= SHORT_HEX {
+        short_hexadecimal(digits)
+    } else {
+        number_in(16, digits)
+    }
+}
+
+/// The same of few digits, which cannot overflow.
+fn short_hexadecimal(digits: &[u8]) -> Option<u64>
+    requires { length digits.now ≤ SHORT_HEX }
+    ensures { result ≡ within_u64 (numeral 16 digits.now) }
+{
+    if digits.is_empty() {
+        return None;
+    }
+    let mut n = 0u64;
+    for c in digits {
+        n = n * 16 + digit(16, *c)?;
     }
     Some(n)
 }
@@ -94,17 +167,8 @@ fn digit(base: u64, c: u8) -> Option<u64>
     requires { base ≤ 16 }
     ensures { result ≡ (if nat_lt (digit_value c) base then Some (digit_value c) else None) }
 {
-    let value = match c {
-        b'0'..=b'9' => c - b'0',
-        b'a'..=b'f' => c - b'a' + 10,
-        b'A'..=b'F' => c - b'A' + 10,
-        _ => return None,
-    };
-    if u64::from(value) < base {
-        Some(u64::from(value))
-    } else {
-        None
-    }
+    let value = u64::from(DIGITS[usize::from(c)]);
+    if value < base { Some(value) } else { None }
 }
 
 /// The number with one more digit after it, if it fits 64 bits.

@@ -52,6 +52,26 @@ fn words_are_separated_by_spaces_alone(rt: HostRuntime) {
 }
 
 #[test]
+fn the_first_line_is_cut_into_words(rt: HostRuntime) {
+    let long =
+        b"call read 3 0x7ffd3a100010 4096 = 2 fill 0x7ffd3a100010 0011223344556677 # and more\nnext one";
+    let mut words: [&[u8]; 3] = [&[]; 3];
+    let (count, after) = cut_words(long, &mut words);
+    assert_eq!(rt; count, 3);
+    assert_eq!(rt; words[2], b"3".as_slice());
+    assert_eq!(rt; after, b"next one".as_slice());
+    let mut words: [&[u8]; 14] = [&[]; 14];
+    let (count, after) = cut_words(long, &mut words);
+    assert_eq!(rt; count, 13);
+    assert_eq!(rt; words[8], b"0x7ffd3a100010".as_slice());
+    assert_eq!(rt; words[12], b"more".as_slice());
+    assert_eq!(rt; after, b"next one".as_slice());
+    let (count, after) = cut_words(b"  \n", &mut words);
+    assert_eq!(rt; count, 0);
+    assert!(rt; after.is_empty());
+}
+
+#[test]
 fn a_number_has_no_sign_and_fits_64_bits(rt: HostRuntime) {
     let cases: [(&str, Option<u64>); 15] = [
         ("0", Some(0)),

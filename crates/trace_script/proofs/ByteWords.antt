@@ -1,13 +1,16 @@
 -- A byte word has two digits for each of its bytes.
-use Rattle.std.proofs.Common.{◌≡◌, ◌/◌, ◌%◌, [], ℕ, true, List, length, ap, sym, arith}
-use Rattle.std.proofs.Common.{Result, Ok, nat_le, eqb-true, ◌&&◌, ◌==◌}
+use Rattle.std.proofs.Common.{◌≡◌, ◌∙◌, ◌++◌, ◌/◌, ◌%◌, [], ℕ, true, List, length, ap, sym, arith, refl, take, drop}
+use Rattle.std.proofs.Common.{◌+◌, ◌*◌, ◌<◌, ◌∷◌, false, get_or, Option, Some, None, is_some, Result, Ok, nat_le, eqb-true, ◌&&◌, ◌==◌}
+use Rattle.std.proofs.Math.Seq.{take-append_seam}
 use Rattle.std.specs.List.{list_all}
 use Rattle.std.specs.Result.{result_unwrap_or}
 use Rattle.std.proofs.lemmas.Bool.{and_parts}
 use Rattle.std.proofs.lemmas.List.Sums.{AllPass-from_list_all}
 use Rattle.hex.specs.declared.error.FromHexError.{FromHexError}
-use Rattle.hex.specs.Hex.{decode_of, is_hex_digit}
-use Rattle.hex.proofs.HexLemmas.{decode_of-digits, decode_of-ok}
+use Rattle.hex.specs.Hex.{decode_of, decode_pairs, decode_sized, digit_or_error, hex_digit_value, is_hex_digit, pair_value}
+use Rattle.hex.specs.Hex.{value_at}
+use Rattle.hex.proofs.Pairs.{decode_pairs-ok_pair}
+use Rattle.hex.proofs.HexLemmas.{decode_of-digits, decode_of-even, decode_of-ok}
 use Rattle.trace_script.specs.CaseLine.{bytes_written, is_byte_word}
 
 pub written_is : (word bytes : List ℕ) → decode_of word ≡ Ok bytes → bytes ≡ bytes_written word
@@ -24,3 +27,52 @@ bytes_are_halves word is =
     let same : length decoded.0 ≡ length (bytes_written word) =
     ap (λ (bytes : List ℕ). length bytes) (written_is word decoded.0 decoded.1) in
     omega arith
+
+-- ---- pairs of digits
+
+some_of : (o : Option ℕ) → is_some o ≡ true → (v : ℕ) × (o ≡ Some v)
+some_of (Some v) is = (v, refl)
+some_of None is = absurd (let clash : false ≡ true = is in cc)
+
+pair_is : (high low a b i : ℕ) → hex_digit_value high ≡ Some a → hex_digit_value low ≡ Some b
+    → pair_value high low i ≡ Ok (a * 16 + b)
+pair_is high low a b i is_high is_low =
+    let first : value_at high i ≡ Ok a = ap (digit_or_error high i) is_high in
+    let second : value_at low (i + 1) ≡ Ok b = ap (digit_or_error low (i + 1)) is_low in
+    rw (first, second) refl
+
+-- two digits write a byte, wherever they are
+pub pair_read : (high low : ℕ) → is_hex_digit high ≡ true → is_hex_digit low ≡ true
+    → (v : ℕ) × ((i : ℕ) → pair_value high low i ≡ Ok v)
+pair_read high low is_high is_low =
+    let a = some_of (hex_digit_value high) is_high in
+    let b = some_of (hex_digit_value low) is_low in
+    (a.0 * 16 + b.0, λ i. pair_is high low a.0 b.0 i a.1 b.1)
+
+-- and decoded alone they are this byte
+pub pair_alone : (high low v : ℕ) → pair_value high low 0 ≡ Ok v → decode_sized (high ∷ low ∷ []) 1 ≡ Ok (v ∷ [])
+unfolding decode_pairs
+pair_alone high low v is = decode_pairs-ok_pair 0 high low v [] is
+
+word_parts : (word : List ℕ) → is_byte_word word ≡ true
+    → (length word % 2 ≡ 0) × ((k : ℕ) → k < length word → is_hex_digit (get_or word k 0) ≡ true)
+word_parts word is =
+    let parts = and_parts (nat_le 2 (length word)) (length word % 2 == 0 && list_all is_hex_digit word) is in
+    let more = and_parts (length word % 2 == 0) (list_all is_hex_digit word) parts.1 in
+    (eqb-true (length word % 2) 0 more.0, λ k l. AllPass-from_list_all is_hex_digit word more.1 k 0 l)
+
+pub even_word : (word : List ℕ) → is_byte_word word ≡ true → length word % 2 ≡ 0
+even_word word is = (word_parts word is).0
+
+-- all pairs, in order, are the bytes of the word
+pub pairs_are : (word bytes : List ℕ) → is_byte_word word ≡ true → decode_pairs 0 word ≡ Ok bytes
+    → bytes ≡ bytes_written word
+pairs_are word bytes is pairs = written_is word bytes (decode_of-even word (word_parts word is).0 ∙ pairs)
+
+-- the room is filled to its end
+pub fills_room : (word out room : List ℕ) (n : ℕ) → is_byte_word word ≡ true → n ≡ length word / 2
+    → out ≡ bytes_written word → take n (out ++ drop (length out) room) ≡ bytes_written word
+fills_room word out room n is size same =
+    let long : length out ≡ length (bytes_written word) = ap (λ (bytes : List ℕ). length bytes) same in
+    let whole : n ≡ length out = omega (arith, long, bytes_are_halves word is, size) in
+    ap (λ k. take k (out ++ drop (length out) room)) whole ∙ take-append_seam out (drop (length out) room) ∙ same

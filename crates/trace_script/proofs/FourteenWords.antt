@@ -7,16 +7,19 @@ use Rattle.std.proofs.lemmas.Bool.Decides.{nat_tests}
 use Rattle.std.proofs.lemmas.List.{drop-take}
 use Rattle.text_lines.specs.declared.fault.LineFault.{LineFault}
 use Rattle.text_lines.specs.declared.fault.LineFault.TheVariants.{UnknownWord}
-use Rattle.text_lines.specs.Lines.{nth_word}
+use Rattle.text_lines.specs.Lines.{nth_word, words_in}
 use Rattle.text_lines.specs.Ranges.{◌>>=◌}
 use Rattle.trace_script.specs.declared.case.keyword.Keyword.{Keyword}
 use Rattle.trace_script.specs.declared.case.keyword.Keyword.TheVariants as keyword
 use Rattle.trace_script.specs.declared.case.keyword.Place.{Place}
+use Rattle.trace_script.specs.CaseFile.{Reading, line_read, with_line}
 use Rattle.trace_script.specs.CaseLine.{Line, Nothing, answered_call, arguments_before, call_of, data_part, does}
 use Rattle.trace_script.specs.CaseLine.{exec_step, exit_step, few_before, filled_call, fork_step, is_deadly_word, is_equals}
 use Rattle.trace_script.specs.CaseLine.{is_fill, keyword_at, line_of, loads, named_call, only_word, nr_named, page_part, plain_call}
 use Rattle.trace_script.specs.CaseLine.{rest_of, signal_of, signal_step, start_part, thread_step}
 use Rattle.trace_script.specs.CaseLine as line
+use Rattle.trace_script.specs.Draft.{words_read}
+use Rattle.trace_script.specs.Reading.{with_cause}
 use Rattle.trace_script.specs.RowWords.{row_of_words}
 use Rattle.trace_script.specs.Script.{Step}
 use Rattle.trace_script.proofs.Places.{first_of_take, first_within}
@@ -189,3 +192,10 @@ first_fourteen place (first ∷ words) =
     let same : (λ w. rest_of w (take 13 words)) ≡ (λ w. rest_of w words) = λ i w. at_most_twelve w words i in
     ap (λ (read : Keyword → Result Line LineFault). if eqb (slice_index first 0) 35 then Ok line.Nothing else
     (keyword_at place first >>= read)) same
+
+-- so a line is read by them
+pub read_by_fourteen : (n : ℕ) (so_far : Reading) (line : List ℕ) (words : List (List ℕ)) → words ≡ take 14 (words_in line)
+    → words_read n so_far words ≡ line_read n so_far line
+read_by_fourteen n so_far line words same =
+    ap (λ said. with_cause said >>= with_line n so_far)
+    (ap (line_of so_far.place) same ∙ first_fourteen so_far.place (words_in line))

@@ -1,12 +1,13 @@
 //! The block that is open while a case file is read: its script so far, and what the next step is tested against.
 
-ghost use Rattle.std.specs.Prelude.{◌≡◌, ◌<◌, ◌≤◌, ◌++◌, ◌∷◌, [], IfOk, None, OnOk, length, map, option_to_list};
+ghost use Rattle.std.specs.Prelude.{◌≡◌, ◌<◌, ◌≤◌, ◌++◌, ◌∷◌, [], IfOk, None, OnOk, length, map, option_to_list, true};
 ghost use Rattle.trace_script.specs.CaseFile.{children_of, fill_fault, late_of, next_step_fault, no_script};
 ghost use Rattle.trace_script.specs.CaseFile.{place_after, step_fault};
 ghost use Rattle.trace_script.specs.CaseFile as file;
 ghost use Rattle.trace_script.specs.Kept.{fill_of, image_of, script_of, step_of};
 ghost use Rattle.trace_script.specs.OpenBlock.{IsCounted, IsSmallStep, exec_after};
-ghost use Rattle.trace_script.specs.RawLine.{IsTestedFill, IsTestedStep, call_said, fill_said, step_said};
+ghost use Rattle.trace_script.specs.CaseLine.{is_byte_word};
+ghost use Rattle.trace_script.specs.RawLine.{IsTestedCall, IsTestedFill, IsTestedStep, call_said, fill_said, step_said};
 
 use crate::case::image::{close_image, decode, no_image};
 use crate::case::keyword::Place;
@@ -198,7 +199,8 @@ pub fn late_of(line: u32, row: u32, births: u32, step: RawStep) -> Option<Late>
 
 /// The step as it is kept, its bytes decoded.
 fn keep_step<A: Allocator + Copy>(alloc: A, step: RawStep) -> Result<Step<A>, NoMemory>
-    requires { IsSmallStep step }
+    requires tested { IsTestedStep step }
+    requires small { IsSmallStep step }
     ensures { IfOk result (λ kept. step_of kept ≡ step_said step.entry) }
 {
     match step {
@@ -218,6 +220,7 @@ fn keep_step<A: Allocator + Copy>(alloc: A, step: RawStep) -> Result<Step<A>, No
 }
 
 fn keep_call<A: Allocator + Copy>(alloc: A, call: RawCall) -> Result<Step<A>, NoMemory>
+    requires { IsTestedCall call }
     ensures { IfOk result (λ kept. step_of kept ≡ call_said call.entry) }
 {
     let fill = match call.fill {
@@ -233,6 +236,7 @@ fn keep_call<A: Allocator + Copy>(alloc: A, call: RawCall) -> Result<Step<A>, No
 }
 
 fn keep_fill<A: Allocator + Copy>(alloc: A, fill: RawFill) -> Result<Fill<A>, NoMemory>
+    requires { is_byte_word fill.bytes.now ≡ true }
     ensures { IfOk result (λ kept. Some (fill_of kept) ≡ fill_said (Some fill.entry)) }
 {
     let bytes = decode(alloc, fill.bytes)?;

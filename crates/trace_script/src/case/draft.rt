@@ -1,9 +1,9 @@
 //! What was read of a case file so far.
 
-ghost use Rattle.std.specs.Prelude.{◌≡◌, ◌++◌, OnOk, option_to_list};
-ghost use Rattle.trace_script.specs.CaseFile.{line_read, nothing_read, with_line};
+ghost use Rattle.std.specs.Prelude.{◌≡◌, ◌++◌, OnOk, map, option_to_list};
+ghost use Rattle.trace_script.specs.CaseFile.{nothing_read, with_line};
 ghost use Rattle.trace_script.specs.CaseLine as line;
-ghost use Rattle.trace_script.specs.Draft.{reading_of};
+ghost use Rattle.trace_script.specs.Draft.{reading_of, words_read};
 ghost use Rattle.trace_script.specs.OpenBlock.{IsCounted};
 ghost use Rattle.trace_script.specs.RawLine.{IsTested, IsTestedPart, IsTestedStep, line_said, part_said, step_said};
 ghost use Rattle.trace_script.specs.Reading.{TakesLine};
@@ -14,7 +14,7 @@ use crate::case::block::{
 use crate::case::image::load_part;
 use crate::case::keyword::Place;
 use crate::case::late::Late;
-use crate::case::line::read_line;
+use crate::case::line::read_words;
 use crate::case::raw_line::{RawLine, RawPart, RawStep};
 use crate::cause::Cause;
 use crate::script::Script;
@@ -52,18 +52,19 @@ pub fn new_draft<A: Allocator + Copy>(alloc: A) -> Draft<A>
     }
 }
 
-/// Takes one more line, or returns its first fault.
+/// Takes one more line by its first words, or returns its first fault.
 pub fn take_line<A: Allocator + Copy>(
     alloc: A,
     draft: &mut Draft<A>,
     number: u32,
-    line: &[u8],
+    words: &[&[u8]],
 ) -> Result<(), Cause>
     requires { IsCounted draft.old.block }
-    ensures line { TakesLine result (reading_of draft.new) (line_read number (reading_of draft.old) line.now) }
+    ensures line { TakesLine result (reading_of draft.new)
+        (words_read number (reading_of draft.old) (map (λ w. w.now) words.now)) }
     ensures counted { OnOk result (IsCounted draft.new.block) }
 {
-    let said = read_line(draft.place, line)?;
+    let said = read_words(draft.place, words)?;
     take_said(alloc, draft, number, said)
 }
 

@@ -1,6 +1,7 @@
 //! The image that the lines after `tracee` and `exec` describe, part by part.
 
-ghost use Rattle.std.specs.Prelude.{◌≡◌, ◌/◌, ◌%◌, Ok, true, IfOk, length};
+ghost use Rattle.hex.specs.Hex.{is_hex_digit, pair_value};
+ghost use Rattle.std.specs.Prelude.{◌≡◌, ◌/◌, ◌%◌, ℕ, Ok, true, IfOk, length};
 ghost use Rattle.trace_script.specs.CaseFile.{page_loaded, part_loaded, part_of_last, part_of_script, part_of_step};
 ghost use Rattle.trace_script.specs.CaseLine as line;
 ghost use Rattle.trace_script.specs.CaseLine.{bytes_written, is_byte_word, no_image};
@@ -12,6 +13,7 @@ ghost use Rattle.trace_pages.specs.Memory.{map_refusal};
 use crate::case::raw_line::RawPart;
 use crate::cause::Cause;
 use crate::script::{Image, Script, Step};
+use hex::FromHex;
 use std::alloc::Allocator;
 use trace_pages::{MapError, Memory, NoMemory, PAGE_SIZE};
 
@@ -28,11 +30,38 @@ pub fn no_image<A: Allocator + Copy>(alloc: A) -> Image<A>
 
 /// The bytes that a byte word writes.
 pub fn decode<A: Allocator + Copy>(alloc: A, word: &[u8]) -> Result<Vec<u8, A>, NoMemory>
+    requires { is_byte_word word.now ≡ true }
     ensures { IfOk result (λ bytes. bytes.items ≡ bytes_written word.now) }
 {
-    match hex::decode(alloc, word) {
-        Ok(bytes) => Ok(bytes),
-        Err(_) => Err(NoMemory),
+    let mut bytes = vec![in alloc; 0u8; word.len() / 2]?;
+    decode_into(word, bytes.as_mut_slice());
+    Ok(bytes)
+}
+
+/// Writes the bytes of a byte word to room for them. No pair of digits ends the loop early, so that it is compiled to
+/// steps of many pairs at once.
+#[inline(never)]
+fn decode_into(word: &[u8], bytes: &mut [u8])
+    requires word { is_byte_word word.now ≡ true }
+    requires room { length bytes.old ≡ length word.now / 2 }
+    ensures { bytes.new ≡ bytes_written word.now }
+{
+    for i in 0..bytes.len() {
+        bytes[i] = byte_of(word[2 * i], word[2 * i + 1]);
+    }
+}
+
+/// The byte that two digits write. Since they are digits, no error is met; one in place of a byte costs no branch.
+#[inline(always)]
+fn byte_of(high: u8, low: u8) -> u8
+    requires high { is_hex_digit high ≡ true }
+    requires low { is_hex_digit low ≡ true }
+    ensures { (i : ℕ) → pair_value high low i ≡ Ok result }
+{
+    let digits = [high, low];
+    match <[u8; 1]>::from_hex(digits.as_slice()) {
+        Ok(byte) => byte[0],
+        Err(_) => 0,
     }
 }
 
@@ -88,7 +117,7 @@ fn load_in_image<A: Allocator + Copy>(
 
 /// Maps a page of zeros.
 #[tactic(auto, using(trace_pages::proofs::Memories::mapped_is))]
-fn map_page<A: Allocator>(image: &mut Image<A>, page: u64) -> Result<(), Cause>
+fn map_page<A: Allocator + Copy>(image: &mut Image<A>, page: u64) -> Result<(), Cause>
     requires { page % PAGE_SIZE ≡ 0 }
     ensures { TakesLine result (image_of image.new) (part_loaded (image_of image.old) (line.Page page)) }
 {

@@ -1,7 +1,6 @@
 //! What a line of a case file says, by its words. All words are looked at before any number, and numbers before bytes.
 
 ghost use Rattle.std.specs.Prelude.{◌≡◌, IfOk, map};
-ghost use Rattle.text_lines.specs.Lines.{words_in};
 ghost use Rattle.trace_script.specs.CaseLine.{data_part, line_of, only_word, page_part};
 ghost use Rattle.trace_script.specs.CaseLine.{rest_of, signal_of, signal_step, start_part, thread_step};
 ghost use Rattle.trace_script.specs.RawLine.{IsTested, IsTestedPart, IsTestedStep, if_said, line_said, part_said};
@@ -12,23 +11,13 @@ use crate::case::keyword::{Keyword, Place, keyword_at};
 use crate::case::raw_line::{RawLine, RawPart, RawStep};
 use crate::case::words::{any_number, byte_word, page_address};
 use crate::row_words::{id, row_of_words};
-use text_lines::{LineFault, first_words};
+use text_lines::LineFault;
 
 /// How many words of a line are looked at: one more than any line may have.
-const WORDS_LOOKED_AT: usize = 14;
+pub const WORDS_LOOKED_AT: usize = 14;
 
-/// What a line at this place says, or its first fault.
-pub fn read_line<'a>(place: Place, line: &'a [u8]) -> Result<RawLine<'a>, LineFault>
-    ensures line { if_said line_said result ≡ line_of place (words_in line.now) }
-    ensures range { IfOk result IsTested }
-{
-    let mut words: [&[u8]; WORDS_LOOKED_AT] = [&[]; WORDS_LOOKED_AT];
-    let count = first_words(line, &mut words);
-    read_words(place, &words[..count])
-}
-
-/// What the words of a line say.
-fn read_words<'a>(place: Place, words: &[&'a [u8]]) -> Result<RawLine<'a>, LineFault>
+/// What the words of a line at this place say, or its first fault.
+pub fn read_words<'a>(place: Place, words: &[&'a [u8]]) -> Result<RawLine<'a>, LineFault>
     ensures line { if_said line_said result ≡ line_of place (map (λ w. w.now) words.now) }
     ensures range { IfOk result IsTested }
 {

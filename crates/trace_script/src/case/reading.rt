@@ -7,9 +7,10 @@ ghost use Rattle.trace_script.specs.Draft.{reading_of};
 ghost use Rattle.trace_script.specs.Reading.{Refuses, most_bytes, read_after};
 
 use crate::case::draft::{Draft, new_draft, take_line};
+use crate::case::line::WORDS_LOOKED_AT;
 use crate::cause::CaseError;
 use std::alloc::Allocator;
-use text_lines::cut_line;
+use text_lines::cut_words;
 
 /// What the lines of a file say, up to its first fault.
 pub fn read_lines<A: Allocator + Copy>(alloc: A, text: &[u8]) -> Result<Draft<A>, CaseError>
@@ -20,11 +21,12 @@ pub fn read_lines<A: Allocator + Copy>(alloc: A, text: &[u8]) -> Result<Draft<A>
         IfErr result (λ error. Refuses text.now error.cause error.line read read) }
 {
     let mut draft = new_draft(alloc);
+    let mut words: [&[u8]; WORDS_LOOKED_AT] = [&[]; WORDS_LOOKED_AT];
     let mut rest = text;
     let mut number = 1u32;
     while !rest.is_empty() {
-        let (line, after) = cut_line(rest);
-        if let Err(cause) = take_line(alloc, &mut draft, number, line) {
+        let (count, after) = cut_words(rest, &mut words);
+        if let Err(cause) = take_line(alloc, &mut draft, number, &words[..count]) {
             return Err(CaseError {
                 line: number,
                 cause,

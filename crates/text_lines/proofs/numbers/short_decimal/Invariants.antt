@@ -1,6 +1,6 @@
 use Rattle.std.proofs.Common.{◌≡◌, ◌<◌, ◌^◌, drop}
 use Rattle.text_lines.specs.Numbers.{digits_after, numeral}
-use Rattle.text_lines.proofs.numbers.short_number.Given as goal
+use Rattle.text_lines.proofs.numbers.short_decimal.Given as goal
 
 -- the digits left, after the number so far, write what all digits write
 abbrev pub invariant-loop-c : goal.invariant-loop-c

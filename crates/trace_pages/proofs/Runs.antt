@@ -11,10 +11,10 @@ use Rattle.trace_pages.specs.FlatMemory.{end_from, is_among, run, run_end}
 use Rattle.trace_pages.proofs.Among.{among_above, among_below, among_yes}
 
 -- ---- one step of a run
-step : (m : FlatMemory) (at n byte : ℕ) → at < 2 ^ 64 → byte_at m at ≡ Some byte
+pub run_end-step : (m : FlatMemory) (at n byte : ℕ) → at < 2 ^ 64 → byte_at m at ≡ Some byte
     → run_end m at (suc n) ≡ run_end m (at + 1) n
 unfolding run_end
-step m at n byte below is = rw (lt-ltb at (2 ^ 64) below, is) refl
+run_end-step m at n byte below is = rw (lt-ltb at (2 ^ 64) below, is) refl
 
 pub run_end-absent : (m : FlatMemory) (at n : ℕ) → 0 < n → at < 2 ^ 64 → byte_at m at ≡ None
     → run_end m at n ≡ Absent at
@@ -44,7 +44,7 @@ run_end-passed m at (suc k) n below there =
     let on : at + 1 + k ≡ at + suc k = omega arith in
     let first : at + 0 ≡ at = omega arith in
     ap (run_end m at) next
-    ∙ step m at (k + n) (there 0 (omega arith)).0 (omega arith) (rw first at (there 0 (omega arith)).1)
+    ∙ run_end-step m at (k + n) (there 0 (omega arith)).0 (omega arith) (rw first at (there 0 (omega arith)).1)
     ∙ run_end-passed m (at + 1) k n (omega arith)
     (λ j h. let further : at + suc j ≡ at + 1 + j = omega arith in rw further at (there (suc j) (omega arith)))
     ∙ ap (λ (a : ℕ). run_end m a n) on
@@ -98,22 +98,22 @@ run_end-past_top m at n piece below is within top =
     ∙ run_end-top m (at + length piece) (n - length piece) (omega arith) top
 
 -- ---- the bytes of a run
-run_step : (m : FlatMemory) (at n byte : ℕ) → at < 2 ^ 64 → byte_at m at ≡ Some byte
+pub run-step : (m : FlatMemory) (at n byte : ℕ) → at < 2 ^ 64 → byte_at m at ≡ Some byte
     → run m at (suc n) ≡ byte ∷ run m (at + 1) n
 unfolding run
-run_step m at n byte below is = rw (lt-ltb at (2 ^ 64) below, is) refl
+run-step m at n byte below is = rw (lt-ltb at (2 ^ 64) below, is) refl
 
-run_absent : (m : FlatMemory) (at n : ℕ) → at < 2 ^ 64 → byte_at m at ≡ None → run m at (suc n) ≡ []
+pub run-absent : (m : FlatMemory) (at n : ℕ) → at < 2 ^ 64 → byte_at m at ≡ None → run m at (suc n) ≡ []
 unfolding run
-run_absent m at n below is = rw (lt-ltb at (2 ^ 64) below, is) refl
+run-absent m at n below is = rw (lt-ltb at (2 ^ 64) below, is) refl
 
-run_top : (m : FlatMemory) (at n : ℕ) → 2 ^ 64 ≤ at → run m at (suc n) ≡ []
+pub run-top : (m : FlatMemory) (at n : ℕ) → 2 ^ 64 ≤ at → run m at (suc n) ≡ []
 unfolding run
-run_top m at n above = rw (le-ltb at (2 ^ 64) above) refl
+run-top m at n above = rw (le-ltb at (2 ^ 64) above) refl
 
-run_none : (m : FlatMemory) (at : ℕ) → run m at 0 ≡ []
+pub run-none : (m : FlatMemory) (at : ℕ) → run m at 0 ≡ []
 unfolding run
-run_none m at = refl
+run-none m at = refl
 
 -- what the end of a run of at most n from an address on says of its length
 Says : RunEnd → ℕ → ℕ → ℕ → Type 0
@@ -129,19 +129,28 @@ says_more Top at n long below says = (omega (arith, says.0), λ h. omega (arith,
 
 run_says : (m : FlatMemory) (n at : ℕ) → Says (run_end m at n) at n (length (run m at n))
 unfolding Says
-run_says m zero at = rw (run_end-none m at, run_none m at) refl
+run_says m zero at = rw (run_end-none m at, run-none m at) refl
 run_says m (suc n) at = elim (cases_lt at (2 ^ 64)) as (λ _. Says (run_end m at (suc n)) at (suc n)
     (length (run m at (suc n)))) [
-      | inr above ↦ rw (run_end-top m at (suc n) (omega arith) above, run_top m at n above)
+      | inr above ↦ rw (run_end-top m at (suc n) (omega arith) above, run-top m at n above)
           (omega arith, λ h. omega arith)
       | inl below ↦ elim (byte_at m at) as (λ o. byte_at m at ≡ o
           → Says (run_end m at (suc n)) at (suc n) (length (run m at (suc n)))) [
-            | None ↦ λ is. rw (run_end-absent m at (suc n) (omega arith) below is, run_absent m at n below is)
+            | None ↦ λ is. rw (run_end-absent m at (suc n) (omega arith) below is, run-absent m at n below is)
                 (omega arith, omega arith)
-            | Some byte ↦ λ is. rw (step m at n byte below is, run_step m at n byte below is)
+            | Some byte ↦ λ is. rw (run_end-step m at n byte below is, run-step m at n byte below is)
                 (says_more (run_end m (at + 1) n) at n (length (run m (at + 1) n)) below (run_says m n (at + 1)))
           ] refl
     ]
+
+short_end : (e : RunEnd) (at n long : ℕ) → Says e at n long → long ≤ n
+unfolding Says
+short_end Full at n long says = omega arith
+short_end (Absent first) at n long says = omega (arith, says.0)
+short_end Top at n long says = omega (arith, says.0)
+
+pub length-run : (m : FlatMemory) (at n : ℕ) → length (run m at n) ≤ n
+length-run m at n = short_end (run_end m at n) at n (length (run m at n)) (run_says m n at)
 
 whole_end : (e : RunEnd) (at n long : ℕ) → Says e at n long → long ≡ n → e ≡ Full
 unfolding Says
@@ -153,9 +162,13 @@ pub length-run-Full : (m : FlatMemory) (at n : ℕ) → run_end m at n ≡ Full 
 unfolding Says
 length-run-Full m at n e = rw e at (run_says m n at)
 
-some_is : (o : Option ℕ) → IsSome o → (byte : ℕ) × (o ≡ Some byte)
+pub some_is : (o : Option ℕ) → IsSome o → (byte : ℕ) × (o ≡ Some byte)
 some_is None is = cc
 some_is (Some byte) is = (byte, refl)
+
+pub none_some : (o : Option ℕ) → o ≡ None → IsSome o → ⊥
+none_some None is some = cc
+none_some (Some byte) is some = cc
 
 -- the bytes of a run that has all of them
 pub get_or-run : (m : FlatMemory) (at n k : ℕ) → run_end m at n ≡ Full → k < n
@@ -166,7 +179,7 @@ get_or-run m at (suc n) zero whole h =
     let first = run_end-Full m at (suc n) whole 0 h in
     let byte = some_is (byte_at m at) (rw here at first.1) in
     ap (byte_at m) here ∙ byte.1
-    ∙ ap (λ (l : List ℕ). Some (get_or l 0 0)) (sym (run_step m at n byte.0 (omega (arith, first.0)) byte.1))
+    ∙ ap (λ (l : List ℕ). Some (get_or l 0 0)) (sym (run-step m at n byte.0 (omega (arith, first.0)) byte.1))
 get_or-run m at (suc n) (suc k) whole h =
     let here : at + 0 ≡ at = omega arith in
     let on : at + suc k ≡ at + 1 + k = omega arith in
@@ -174,8 +187,8 @@ get_or-run m at (suc n) (suc k) whole h =
     let byte = some_is (byte_at m at) (rw here at first.1) in
     let below : at < 2 ^ 64 = omega (arith, first.0) in
     ap (byte_at m) on
-    ∙ get_or-run m (at + 1) n k (sym (step m at n byte.0 below byte.1) ∙ whole) (omega arith)
-    ∙ ap (λ (l : List ℕ). Some (get_or l (suc k) 0)) (sym (run_step m at n byte.0 below byte.1))
+    ∙ get_or-run m (at + 1) n k (sym (run_end-step m at n byte.0 below byte.1) ∙ whole) (omega arith)
+    ∙ ap (λ (l : List ℕ). Some (get_or l (suc k) 0)) (sym (run-step m at n byte.0 below byte.1))
 
 pub run_end-whole : (m : FlatMemory) (at n : ℕ) → length (run m at n) ≡ n → run_end m at n ≡ Full
 run_end-whole m at n whole = whole_end (run_end m at n) at n (length (run m at n)) (run_says m n at) whole
@@ -203,7 +216,7 @@ run_passed m (byte ∷ piece) at n below there =
     let on : at + 1 + length piece ≡ at + suc (length piece) = omega arith in
     let first : at + 0 ≡ at = omega arith in
     ap (run m at) next
-    ∙ run_step m at (length piece + n) byte (omega arith) (rw first at (there 0 (omega arith)))
+    ∙ run-step m at (length piece + n) byte (omega arith) (rw first at (there 0 (omega arith)))
     ∙ ap (λ (xs : List ℕ). byte ∷ xs) (run_passed m piece (at + 1) n (omega arith)
     (λ j h. let further : at + suc j ≡ at + 1 + j = omega arith in rw further at (there (suc j) (omega arith))))
     ∙ ap (λ (a : ℕ). byte ∷ (piece ++ run m a n)) on
@@ -227,7 +240,7 @@ run-within m at n piece below is within =
     ∙ run_passed m (take n piece) at 0 room (λ j h.
     let inside : j < n = omega (arith, long) in
     is.bytes j (omega arith) ∙ ap (λ (byte : ℕ). Some byte) (sym (get_or-take n piece j 0 inside)))
-    ∙ ap (λ (rest : List ℕ). take n piece ++ rest) (run_none m (at + length (take n piece)))
+    ∙ ap (λ (rest : List ℕ). take n piece ++ rest) (run-none m (at + length (take n piece)))
     ∙ append-nil (take n piece)
 
 -- ---- a run stored after another

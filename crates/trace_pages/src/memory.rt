@@ -1,7 +1,7 @@
 //! The memory of a tracee.
 //!
-//! Contracts see it as a finite map from address to byte. It is kept as the list of the pages' addresses, in the
-//! order in which they were mapped, beside one list of all their bytes in the same order.
+//! Contracts see it as a finite map from address to byte. It is kept as the list of the pages' addresses, in rising
+//! order, beside the list of the pages, each in a box of its own.
 
 ghost use Rattle.std.specs.Prelude.{◌≡◌, ◌<◌, ◌≤◌, ◌+◌, ◌*◌, ◌%◌, IsSome, IfOk, OnOk, OnErr, Some, None};
 ghost use Rattle.std.specs.Prelude.{MatchOption, IsOkUnless, nat_le, length};
@@ -12,7 +12,7 @@ ghost use Rattle.trace_pages.specs.FlatMemory.{IsPiece, MapsPage, StoresBytes, b
 use crate::fault::Fault;
 use crate::map_error::MapError;
 use crate::no_memory::NoMemory;
-use crate::pages::{MOST_PAGES, PAGE_SIZE, piece_of, push_page, rest_of_page, write_piece};
+use crate::pages::{MOST_PAGES, PAGE_SIZE, Page, insert_page, place_of, rest_of_page};
 use std::alloc::{Allocator, Global};
 use std::marker::Model;
 
@@ -20,8 +20,8 @@ use std::marker::Model;
 /// of `PAGE_SIZE`.
 #[derive(Drop)]
 pub struct Memory<A: Allocator = Global> {
-    pages: Vec<u64, A>,
-    bytes: Vec<u8, A>,
+    addresses: Vec<u64, A>,
+    pages: Vec<Page<A>, A>,
 }
 
 impl<A: Allocator> Model for Memory<A> {
@@ -32,36 +32,24 @@ impl<A: Allocator> Model for Memory<A> {
 
     ghost coded = { flat_code };
 
-    ghost view = { λ m. flat_of m.pages.items m.bytes.items };
+    ghost view = { λ m. flat_of m.addresses.items m.pages.items };
 
-    ghost invariant = { λ m. ArePages m.pages.items m.bytes.items };
+    ghost invariant = { λ m. ArePages m.addresses.items m.pages.items };
 }
 
 impl<A: Allocator + Copy> Memory<A> {
+    ghost use Rattle.trace_pages.specs.Memory.{map_refusal};
+    ghost use Rattle.trace_pages.specs.declared.map_error.MapError.{MapError};
+
     /// Memory with no page.
     pub fn new(alloc: A) -> Memory<A>
         ensures { result ≡ finite.empty }
     {
         Memory {
+            addresses: Vec::new(alloc),
             pages: Vec::new(alloc),
-            bytes: Vec::new(alloc),
         }
     }
-
-    /// A copy: memory with the same bytes at the same addresses, in the memory of the same allocator.
-    pub fn copy(&self) -> Result<Memory<A>, NoMemory>
-        ensures { IfOk result (λ copy. copy ≡ self.now) }
-    {
-        let alloc = *self.pages.allocator();
-        let pages = Vec::from_slice(alloc, self.pages.as_slice())?;
-        let bytes = Vec::from_slice(alloc, self.bytes.as_slice())?;
-        Ok(Memory { pages, bytes })
-    }
-}
-
-impl<A: Allocator> Memory<A> {
-    ghost use Rattle.trace_pages.specs.Memory.{map_refusal, store_answer};
-    ghost use Rattle.trace_pages.specs.declared.map_error.MapError.{MapError};
 
     /// Adds the page of zeros at an address that is a multiple of [`PAGE_SIZE`]. A refusal leaves the memory as it
     /// was.
@@ -82,6 +70,35 @@ impl<A: Allocator> Memory<A> {
         self.add_page(page)?;
         Ok(())
     }
+
+    /// Adds a page of zeros at its place among the others.
+    fn add_page(&mut self, page: u64) -> Result<(), NoMemory>
+        requires whole { page % PAGE_SIZE ≡ 0 }
+        requires absent { byte_at self.old page ≡ None }
+        requires room { finite.len self.old < MOST_PAGES * PAGE_SIZE }
+        ensures ok { OnOk result (MapsPage self.old self.new page) }
+        ensures grown { OnOk result (finite.len self.new ≡ finite.len self.old + PAGE_SIZE) }
+        ensures err { OnErr result (self.new ≡ self.old) }
+    {
+        let Err(place) = place_of(self.addresses.as_slice(), page) else {
+            unreachable!()
+        };
+        insert_page(&mut self.addresses, &mut self.pages, place, page)
+    }
+
+    /// A copy: memory with the same bytes at the same addresses, in the memory of the same allocator.
+    pub fn copy(&self) -> Result<Memory<A>, NoMemory>
+        ensures { IfOk result (λ copy. copy ≡ self.now) }
+    {
+        let alloc = *self.addresses.allocator();
+        let addresses = Vec::from_slice(alloc, self.addresses.as_slice())?;
+        let pages = copy_of(alloc, self.pages.as_slice())?;
+        Ok(Memory { addresses, pages })
+    }
+}
+
+impl<A: Allocator> Memory<A> {
+    ghost use Rattle.trace_pages.specs.Memory.{store_answer};
 
     /// Writes the bytes from an address on, or none of them where one of their addresses is not mapped.
     pub fn store(&mut self, addr: u64, bytes: &[u8]) -> Result<(), Fault>
@@ -106,7 +123,10 @@ impl<A: Allocator> Memory<A> {
     pub fn piece(&self, addr: u64) -> Option<&[u8]>
         ensures { MatchOption result (byte_at self.now addr ≡ None) (λ piece. IsPiece self.now addr piece.now) }
     {
-        piece_of(self.pages.as_slice(), self.bytes.as_slice(), addr)
+        let Ok(place) = place_of(self.addresses.as_slice(), addr) else {
+            return None;
+        };
+        Some(self.pages[place].rest((addr % PAGE_SIZE) as usize))
     }
 
     /// Whether a store of this many bytes from an address on can be done, without doing it: the answer is that of
@@ -137,27 +157,15 @@ impl<A: Allocator> Memory<A> {
     pub fn shrink_to_fit(&mut self)
         ensures { self.new ≡ self.old }
     {
+        self.addresses.shrink_to_fit();
         self.pages.shrink_to_fit();
-        self.bytes.shrink_to_fit();
     }
 
     /// Whether there are as many pages as there can be.
     fn is_full(&self) -> bool
         ensures { result ≡ nat_le (MOST_PAGES * PAGE_SIZE) (finite.len self.now) }
     {
-        self.pages.len() >= MOST_PAGES
-    }
-
-    /// Adds a page of zeros.
-    fn add_page(&mut self, page: u64) -> Result<(), NoMemory>
-        requires whole { page % PAGE_SIZE ≡ 0 }
-        requires absent { byte_at self.old page ≡ None }
-        requires room { finite.len self.old < MOST_PAGES * PAGE_SIZE }
-        ensures ok { OnOk result (MapsPage self.old self.new page) }
-        ensures grown { OnOk result (finite.len self.new ≡ finite.len self.old + PAGE_SIZE) }
-        ensures err { OnErr result (self.new ≡ self.old) }
-    {
-        push_page(&mut self.pages, &mut self.bytes, page)
+        self.addresses.len() >= MOST_PAGES
     }
 
     /// Writes the bytes, page by page, where all their addresses are mapped.
@@ -180,11 +188,20 @@ impl<A: Allocator> Memory<A> {
         requires within { length bytes.now + addr % PAGE_SIZE ≤ PAGE_SIZE }
         ensures { StoresBytes self.old self.new addr bytes.now }
     {
-        write_piece(
-            self.pages.as_slice(),
-            self.bytes.as_mut_slice(),
-            addr,
-            bytes,
-        );
+        let Ok(place) = place_of(self.addresses.as_slice(), addr) else {
+            unreachable!()
+        };
+        self.pages[place].write((addr % PAGE_SIZE) as usize, bytes);
     }
+}
+
+/// Copies of pages, in the same order.
+fn copy_of<A: Allocator + Copy>(alloc: A, pages: &[Page<A>]) -> Result<Vec<Page<A>, A>, NoMemory>
+    ensures { IfOk result (λ copy. copy.items ≡ pages.now) }
+{
+    let mut copy = Vec::with_capacity(alloc, pages.len())?;
+    for page in pages {
+        copy.push(page.copy(alloc)?)?;
+    }
+    Ok(copy)
 }

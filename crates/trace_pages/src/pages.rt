@@ -1,12 +1,15 @@
-//! Pages as they are kept: their addresses in one list, their bytes one after the other in another.
+//! Pages as they are kept: their addresses in one list, in rising order, and in another, in the same order, their
+//! bytes, each page's in a box of its own.
 
-ghost use Rattle.std.specs.Prelude.{◌≡◌, ◌≤◌, ◌+◌, ◌%◌, [], ◌∷◌, ◌++◌, IsSome, OnOk, OnErr, Some, None};
-ghost use Rattle.std.specs.Prelude.{MatchOption, length};
-ghost use Rattle.trace_pages.specs.FlatMemory.{IsPiece, StoresBytes, byte_at};
-ghost use Rattle.trace_pages.specs.Pages.{ArePages, AppendsZeros, IsPlace, flat_of};
+ghost use Rattle.std.specs.Prelude.{◌≡◌, ◌≤◌, ◌<◌, ◌+◌, ◌-◌, ◌%◌, IsSome, IfOk, OnOk, OnErr, Some, None};
+ghost use Rattle.std.specs.Prelude.{MatchOption, MatchResult, drop, length, take, ◌++◌};
+ghost use Rattle.std.specs.List.{insert};
+ghost use Rattle.trace_pages.specs.FlatMemory.{IsPiece, StoresBytes, byte_at, zeros};
+ghost use Rattle.trace_pages.specs.Pages.{ArePages, AreRising, HasNoPage, IsPlace, base_of, flat_of, overwritten};
 
 use crate::no_memory::NoMemory;
 use std::alloc::Allocator;
+use std::marker::Model;
 
 /// How many bytes a page has (getpagesize(2)).
 pub const PAGE_SIZE: u64 = 4096;
@@ -17,6 +20,55 @@ const PAGE_BYTES: usize = PAGE_SIZE as usize;
 /// How many pages a memory can have.
 pub const MOST_PAGES: usize = 256;
 
+/// The bytes of a page.
+#[derive(Drop)]
+pub struct Page<A: Allocator> {
+    bytes: Box<[u8; PAGE_BYTES], A>,
+}
+
+impl<A: Allocator> Model for Page<A> {
+    ghost use Rattle.std.specs.Prelude.{ℕ, List};
+
+    ghost Value = { List ℕ };
+
+    ghost view = { λ p. p.bytes.value };
+}
+
+impl<A: Allocator> Page<A> {
+    /// A page of zeros.
+    #[tactic(auto, unfolding(crate::specs::FlatMemory::zeros))]
+    pub fn zeros(alloc: A) -> Result<Page<A>, NoMemory>
+        ensures { IfOk result (λ page. page ≡ zeros PAGE_SIZE) }
+    {
+        let bytes = Box::new(alloc, [0; PAGE_BYTES])?;
+        Ok(Page { bytes })
+    }
+
+    /// A page with the same bytes.
+    pub fn copy(&self, alloc: A) -> Result<Page<A>, NoMemory>
+        ensures { IfOk result (λ page. page ≡ self.now) }
+    {
+        let bytes = Box::new(alloc, *self.bytes)?;
+        Ok(Page { bytes })
+    }
+
+    /// The bytes from an offset to the end.
+    pub fn rest(&self, from: usize) -> &[u8]
+        requires { from ≤ PAGE_SIZE }
+        ensures { result.now ≡ drop from self.now }
+    {
+        &self.bytes[from..]
+    }
+
+    /// Writes bytes from an offset on.
+    pub fn write(&mut self, from: usize, bytes: &[u8])
+        requires { from + length bytes.now ≤ PAGE_SIZE }
+        ensures { self.new ≡ overwritten self.old from bytes.now }
+    {
+        self.bytes[from..from + bytes.len()].copy_from_slice(bytes);
+    }
+}
+
 /// How far the page of an address goes on from it.
 pub fn rest_of_page(addr: u64) -> usize
     ensures { result + addr % PAGE_SIZE ≡ PAGE_SIZE }
@@ -24,54 +76,34 @@ pub fn rest_of_page(addr: u64) -> usize
     (PAGE_SIZE - addr % PAGE_SIZE) as usize
 }
 
-/// The place of the page of an address, counted from 0 in the order of the list.
-fn place_of(pages: &[u64], addr: u64) -> Option<usize>
-    ensures { IsPlace pages.now addr result }
+/// The place of the page of an address, or the place that the page would have.
+pub fn place_of(addresses: &[u64], addr: u64) -> Result<usize, usize>
+    requires { AreRising addresses.now }
+    ensures { MatchResult result (λ place. IsPlace addresses.now addr place)
+        (λ place. HasNoPage addresses.now addr place) }
 {
-    let base = addr - addr % PAGE_SIZE;
-    pages.iter().position(|page| *page == base)
+    addresses.binary_search(&(addr - addr % PAGE_SIZE))
 }
 
-/// The bytes from an address to the end of its page.
-pub fn piece_of<'a>(pages: &[u64], bytes: &'a [u8], addr: u64) -> Option<&'a [u8]>
-    requires { ArePages pages.now bytes.now }
-    ensures { let memory = flat_of pages.now bytes.now in
-        MatchOption result (byte_at memory addr ≡ None) (λ piece. IsPiece memory addr piece.now) }
-{
-    let place = place_of(pages, addr)?;
-    let from = place * PAGE_BYTES + (addr % PAGE_SIZE) as usize;
-    Some(&bytes[from..from + rest_of_page(addr)])
-}
-
-/// Writes bytes that end within the page of an address that is mapped.
-pub fn write_piece(pages: &[u64], bytes: &mut [u8], addr: u64, piece: &[u8])
-    requires kept { ArePages pages.now bytes.old }
-    requires mapped { IsSome (byte_at (flat_of pages.now bytes.old) addr) }
-    requires within { length piece.now + addr % PAGE_SIZE ≤ PAGE_SIZE }
-    ensures { StoresBytes (flat_of pages.now bytes.old) (flat_of pages.now bytes.new) addr piece.now }
-{
-    let Some(place) = place_of(pages, addr) else {
-        unreachable!()
-    };
-    let from = place * PAGE_BYTES + (addr % PAGE_SIZE) as usize;
-    bytes[from..from + piece.len()].copy_from_slice(piece);
-}
-
-/// Adds a page of zeros to the lists. Both are made longer only once there is room in both.
-pub fn push_page<A: Allocator>(
-    pages: &mut Vec<u64, A>,
-    bytes: &mut Vec<u8, A>,
+/// Puts a page of zeros at a place of the lists. Both are made longer only once there is room in both, and only the
+/// boxes behind the place move, not their bytes.
+pub fn insert_page<A: Allocator + Copy>(
+    addresses: &mut Vec<u64, A>,
+    pages: &mut Vec<Page<A>, A>,
+    place: usize,
     page: u64,
 ) -> Result<(), NoMemory>
-    ensures pages { OnOk result (pages.new.items ≡ pages.old.items ++ page ∷ []) }
-    ensures bytes { OnOk result (AppendsZeros bytes.old.items bytes.new.items) }
+    requires place { place ≤ length addresses.old.items }
+    requires paired { length pages.old.items ≡ length addresses.old.items }
+    ensures addresses { OnOk result (addresses.new.items ≡ insert addresses.old.items place page) }
+    ensures pages { OnOk result (pages.new.items ≡ insert pages.old.items place (zeros PAGE_SIZE)) }
+    ensures err_addresses { OnErr result (addresses.new.items ≡ addresses.old.items) }
     ensures err_pages { OnErr result (pages.new.items ≡ pages.old.items) }
-    ensures err_bytes { OnErr result (bytes.new.items ≡ bytes.old.items) }
 {
+    let zeros = Page::zeros(*addresses.allocator())?;
+    addresses.reserve(1)?;
     pages.reserve(1)?;
-    bytes.reserve(PAGE_BYTES)?;
-    let longer = bytes.len() + PAGE_BYTES;
-    if pages.push(page).is_err() || bytes.resize(longer, 0).is_err() {
+    if addresses.insert(place, page).is_err() || pages.insert(place, zeros).is_err() {
         unreachable!()
     }
     Ok(())

@@ -7,8 +7,8 @@ use Rattle.trace_pages.proofs.memory.Memory.is_full.Goals as goal
 
 pub returns : goal.returns
 returns g c =
-    let count : len c.args.self.now ≡ 4096 * length c.self.inside.pages.items =
-    rw (← c.self.view_is) (len-flat_of c.self.inside.pages.items c.self.inside.bytes.items c.self.invariant) in
-    let pages : c.len.result ≡ length c.self.inside.pages.items =
-    omega (arith, c.len.ensures, c.self.inside.pages.ok.0) in
+    let count : len c.args.self.now ≡ 4096 * length c.self.inside.addresses.items =
+    rw (← c.self.view_is) (len-flat_of c.self.inside.addresses.items c.self.inside.pages.items c.self.invariant) in
+    let addresses : c.len.result ≡ length c.self.inside.addresses.items =
+    omega (arith, c.len.ensures, c.self.inside.addresses.ok.0) in
     grind (arith, nat_tests)

@@ -22,10 +22,10 @@ use Rattle.stop_history.specs.declared.refused.Refused.TheVariants as refused
 use Rattle.stop_history.specs.declared.roster.Row.{Row}
 use Rattle.stop_history.specs.declared.state.State.{State}
 use Rattle.stop_history.specs.declared.state.State.TheVariants as state
-use Rattle.stop_board.specs.Action.{ClaimReplies, Exchanges, done, look_reply, numbered, restart_in, row_seen}
+use Rattle.stop_board.specs.Action.{ClaimReplies, Exchanges, done, look_reply, numbered, row_seen}
 use Rattle.stop_board.specs.Action.{taken_by, took, tracee_change, tracer_change, waits}
 use Rattle.stop_history.specs.Actor.{numbered_actor}
-use Rattle.stop_history.specs.Change.{history_with, taken_with}
+use Rattle.stop_history.specs.Change.{history_with, restart_in, taken_with}
 use Rattle.stop_history.specs.Event as event
 use Rattle.stop_history.specs.Event.{Event, History, events_of}
 use Rattle.stop_history.specs.Sequential.{and_then, claim_answer, claim_state, exit_answer, goes_on, publish_answer}

@@ -22,10 +22,10 @@ use Rattle.stop_history.specs.declared.refused.Refused.{Refused}
 use Rattle.stop_history.specs.declared.roster.Row.{Row}
 use Rattle.stop_history.specs.declared.state.State.{State}
 use Rattle.stop_history.specs.declared.state.State.TheVariants as state
-use Rattle.stop_board.specs.Action.{ClaimReplies, Exchanges, TraceeReplies, TracerReplies, done, numbered, restart_in}
+use Rattle.stop_board.specs.Action.{ClaimReplies, Exchanges, TraceeReplies, TracerReplies, done, numbered}
 use Rattle.stop_board.specs.Action.{taken_by, took, tracee_change, tracer_change, waits, row_seen}
 use Rattle.stop_history.specs.Actor.{numbered_actor}
-use Rattle.stop_history.specs.Change.{Change, IsAllowed, history_with, taken_with, words_with}
+use Rattle.stop_history.specs.Change.{Change, IsAllowed, history_with, restart_in, taken_with, words_with}
 use Rattle.stop_history.specs.Event as event
 use Rattle.stop_history.specs.Event.{Event, History, events_of, subject}
 use Rattle.stop_history.specs.History.{Fits, IsLegal, births_after, creates_next, holding_back}

@@ -7,7 +7,6 @@ use Rattle.trace_record.specs.Death.{IsDeath}
 use Rattle.trace_record.specs.Resume.{IsResume}
 use Rattle.trace_record.specs.Stop.{IsStop}
 use Rattle.trace_record.specs.declared.resume.Resume.{Resume}
-use Rattle.trace_record.specs.declared.resume.Kind.TheVariants.{Cont}
 use Rattle.stop_board.specs.declared.world.action.Action.{Action}
 use Rattle.stop_board.specs.declared.world.action.Action.TheVariants as action
 use Rattle.stop_board.specs.declared.world.action.Reply.{Reply}
@@ -19,7 +18,7 @@ use Rattle.stop_history.specs.declared.refused.Refused.TheVariants as refused
 use Rattle.stop_history.specs.declared.roster.Row.{Row}
 use Rattle.stop_history.specs.declared.state.State.{State}
 use Rattle.stop_history.specs.declared.state.State.TheVariants as state
-use Rattle.stop_history.specs.Change.{Change, Happened, Nothing, TakenUp}
+use Rattle.stop_history.specs.Change.{Change, Happened, Nothing, TakenUp, restart_in}
 use Rattle.stop_history.specs.Event as event
 use Rattle.stop_history.specs.History.{creates_next, holding_back}
 use Rattle.stop_history.specs.Sequential.{and_then, next_number, resume_by, running_by, unless_held}
@@ -57,12 +56,6 @@ done (Err refusal) = reply.Refused refusal
 abbrev pub look_reply : List Row → Sight → ℕ → Reply
 look_reply rows sight row =
     if nat_lt row (length rows) then reply.Word (sight.words row) else reply.Refused refused.NoRow
-
--- the restart that a tracee takes up: that of its last resume, or to its first stop
-abbrev pub restart_in : Phase → Result Resume Refused
-restart_in phase.Fresh = Ok (record { kind = Cont; signal = 0 })
-restart_in (phase.Resumed how) = Ok how
-restart_in other = Err refused.NotRunning
 
 -- a row that is to publish or to exit runs, and its tracee has taken it up
 abbrev pub taken_by : State → Bool → Result (Unit {0}) Refused

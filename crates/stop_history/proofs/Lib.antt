@@ -1,16 +1,16 @@
 -- Other crates cite the modules that are `pub`. The others prove the laws of this crate.
 pub mod AtomicSteps
-mod Births
+pub mod Births
 pub mod Children
 mod Claims
 pub mod Events
 pub mod Going
-mod LegalWords
-mod Longer
-mod Over
+pub mod LegalWords
+pub mod Longer
+pub mod Over
 mod Places
 pub mod Rosters
-mod Settled
+pub mod Settled
 pub mod Standing
 pub mod States
 pub mod Words

@@ -1,7 +1,12 @@
 -- What one atomic step on the cells changes: nothing, or a tracee takes its row up, or an event happens (ptrace(2),
 -- "Stopped states": a tracee runs from its restart to its next stop).
-use Rattle.std.specs.Prelude.{◌≡◌, ◌==◌, ◌&&◌, ◌||◌, ◌∷◌, ℕ, Bool, false, not, List, slice_set}
+use Rattle.std.specs.Prelude.{◌≡◌, ◌==◌, ◌&&◌, ◌||◌, ◌∷◌, ℕ, Bool, false, not, List, Result, Ok, Err, slice_set}
+use Rattle.trace_record.specs.declared.resume.Kind.TheVariants.{Cont}
+use Rattle.trace_record.specs.declared.resume.Resume.{Resume as Restart}
+use Rattle.stop_history.specs.declared.phase.Phase.{Phase}
 use Rattle.stop_history.specs.declared.phase.Phase.TheVariants as phase
+use Rattle.stop_history.specs.declared.refused.Refused.{Refused}
+use Rattle.stop_history.specs.declared.refused.Refused.TheVariants as refused
 use Rattle.stop_history.specs.declared.roster.Row.{Row}
 use Rattle.stop_history.specs.declared.state.State.TheVariants as state
 use Rattle.stop_history.specs.Event as event
@@ -26,6 +31,12 @@ word_after_event word (event.Exit row death) = died word death
 -- the word of a row that its tracee has taken up
 abbrev pub taken_up : Word → Word
 taken_up word = record { phase = phase.Active; births = word.births; number = word.number }
+
+-- the restart that a tracee takes up: that of its last resume, or to its first stop
+abbrev pub restart_in : Phase → Result Restart Refused
+restart_in phase.Fresh = Ok (record { kind = Cont; signal = 0 })
+restart_in (phase.Resumed how) = Ok how
+restart_in other = Err refused.NotRunning
 
 abbrev pub words_with : Change → List Word → List Word
 words_with Nothing words = words

@@ -13,7 +13,7 @@ ghost use Rattle.stop_history.specs.Change.{Change, Happened, IsAllowed, TakenUp
 ghost use Rattle.stop_history.specs.Change.{word_after_event, words_with};
 ghost use Rattle.stop_history.specs.Event.{Event, History, events_of, subject};
 ghost use Rattle.stop_history.specs.Roster.{IsPlaced, IsRoster, parent_of, rank_of, row_at};
-ghost use Rattle.stop_history.specs.declared.limits.TheConstants.{MOST_ROWS};
+ghost use Rattle.stop_history.specs.declared.limits.TheConstants.{LAST_ID, LAST_NUMBER, MOST_ROWS, TRACERS};
 ghost use Rattle.stop_history.specs.State.{is_born, is_waitable, state_after};
 ghost use Rattle.stop_history.specs.Layout.{raw_of};
 ghost use Rattle.stop_history.specs.Ranges.{AreInRange};
@@ -173,4 +173,12 @@ pub fn over_stays_over()
         (row : ℕ) → IsOver rows deaths h row → IsOver rows deaths (more ++ h) row }
     ensures gone { (rows : List Row) (deaths : Bool) (h : History) (row : ℕ) → IsOver rows deaths h row →
         is_gone deaths (state_after rows h row) ≡ true }
+{}
+
+/// The limits: rows of a roster, ids, tracers, and the number of a row's last stop.
+pub fn limits_are_fixed()
+    ensures rows { MOST_ROWS ≡ 64 }
+    ensures ids { LAST_ID ≡ 4194303 }
+    ensures tracers { TRACERS ≡ 16 }
+    ensures numbers { LAST_NUMBER ≡ 16777215 }
 {}

@@ -10,7 +10,11 @@
 //! | `Dead` | the status of the death | any tracer claims it |
 //! | `Reaped` | nothing | nobody |
 
-use trace_record::Resume;
+ghost use Rattle.std.specs.Prelude.{◌≡◌};
+ghost use Rattle.stop_history.specs.Change.{restart_in};
+
+use crate::refused::Refused;
+use trace_record::{Kind, Resume};
 
 /// Where a row is in its life. Statuses are raw wait statuses (wait(2)).
 #[derive(Clone, Copy, Debug, PartialEq, Eq, Hash)]
@@ -29,4 +33,23 @@ pub enum Phase {
     Dead { status: u32 },
     /// A tracer has claimed its death.
     Reaped,
+}
+
+/// The restart that a row of this phase has to take up: that of its last resume, or of a fresh row, a `Cont` that hands
+/// over no signal. `NotRunning` in every other phase.
+pub fn restart_in(phase: Phase) -> Result<Resume, Refused>
+    ensures { result ≡ restart_in phase }
+{
+    match phase {
+        Phase::Fresh => Ok(Resume {
+            kind: Kind::Cont,
+            signal: 0,
+        }),
+        Phase::Resumed(how) => Ok(how),
+        Phase::Active
+        | Phase::Stopped { .. }
+        | Phase::Claimed { .. }
+        | Phase::Dead { .. }
+        | Phase::Reaped => Err(Refused::NotRunning),
+    }
 }

@@ -2,8 +2,8 @@
 //! word of its own row alone, and only while the row is the tracee's to move.
 
 ghost use Rattle.std.specs.Prelude.{◌≡◌, ℕ, Result, length};
-ghost use Rattle.stop_board.specs.Action.{IsAction, TraceeReplies, restart_in, taken_by, tracee_change};
-ghost use Rattle.stop_history.specs.Change.{taken_up, words_with};
+ghost use Rattle.stop_board.specs.Action.{IsAction, TraceeReplies, taken_by, tracee_change};
+ghost use Rattle.stop_history.specs.Change.{restart_in, taken_up, words_with};
 ghost use Rattle.stop_history.specs.History.{creates_next, holding_back};
 ghost use Rattle.stop_history.specs.Roster.{IsRoster};
 ghost use Rattle.stop_history.specs.Sequential.{and_then, next_number, running_by, unless_held};
@@ -16,8 +16,8 @@ ghost use Rattle.trace_record.specs.Stop.{IsStop};
 use super::action::{Action, Reply};
 use super::look_at;
 use crate::words::{exit_running, publish_running, running, state_of};
-use stop_history::{Phase, Refused, Row, Word, taken_up};
-use trace_record::{Death, Kind, Resume, Stop};
+use stop_history::{Phase, Refused, Row, Word, restart_in, taken_up};
+use trace_record::{Death, Resume, Stop};
 
 /// A step of the tracee of a row.
 pub(crate) fn tracee_step(rows: &[Row], words: &mut [Word], row: u32, action: Action) -> Reply
@@ -59,24 +59,6 @@ fn take_up_at(rows: &[Row], words: &mut [Word], row: u32) -> Result<Resume, Refu
     // The restart is the tracee's now: no later step can take it up again.
     words[at] = taken_up(word);
     Ok(how)
-}
-
-/// The restart that a row of this phase has to take up.
-fn restart_in(phase: Phase) -> Result<Resume, Refused>
-    ensures { result ≡ restart_in phase }
-{
-    match phase {
-        Phase::Fresh => Ok(Resume {
-            kind: Kind::Cont,
-            signal: 0,
-        }),
-        Phase::Resumed(how) => Ok(how),
-        Phase::Active
-        | Phase::Stopped { .. }
-        | Phase::Claimed { .. }
-        | Phase::Dead { .. }
-        | Phase::Reaped => Err(Refused::NotRunning),
-    }
 }
 
 /// Publishes the next stop of a row that its tracee has taken up.

@@ -4,7 +4,8 @@
 //! they name, and answers it only if that word packs to the very bits: so an unused bit that is set has no word.
 
 ghost use Rattle.std.specs.Prelude.{◌≡◌, ◌↔◌, ◌<◌, ◌≤◌, ◌^◌, ◌%◌, ◌/◌, IfSome, Some, IsTrue};
-ghost use Rattle.stop_history.specs.Layout.{kind_number, raw_of};
+ghost use Rattle.stop_history.specs.Layout.{kept_of, kind_number, raw_of};
+ghost use Rattle.stop_history.specs.Parts.{kept_in};
 ghost use Rattle.stop_history.specs.Word as words;
 ghost use Rattle.stop_history.specs.Word.{IsPhase, IsWord, Reports, reports_death, reports_stop};
 ghost use Rattle.stop_history.specs.declared.phase.Phase.{Phase};
@@ -52,21 +53,59 @@ impl Word {
         ensures word { IfSome result (λ word. IsWord word × (raw_of word ≡ raw)) }
         ensures each { (word : words.Word) → IsWord word → raw_of word ≡ raw → result ≡ Some word }
     {
+        let cut = Cut::of(raw);
+        let word = word_of(cut.parts.phase()?, cut.births, cut.number)?;
+        if word.pack() == raw { Some(word) } else { None }
+    }
+
+    /// The word of these bits, which are those of some word: `unpack` without its tests.
+    pub fn unpack_known(raw: u64) -> Word
+        requires { (word : words.Word) × IsWord word × (raw_of word ≡ raw) }
+        ensures { IsWord result × (raw_of result ≡ raw) }
+    {
+        let cut = Cut::of(raw);
+        let Some(phase) = cut.parts.phase() else {
+            unreachable!()
+        };
+        Word {
+            phase,
+            births: cut.births,
+            number: cut.number,
+        }
+    }
+}
+
+/// The fields that the bits of a word have.
+#[derive(Clone, Copy)]
+struct Cut {
+    parts: Parts,
+    births: u8,
+    number: u32,
+}
+
+impl Cut {
+    fn of(raw: u64) -> Cut
+        ensures { (word : words.Word) → IsWord word → raw_of word ≡ raw
+            → (kept_in result.parts ≡ kept_of word.phase) × (result.births ≡ word.births)
+            × (result.number ≡ word.number) }
+    {
         let (state, rest) = split(raw, STATE_BITS);
         let (births, rest) = split(rest, BIRTHS_BITS);
         let (number, rest) = split(rest, NUMBER_BITS);
         let (status, rest) = split(rest, STATUS_BITS);
         let (kind, rest) = split(rest, KIND_BITS);
         let (signal, tracer) = split(rest, SIGNAL_BITS);
-        let parts = Parts {
-            state: state as u8,
-            status: status as u16,
-            kind: kind as u8,
-            signal: signal as u8,
-            tracer: tracer as u8,
-        };
-        let word = word_of(parts.phase()?, births as u8, number as u32)?;
-        if word.pack() == raw { Some(word) } else { None }
+        Cut {
+            parts: Parts {
+                state: state as u8,
+                status: status as u16,
+                kind: kind as u8,
+                signal: signal as u8,
+                tracer: tracer as u8,
+            },
+            births: births as u8,
+            number: number as u32,
+        }
     }
 }
 

@@ -1,0 +1,5 @@
+mod Parts
+mod Ends
+mod Fronts
+mod Places
+mod Entries

@@ -1,0 +1,2 @@
+pub mod ByteView
+pub mod IovecView

@@ -1,0 +1,73 @@
+-- A tracer resumes a row that it has claimed.
+use Rattle.std.proofs.Common.{◌∙◌, ap, arith, remove, subst, sym}
+use Rattle.std.specs.Arc.{arc_value}
+use Rattle.stop_history.specs.Event as event
+use Rattle.stop_table.specs.Entry.{bare}
+use Rattle.stop_table.specs.Handle.{EndsWith, IsHolding}
+use Rattle.stop_table.specs.Tracer.{IsTracer, TracerHandle}
+use Rattle.stop_table.specs.View.{View}
+use Rattle.stop_table.proofs.Tracers.{at_front, is_held_row, let_go, turned_tracer}
+use Rattle.stop_table.proofs.Walking.{ended_with}
+use Rattle.stop_table.proofs.tracer.Tracer.resume.Goals as goal
+
+pub bring-requires-clause-rows : goal.bring-requires-clause-rows
+bring-requires-clause-rows g c =
+    let x = c.self.inside in
+    let key = (arc_value x.cells).table.shared.key in
+    let t = c.self.invariant.1 in
+    let holding = subst (λ (h : TracerHandle). IsHolding h.view c.args.claim.row c.args.claim.word c.args.claim.stop)
+    (sym c.self.view_is) c.requires.claim in (
+      t.apart,
+      is_held_row key x.seat.me x.number x.held.items c.args.claim.row c.args.claim.word c.args.claim.stop t holding,
+    )
+
+pub let_run-requires-clause-held : goal.let_run-requires-clause-held
+let_run-requires-clause-held g c =
+    let x = c.self.inside in
+    let key = (arc_value x.cells).table.shared.key in
+    let t = c.self.invariant.1 in
+    let holding = subst (λ (h : TracerHandle). IsHolding h.view c.args.claim.row c.args.claim.word c.args.claim.stop)
+    (sym c.self.view_is) c.requires.claim in
+    let turned = turned_tracer key x.seat.me c.bring.new.seat.me x.number x.held.items c.bring.new.rows.items t
+    c.bring.ensures.seat.2 c.bring.ensures.slots c.bring.ensures.rows.0 c.bring.ensures.rows.1 in
+    at_front x.seat.me c.bring.new.seat.me c.args.claim.row c.bring.new.rows.items c.bring.ensures.front.0
+    c.args.claim.word c.args.claim.stop holding c.bring.ensures.seat.2 c.bring.ensures.slots c.bring.ensures.front.1
+
+pub invariant_of-self : goal.invariant_of-self
+invariant_of-self g c =
+    let x = c.self.inside in
+    let key = (arc_value x.cells).table.shared.key in
+    let t = c.self.invariant.1 in
+    let holding = subst (λ (h : TracerHandle). IsHolding h.view c.args.claim.row c.args.claim.word c.args.claim.stop)
+    (sym c.self.view_is) c.requires.claim in
+    let turned = turned_tracer key x.seat.me c.bring.new.seat.me x.number x.held.items c.bring.new.rows.items t
+    c.bring.ensures.seat.2 c.bring.ensures.slots c.bring.ensures.rows.0 c.bring.ensures.rows.1 in
+    let others = c.bring.ensures.front.0 in
+    let front = subst (IsTracer key c.bring.new.seat.me x.number) c.bring.ensures.front.1 turned in
+    let last = let_go key c.bring.new.seat.me c.let_run.new.seat.me x.number c.args.claim.row c.args.claim.word.number
+    c.args.how others front c.let_run.ensures.1 in
+    let wide = c.self.invariant.2 in (
+      c.let_run.ensures.0.0 ∙ c.bring.ensures.seat.0 ∙ c.self.invariant.0,
+      subst (IsTracer key c.let_run.new.seat.me x.number)
+          (sym (c.remove.ensures.items ∙ ap (λ items. remove items 0) c.bring.ensures.front.1)) last,
+      omega (arith, wide, c.bring.ensures.capacity.1, c.remove.ensures.capacity),
+    )
+
+pub returns-clause-made : goal.returns-clause-made
+returns-clause-made g c =
+    let x = c.self.inside in
+    let key = (arc_value x.cells).table.shared.key in
+    let t = c.self.invariant.1 in
+    let holding = subst (λ (h : TracerHandle). IsHolding h.view c.args.claim.row c.args.claim.word c.args.claim.stop)
+    (sym c.self.view_is) c.requires.claim in
+    let turned = turned_tracer key x.seat.me c.bring.new.seat.me x.number x.held.items c.bring.new.rows.items t
+    c.bring.ensures.seat.2 c.bring.ensures.slots c.bring.ensures.rows.0 c.bring.ensures.rows.1 in
+    let run = c.let_run.ensures.1 in
+    let number = c.args.claim.word.number in
+    let row = c.args.claim.row in
+    let x' = bare (event.Resume row number c.args.how c.bring.new.seat.me.0.number) in (
+      run.1,
+      subst (λ (v : View). EndsWith v c.let_run.new.seat.me.0 run.1 (bare (event.Resume row number c.args.how v.number)))
+          (c.bring.ensures.seat.2 ∙ ap (λ (h : TracerHandle). h.view) c.self.view_is)
+          (ended_with c.bring.new.seat.me.0 c.let_run.new.seat.me.0 row run.1 x' c.bring.new.seat.me.0.taken run.2),
+    )

@@ -1,0 +1,15 @@
+-- What an attempt to claim a row answers (waitid(2): a stop, and a death with WEXITED).
+use Rattle.std.specs.Prelude.{◌≡◌, ℕ, Bool, true, false}
+use Rattle.stop_table.specs.declared.claim.Taken.{Taken}
+use Rattle.stop_table.specs.declared.claim.Taken.TheVariants as taken
+use Rattle.stop_table.specs.Handle.{AnswersAt, Claims, IsHolding, Reaps, is_claimable}
+use Rattle.stop_table.specs.View.{View}
+
+-- the stop was claimed, or the death where deaths are asked for; or the row was at a point of the call as the answer
+-- says, and not to be claimed there
+abbrev pub IsTaken : {A : Type 0} → (deaths : Bool) → View → View → ℕ → Taken A → Type 0
+IsTaken deaths v w row (taken.Stop claim) =
+    Claims v w row claim.stop × IsHolding w row claim.word claim.stop
+    × (claim.row ≡ row) × (claim.tracer ≡ v.number)
+IsTaken deaths v w row (taken.Ended death number) = Reaps v w row death number × (deaths ≡ true)
+IsTaken deaths v w row (taken.Nothing a) = AnswersAt v w row a × (is_claimable deaths a ≡ false)

@@ -1,0 +1,13 @@
+pub mod Claiming
+pub mod Entry
+pub mod Group
+pub mod Handle
+pub mod Opening
+pub mod Place
+pub mod Rule
+pub mod Seat
+pub mod Start
+pub mod Steps
+pub mod Tracee
+pub mod Tracer
+pub mod View

@@ -1,0 +1,95 @@
+//! Laws of what the contracts tell: each function is its contract alone.
+
+ghost use Rattle.std.specs.Prelude.{◌≡◌, ◌∷◌, ◌≢◌, ◌||◌, ◌+◌, ℕ, true, List, filter, is_some, if◌then◌else◌};
+ghost use Rattle.trace_record.specs.Content.{Content};
+ghost use Rattle.trace_record.specs.Stop.{child_of};
+ghost use Rattle.trace_record.specs.declared.death.Death.{Death};
+ghost use Rattle.stop_history.specs.declared.actor.Actor.{Actor};
+ghost use Rattle.stop_history.specs.declared.roster.Row.{Row};
+ghost use Rattle.stop_history.specs.Actor.{actor_of};
+ghost use Rattle.stop_history.specs.Event as event;
+ghost use Rattle.stop_history.specs.Event.{subject};
+ghost use Rattle.stop_history.specs.History.{IsLegal};
+ghost use Rattle.stop_history.specs.Ranges.{AreInRange};
+ghost use Rattle.stop_history.specs.Roster.{row_at};
+ghost use Rattle.stop_history.specs.Word.{Word};
+ghost use Rattle.stop_table.specs.Entry.{AreLegal, Entry, bare, cell_after, content_after, history_of, publish_of};
+ghost use Rattle.stop_table.specs.Handle.{EndsWith, Grows, IsHolding, Meets, own_events};
+ghost use Rattle.stop_table.specs.Tracer.{is_held};
+ghost use Rattle.stop_table.specs.View.{View, actors_of, is_among};
+
+/// A call that only looks leaves a handle's own events as they were.
+pub fn looks_make_no_event()
+    ensures { (v w : View) → Grows v w → own_events w ≡ own_events v }
+{}
+
+/// A call that ends what is seen with an event of the handle's own actors adds that event to its own events, and no
+/// other.
+pub fn an_event_of_its_own_is_one_more()
+    ensures { (v w : View) (before : List Entry) (x : Entry) → EndsWith v w before x →
+        actors_of v (actor_of x.event) ≡ true → own_events w ≡ x ∷ own_events v }
+{}
+
+/// The rows that a tracer has claimed stay claimed, with their words and contents, while it makes no event.
+pub fn claims_stay()
+    ensures looks { (v w : View) → is_among v.number v.tracers ≡ true → Grows v w → (row : ℕ) →
+        is_held v row ≡ true → cell_after w.roster w.seen row ≡ cell_after v.roster v.seen row }
+    ensures events { (v w : View) (before : List Entry) (x : Entry) → is_among v.number v.tracers ≡ true →
+        EndsWith v w before x → (row : ℕ) → row ≢ subject x.event →
+        is_held v row ≡ true → cell_after w.roster w.seen row ≡ cell_after v.roster v.seen row }
+{}
+
+/// A merged handle acts for the actors of both and no others; of either's actors it has seen the events that were that
+/// handle's own, and no others; and the rows that the first had claimed are as they were.
+pub fn a_meeting_keeps_events()
+    ensures actors { (v w u : View) → Meets v w u → (a : Actor) →
+        actors_of u a ≡ (actors_of v a || actors_of w a) }
+    ensures first { (v w u : View) → Meets v w u →
+        filter (λ x. actors_of v (actor_of x.event)) u.seen ≡ own_events v }
+    ensures second { (v w u : View) → Meets v w u →
+        filter (λ x. actors_of w (actor_of x.event)) u.seen ≡ own_events w }
+    ensures claims { (v w u : View) → is_among v.number v.tracers ≡ true → Meets v w u →
+        AreLegal u.roster u.seen → (row : ℕ) →
+        is_held v row ≡ true → cell_after u.roster u.seen row ≡ cell_after v.roster v.seen row }
+{}
+
+/// The events of what a handle has seen are a legal history in range: so the laws of histories hold of it, among them
+/// that no stop is claimed twice.
+pub fn what_is_seen_is_legal()
+    ensures legal { (rows : List Row) (h : List Entry) → AreLegal rows h → IsLegal rows (history_of h) }
+    ensures in_range { (rows : List Row) (h : List Entry) → AreLegal rows h → AreInRange (history_of h) }
+{}
+
+/// The record of a row is that of its tracee, with the number of its last stop.
+pub fn a_record_is_its_rows()
+    ensures { (rows : List Row) (h : List Entry) → AreLegal rows h → (row : ℕ) →
+        ((content_after rows h row).tid ≡ (row_at rows row).tid)
+        × ((content_after rows h row).number ≡ (cell_after rows h row).number) }
+{}
+
+/// A row's stops and children are counted by the publishes of its tracee alone.
+pub fn stops_are_counted_by_their_tracee()
+    ensures looks { (v w : View) (row : ℕ) → is_among row v.tracees ≡ true → Grows v w →
+        ((cell_after w.roster w.seen row).births ≡ (cell_after v.roster v.seen row).births)
+        × ((cell_after w.roster w.seen row).number ≡ (cell_after v.roster v.seen row).number) }
+    ensures publishes { (v w : View) (before : List Entry) (row : ℕ) (content : Content) →
+        is_among row v.tracees ≡ true → EndsWith v w before (publish_of row content) →
+        ((cell_after w.roster w.seen row).births
+        ≡ (if is_some (child_of content.stop) then (cell_after v.roster v.seen row).births + 1
+        else (cell_after v.roster v.seen row).births))
+        × ((cell_after w.roster w.seen row).number ≡ content.number) }
+    ensures exits { (v w : View) (before : List Entry) (row : ℕ) (death : Death) →
+        is_among row v.tracees ≡ true → EndsWith v w before (bare (event.Exit row death)) →
+        ((cell_after w.roster w.seen row).births ≡ (cell_after v.roster v.seen row).births)
+        × ((cell_after w.roster w.seen row).number ≡ (cell_after v.roster v.seen row).number) }
+{}
+
+/// A claim is the tracer's to resume for as long as the tracer makes no event of its row.
+pub fn claims_stay_in_hand()
+    ensures looks { (v w : View) (row : ℕ) (word : Word) (content : Content) →
+        is_among v.number v.tracers ≡ true → Grows v w →
+        IsHolding v row word content → IsHolding w row word content }
+    ensures events { (v w : View) (before : List Entry) (x : Entry) (row : ℕ) (word : Word) (content : Content) →
+        is_among v.number v.tracers ≡ true → EndsWith v w before x → row ≢ subject x.event →
+        IsHolding v row word content → IsHolding w row word content }
+{}

@@ -1,0 +1,245 @@
+-- The claims that are kept, as the history goes on.
+use Rattle.std.proofs.Common.{refl, ◌≡◌, ◌≢◌, ◌<◌, ◌++◌, [], ℕ, Bool, true, false, List, length}
+use Rattle.std.proofs.Common.{ℤ, get_or, set, IfNone}
+use Rattle.std.proofs.Common.{Option, Some, None, replicate, ◌∙◌, sym, ap, inl, inr, arith, subst, eq-eqb, is_some}
+use Rattle.std.specs.List.{list_any}
+use Rattle.std.proofs.lemmas.Bool.{cases_Bool}
+use Rattle.std.proofs.lemmas.List.{length-set}
+use Rattle.std.proofs.lemmas.Option.{slice_get_read, slice_get_within}
+use Rattle.trace_record.specs.Content.{Content}
+use Rattle.stop_history.specs.declared.roster.Row.{Row}
+use Rattle.stop_history.specs.declared.phase.Phase.TheVariants as phase
+use Rattle.stop_history.specs.Event as event
+use Rattle.stop_history.specs.Event.{events_of, subject}
+use Rattle.trace_record.specs.declared.resume.Resume.{Resume as Restart}
+use Rattle.stop_history.specs.State.{is_born, state_after}
+use Rattle.stop_history.specs.Word.{Word, phase_in, shown}
+use Rattle.stop_history.proofs.Longer.{claimed_before}
+use Rattle.stop_table.specs.declared.claim.Claim.{Claim}
+use Rattle.stop_table.specs.Entry.{bare, AreLegal, Cell, Entry, GoesOn, cell_after, history_of, word_of}
+use Rattle.stop_table.specs.Handle.{EndsWith, IsHolding, Looked}
+use Rattle.stop_table.specs.Tracer.{IsTracerHandle, TracerHandle, held_rows, is_claimed_by, is_held}
+use Rattle.stop_table.specs.View.{View, actors_of, is_among}
+use Rattle.stop_table.proofs.Entries.{content_number, history_append, other_cell, own_cell, shown_state, stays_on}
+use Rattle.stop_table.proofs.Own.{claimed_by_is, held_moved}
+use Rattle.stop_table.proofs.Walking.{legal_after}
+use Rattle.trace_calls.specs.ByPid.{HasClaimed, HasNotClaimed, published, row_of_pid}
+use Rattle.trace_calls.specs.Handle.{CallsHandle, IsCalls, KeepsClaim, KeepsClaims, handle_of}
+use Rattle.trace_calls.specs.Waiting.{Reports}
+use Rattle.trace_calls.proofs.Places.{none_in_range, replicate_place, set_place, without_some}
+
+-- ---- a row that is claimed
+
+pub holding_held : (v : View) (row : ℕ) (word : Word) (content : Content) → IsHolding v row word content
+    → is_held v row ≡ true
+holding_held v row word content h =
+    ap (is_claimed_by v.number) (ap (λ (w : Word). w.phase) (sym h.is_word) ∙ h.is_phase)
+    ∙ eq-eqb v.number v.number refl
+
+-- what of a row's claim goes on
+pub record Keeps (v w : View) (row : ℕ) : Type 0 where
+  pub held : is_held w row ≡ is_held v row
+  pub cell : is_held v row ≡ true → cell_after w.roster w.seen row ≡ cell_after v.roster v.seen row
+  pub number : w.number ≡ v.number
+
+-- while others act, up to the history h
+pub claim_at : (v : View) (h : List Entry) → is_among v.number v.tracers ≡ true → AreLegal v.roster h
+    → GoesOn (actors_of v) v.seen h → (row : ℕ)
+    → (is_claimed_by v.number (cell_after v.roster h row).phase ≡ is_held v row)
+    × (is_held v row ≡ true → cell_after v.roster h row ≡ cell_after v.roster v.seen row)
+claim_at v h mine legal on row =
+    let stays = λ (held : is_held v row ≡ true).
+    stays_on v.roster (actors_of v) v.seen h legal on row (held_moved v row mine held) in (
+      elim (cases_Bool (is_held v row)) [
+        | inl held ↦ ap (λ (c : Cell). is_claimed_by v.number c.phase) (stays held)
+        | inr free ↦ elim (cases_Bool (is_claimed_by v.number (cell_after v.roster h row).phase)) [
+          | inr later ↦ later ∙ sym free
+          | inl later ↦
+              let at = claimed_by_is v.number (cell_after v.roster h row).phase later in
+              let now : phase_in (events_of row (history_of on.0 ++ history_of v.seen)) ≡ phase.Claimed v.number =
+              ap (λ es. phase_in (events_of row es)) (sym (ap history_of on.1 ∙ history_append on.0 v.seen)) ∙ at in
+              let same = claimed_before (actors_of v) (history_of on.0) (history_of v.seen) on.2 v.number mine row now in
+              let was : phase_in (events_of row (history_of v.seen)) ≡ phase.Claimed v.number =
+              ap phase_in (sym same) ∙ now in
+              let clash : true ≡ false =
+              sym (ap (is_claimed_by v.number) was ∙ eq-eqb v.number v.number refl) ∙ free in cc
+        ]
+      ],
+      stays,
+    )
+
+pub keeps_look : (v w : View) → is_among v.number v.tracers ≡ true → Looked v w → (row : ℕ) → Keeps v w row
+keeps_look v w mine l row =
+    let same = l.grows.same in
+    let at = claim_at v w.seen mine (legal_after v w l) l.grows.goes_on row in
+    let cell = ap (λ rows. cell_after rows w.seen row) same.roster in
+    record {
+      held = (λ k. is_claimed_by (same.number k) (cell k).phase) ∙ at.0;
+      cell = λ held. cell ∙ at.1 held;
+      number = same.number;
+    }
+
+pub keeps_beside : (v w : View) (before : List Entry) (x : Entry) → is_among v.number v.tracers ≡ true
+    → EndsWith v w before x → (row : ℕ) → row ≢ subject x.event → Keeps v w row
+keeps_beside v w before x mine e row other =
+    let same = e.same in
+    let legal = subst (AreLegal v.roster) e.seen (subst (λ rows. AreLegal rows w.seen) same.roster e.legal) in
+    let at = claim_at v before mine legal.1 e.goes_on row in
+    let cell = ap (λ rows. cell_after rows w.seen row) same.roster ∙ ap (λ h. cell_after v.roster h row) e.seen
+    ∙ other_cell v.roster row x before other in
+    record {
+      held = (λ k. is_claimed_by (same.number k) (cell k).phase) ∙ at.0;
+      cell = λ held. cell ∙ at.1 held;
+      number = same.number;
+    }
+
+pub kept_claim : {A : Type 0} (v w : View) (row : ℕ) (claim : Option (Claim A)) → Keeps v w row
+    → KeepsClaim v row claim → KeepsClaim w row claim
+kept_claim v w row None k is = k.held ∙ is
+kept_claim v w row (Some claim) k is =
+    let cell = k.cell (holding_held v row claim.word claim.stop is.1) in (
+      is.0,
+      record {
+        is_phase = is.1.is_phase ∙ ap phase.Claimed (sym k.number);
+        is_word = is.1.is_word ∙ ap (word_of false) (sym cell);
+        is_content = is.1.is_content ∙ ap (λ (c : Cell). c.content) (sym cell);
+      },
+    )
+
+-- a row that is not claimed has no claim
+pub no_claim : {A : Type 0} (v : View) (row : ℕ) (claim : Option (Claim A)) → KeepsClaim v row claim
+    → is_held v row ≡ false → claim ≡ None
+no_claim v row None is free = refl
+no_claim v row (Some claim) is free =
+    let clash : true ≡ false = sym (holding_held v row claim.word claim.stop is.1) ∙ free in cc
+
+-- a row that has something to report is not the caller's own
+claimed_silent : (born : Bool) (k : ℕ) (tracer : ℕ) (deaths : Bool) (number status : ℕ)
+    → Reports deaths number status (shown born k (phase.Claimed tracer)) → ⊥
+claimed_silent born k tracer deaths number status is = elim is [ inl stop ↦ cc | inr death ↦ (let d = death.1 in cc) ]
+
+pub reports_free : (v : View) (h : List Entry) → is_among v.number v.tracers ≡ true → AreLegal v.roster h
+    → GoesOn (actors_of v) v.seen h → (row : ℕ) → row < length v.roster → (deaths : Bool) (number status : ℕ)
+    → Reports deaths number status (state_after v.roster (history_of h) row) → is_held v row ≡ false
+reports_free v h mine legal on row within deaths number status reports =
+    elim (cases_Bool (is_held v row)) [
+      | inr free ↦ free
+      | inl held ↦
+          let at = claimed_by_is v.number (cell_after v.roster h row).phase
+          ((claim_at v h mine legal on row).0 ∙ held) in
+          absurd (claimed_silent (is_born v.roster (history_of h) row) (cell_after v.roster h row).number v.number deaths
+          number status
+          (subst (Reports deaths number status)
+          (shown_state v.roster h row within
+          ∙ ap (shown (is_born v.roster (history_of h) row) (cell_after v.roster h row).number) at)
+          reports))
+    ]
+
+-- ---- a tracer that has claimed nothing
+
+pub free_row : (v : View) → held_rows v ≡ [] → (row : ℕ) → row < length v.roster → is_held v row ≡ false
+free_row v none row within = none_in_range (is_held v) 0 (length v.roster) none row (omega arith) (omega arith)
+
+pub nothing_kept : {A : Type 0} (v : View) (held : List (Option (Claim A))) → length held ≡ length v.roster
+    → held_rows v ≡ [] → KeepsClaims v held → list_any is_some held ≡ false
+nothing_kept v held long none claims =
+    without_some held (λ row claim is.
+    let within = slice_get_within held row (Some claim) is in
+    let kept = claims row (Some claim) is in
+    let clash : true ≡ false =
+    sym (holding_held v row claim.word claim.stop kept.1) ∙ free_row v none row (omega arith) in cc)
+
+pub nothing_yet : {A : Type 0} (v : View) (count : ℕ) → count ≡ length v.roster → held_rows v ≡ []
+    → KeepsClaims {A = A} v (replicate count None)
+nothing_yet v count long none row claim is =
+    let at = replicate_place count row None claim is in
+    subst (KeepsClaim v row) (sym at.1) (free_row v none row (let low = at.0 in omega arith))
+
+-- ---- the calls by pid
+
+module _ {A : Type 0} (a : CallsHandle) (t : TracerHandle) (rows : List Row) (held : List (Option (Claim A)))
+    (counts : List ℕ) (same : handle_of t counts ≡ a) (calls : IsCalls t rows held counts) (pid : ℤ) (row : ℕ)
+    (claim : Option (Claim A)) (place : row_of_pid a.view.roster pid ≡ Some row) (within : row < length a.view.roster)
+    (stands : claim ≡ get_or held row claim) where
+  pub low : row < length held
+  low =
+      let long : length held ≡ length a.view.roster =
+      calls.held_long ∙ ap length calls.roster ∙ ap (λ (h : CallsHandle). length h.view.roster) same in
+      omega arith
+
+  keeps : KeepsClaim t.view row claim
+  keeps = calls.claims row claim (slice_get_read held (length held) row claim refl low stands)
+
+  pub not_claimed : claim ≡ None → HasNotClaimed a pid
+  not_claimed none other is =
+      let at : row ≡ other = cc (sym place ∙ is) in
+      subst (λ (h : CallsHandle). is_held h.view other ≡ false) same
+      (subst (λ r. is_held t.view r ≡ false) at (subst (KeepsClaim t.view row) none keeps))
+
+  pub has_claimed : (c : Claim A) → claim ≡ Some c → HasClaimed a pid row
+  has_claimed c is =
+      let k = subst (KeepsClaim t.view row) is keeps in (
+        place,
+        subst (λ (h : CallsHandle). is_held h.view row ≡ true) same (holding_held t.view row c.word c.stop k.1),
+      )
+
+  pub holding : (c : Claim A) → claim ≡ Some c → (c.row ≡ row) × IsHolding t.view row c.word c.stop
+  holding c is = subst (KeepsClaim t.view row) is keeps
+
+  pub was_published : (c : Claim A) → claim ≡ Some c → c.stop ≡ published a row
+  was_published c is =
+      (holding c is).1.is_content ∙ ap (λ (h : CallsHandle). published h row) same
+
+-- ---- a restart
+
+-- the row of a resume is not claimed any more
+resumed_free : (v w : View) (before : List Entry) (row number : ℕ) (how : Restart)
+    → EndsWith v w before (bare (event.Resume row number how v.number)) → is_held w row ≡ false
+resumed_free v w before row number how e =
+    let x = bare (event.Resume row number how v.number) in
+    ap (λ h. is_claimed_by w.number (cell_after w.roster h row).phase) e.seen
+    ∙ ap (λ (c : Cell). is_claimed_by w.number c.phase) (own_cell w.roster x before row refl)
+
+pub resumed_claims : {A : Type 0} (t t' : TracerHandle) (rows : List Row) (held : List (Option (Claim A)))
+    (counts : List ℕ) (before : List Entry) (row number : ℕ) (how : Restart) (left : Option (Claim A))
+    → IsTracerHandle t → IsCalls t rows held counts
+    → EndsWith t.view t'.view before (bare (event.Resume row number how t.view.number)) → left ≡ None
+    → IsCalls t' rows (set held row left) counts
+resumed_claims t t' rows held counts before row number how left is calls e none = record {
+  roster = calls.roster ∙ sym e.same.roster;
+  held_long = length-set held row left ∙ calls.held_long;
+  counts_long = calls.counts_long;
+  claims = λ other claim at. elim (set_place held row other left claim at) [
+    | inl here ↦
+        subst (KeepsClaim t'.view other) (sym (here.1 ∙ none))
+        (ap (is_held t'.view) here.0 ∙ resumed_free t.view t'.view before row number how e)
+    | inr beside ↦
+        kept_claim t.view t'.view other claim
+        (keeps_beside t.view t'.view before (bare (event.Resume row number how t.view.number)) is.mine e other beside.0)
+        (calls.claims other claim beside.1)
+  ];
+}
+
+-- the number of the stop that is resumed is that of its record
+pub held_number : (v : View) (row : ℕ) (word : Word) (content : Content) → AreLegal v.roster v.seen
+    → IsHolding v row word content → word.number ≡ content.number
+held_number v row word content legal h =
+    ap (λ (w : Word). w.number) h.is_word ∙ sym (content_number v.roster v.seen legal row).0
+    ∙ ap (λ (c : Content). c.number) (sym h.is_content)
+
+pub made_restart : (a : CallsHandle) (t t' : TracerHandle) (counts : List ℕ) (row at number : ℕ) (how : Restart)
+    → handle_of t counts ≡ a → at ≡ row → number ≡ (published a row).number
+    → ((before : List Entry) × EndsWith t.view t'.view before (bare (event.Resume at number how t.view.number)))
+    → (before : List Entry) × EndsWith a.view t'.view before
+    (bare (event.Resume row (published a row).number how a.view.number))
+made_restart a t t' counts row at number how same here is made = (
+  made.0,
+  subst (λ n. EndsWith a.view t'.view made.0 (bare (event.Resume row n how a.view.number))) is
+      (subst (λ r. EndsWith a.view t'.view made.0 (bare (event.Resume r number how a.view.number))) here
+      (subst (λ (h : CallsHandle). EndsWith h.view t'.view made.0 (bare (event.Resume at number how h.view.number))) same
+      made.1)),
+)
+
+pub if_none : {T : Type 0} (r : Option T) (P : Type 0) → P → IfNone r P
+if_none None P p = p
+if_none (Some x) P p = tt

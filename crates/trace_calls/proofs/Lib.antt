@@ -1,0 +1,7 @@
+mod Keeping
+mod Places
+mod Points
+mod Rests
+mod Retries
+mod Scans
+mod Settled

@@ -1,0 +1,88 @@
+-- A wait that tries again: the tries before the last only looked, so the last one's answer is one of the whole.
+use Rattle.std.proofs.Common.{◌≡◌, ◌∙◌, ℕ, Bool, true, false, Option, Some, None, Result, Ok, Err, ap, subst, sym, set}
+use Rattle.trace_options.specs.declared.errno.Errno.{Errno}
+use Rattle.trace_options.specs.declared.errno.Errno.TheVariants as errno
+use Rattle.trace_status.specs.declared.wait_status.WaitStatus.{WaitStatus}
+use Rattle.trace_status.specs.declared.wait_status.WaitStatus.TheVariants.{StillAlive}
+use Rattle.stop_history.specs.Over.{is_gone}
+use Rattle.stop_table.specs.Handle.{Looked}
+use Rattle.stop_table.specs.View.{View}
+use Rattle.stop_table.proofs.Walking.{looked_on}
+use Rattle.trace_calls.specs.declared.request.Request.{Request}
+use Rattle.trace_calls.specs.Answer.{IsAnswer, IsStatusAnswer, IsStatusOf}
+use Rattle.trace_calls.specs.Handle.{CallsHandle}
+use Rattle.trace_calls.specs.Retry.{OnlyLooked}
+use Rattle.trace_calls.specs.Selection.{IsSelected}
+use Rattle.trace_calls.specs.Waiting.{AreGoneForGood, Found, NoChild, NothingYet, Took, WasPassed}
+use Rattle.trace_calls.specs.Waiting.{is_pending, is_waitable_for}
+use Rattle.trace_calls.proofs.Points.{claimed_from, saw_from, showed_from}
+
+module _ (request : Request) (u v w : View) (first : Looked u v) where
+  same : v.roster ≡ u.roster
+  same = first.grows.same.roster
+
+  there : (row : ℕ) → IsSelected u.roster request.selection row → IsSelected v.roster request.selection row
+  there row is = subst (λ rows. IsSelected rows request.selection row) (sym same) is
+
+  passed_from : (row : ℕ) → WasPassed request.deaths v w row → WasPassed request.deaths u w row
+  passed_from row = saw_from u v w row (λ at. is_waitable_for request.deaths at ≡ false) first
+
+  pub nothing_from : NothingYet request v w → NothingYet request u w
+  nothing_from n = record {
+    looked = looked_on u v w first n.looked;
+    passed = λ row is. passed_from row (n.passed row (there row is));
+    pends = (
+      n.pends.0,
+      subst (λ rows. IsSelected rows request.selection n.pends.0) same n.pends.1,
+      saw_from u v w n.pends.0 (λ at. is_pending at ≡ true) first n.pends.2,
+    );
+  }
+
+  pub none_from : NoChild request v w → NoChild request u w
+  none_from n = record {
+    looked = looked_on u v w first n.looked;
+    gone = λ row is.
+        saw_from u v w row (λ at. is_gone request.deaths at ≡ true) first (n.gone row (there row is));
+    final = λ parents.
+        subst (λ rows. AreGoneForGood rows request.selection request.deaths w.seen) same (n.final parents);
+  }
+
+  took_from : (keeps : Bool) (row number status : ℕ) → Took keeps request.deaths v w row number status
+      → Took keeps request.deaths u w row number status
+  took_from true row number status took = showed_from request.deaths u v w row number status first took
+  took_from false row number status took = claimed_from request.deaths u v w row number status first took
+
+  pub found_from : (row number status : ℕ) → Found request v w row number status → Found request u w row number status
+  found_from row number status f = (
+    record {
+      selected = subst (λ rows. IsSelected rows request.selection row) same f.0.selected;
+      before = λ other low is. passed_from other (f.0.before other low (there other is));
+    },
+    took_from request.keeps row number status f.1,
+  )
+
+module _ (request : Request) (a c b : CallsHandle) (only : OnlyLooked a c) where
+  status_from : (status : WaitStatus) (pid : Option ℕ) → IsStatusAnswer request c b status pid
+      → IsStatusAnswer request a b status pid
+  status_from status None is = (nothing_from request a.view c.view b.view only.2 is.0, is.1 ∙ only.1)
+  status_from status (Some pid) is = record {
+    row = is.row;
+    number = is.number;
+    raw = is.raw;
+    found = found_from request a.view c.view b.view only.2 is.row is.number is.raw is.found;
+    is_status = subst (λ rows. IsStatusOf rows is.row is.raw status) only.2.grows.same.roster is.is_status;
+    counts = is.counts ∙ ap (λ counts. set counts is.row is.number) only.1;
+  }
+
+  pub answer_from : (result : Result WaitStatus Errno) → IsAnswer request c b result → IsAnswer request a b result
+  answer_from (Ok status) is = status_from status _ is
+  answer_from (Err errno.ECHILD) is = (none_from request a.view c.view b.view only.2 is.0, is.1 ∙ only.1)
+  answer_from (Err errno.EINVAL) is = is
+  answer_from (Err errno.ESRCH) is = is
+  answer_from (Err errno.EIO) is = is
+
+  pub tried_again : (result : Result WaitStatus Errno) → result ≡ Ok StillAlive → IsAnswer request c b result
+      → b.table_id ≡ c.table_id → OnlyLooked a b
+  tried_again result still is table =
+      let n = subst (IsAnswer request c b) still is in
+      (table ∙ only.0, n.1 ∙ only.1, looked_on a.view c.view b.view only.2 n.0.looked)

@@ -1,0 +1,33 @@
+-- The claim at the place of a pid's row says whether the caller has claimed it, and has its record.
+use Rattle.std.proofs.Common.{◌≡◌, ◌∙◌, Some, subst, sym}
+use Rattle.std.proofs.lemmas.Int.{to_z-of_z}
+use Rattle.std.specs.Int.{w32}
+use Rattle.trace_calls.specs.ByPid.{row_of_pid}
+use Rattle.trace_calls.proofs.Keeping.{has_claimed, not_claimed, was_published}
+use Rattle.trace_calls.proofs.calls.Calls.claimed.Goals as goal
+
+pub returns-in-None-clause-none : goal.returns-in-None-clause-none
+returns-in-None-clause-none g c =
+    let x = c.self.inside in
+    let rows = c.args.self.now.view.roster in
+    let place : row_of_pid rows c.args.pid ≡ Some c.in_ok-row.row =
+    subst (λ p. row_of_pid rows p ≡ Some c.in_ok-row.row) (to_z-of_z w32 c.args.pid c.ranges.pid)
+    (sym c.in_ok-row.ensures.place) in
+    not_claimed c.args.self.now x.tracer x.roster x.held.items x.counts.items c.self.view_is c.self.invariant c.args.pid
+    c.in_ok-row.row c.index.result.now place c.in_ok-row.ensures.within c.index.ensures c.in-None.is
+
+pub returns-in-Some-clause-some : goal.returns-in-Some-clause-some
+returns-in-Some-clause-some g c =
+    let x = c.self.inside in
+    let rows = c.args.self.now.view.roster in
+    let place : row_of_pid rows c.args.pid ≡ Some c.in_ok-row.row =
+    subst (λ p. row_of_pid rows p ≡ Some c.in_ok-row.row) (to_z-of_z w32 c.args.pid c.ranges.pid)
+    (sym c.in_ok-row.ensures.place) in (
+      c.in_ok-row.row,
+      has_claimed c.args.self.now x.tracer x.roster x.held.items x.counts.items c.self.view_is c.self.invariant c.args.pid
+          c.in_ok-row.row c.index.result.now place c.in_ok-row.ensures.within c.index.ensures c.in-Some.claim c.in-Some.is,
+      c.record.ensures
+          ∙ was_published c.args.self.now x.tracer x.roster x.held.items x.counts.items c.self.view_is c.self.invariant
+          c.args.pid c.in_ok-row.row c.index.result.now place c.in_ok-row.ensures.within c.index.ensures c.in-Some.claim
+          c.in-Some.is,
+    )

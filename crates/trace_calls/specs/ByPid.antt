@@ -1,0 +1,92 @@
+-- The calls by pid (ptrace(2)): the tracee must be stopped and claimed by the caller.
+use Rattle.std.specs.Prelude.{◌≡◌, ◌⊎◌, ◌<◌, ◌≤◌, ◌^◌, ◌+◌, ℕ, ℤ, pos, negsuc, true, false, List, Option, Some, None}
+use Rattle.std.specs.Prelude.{Result, Ok, Err, EachIndex, length, slice_index}
+use Rattle.std.specs.Option.{unwrap_or}
+use Rattle.std.specs.Int.{w64, from_le_bytes, cast_signed}
+use Rattle.trace_options.specs.declared.errno.Errno.{Errno}
+use Rattle.trace_options.specs.declared.errno.Errno.TheVariants as errno
+use Rattle.trace_options.specs.declared.signal.TheConstants.{LAST_SIGNAL}
+use Rattle.trace_pages.specs.FlatMemory.{FlatMemory, byte_at}
+use Rattle.trace_record.specs.Content.{Content}
+use Rattle.trace_record.specs.declared.resume.Kind.{Kind}
+use Rattle.trace_record.specs.declared.resume.Resume.{Resume as Restart}
+use Rattle.stop_history.specs.declared.roster.Row.{Row}
+use Rattle.stop_history.specs.Event as event
+use Rattle.stop_history.specs.Roster.{row_of}
+use Rattle.stop_table.specs.Entry.{Entry, bare, content_after}
+use Rattle.stop_table.specs.Handle.{EndsWith}
+use Rattle.stop_table.specs.Tracer.{is_held}
+use Rattle.trace_calls.specs.Handle.{CallsHandle}
+
+-- the row of a pid; one below 0 has none
+abbrev pub row_of_pid : List Row → ℤ → Option ℕ
+row_of_pid rows (pos tid) = row_of rows tid
+row_of_pid rows (negsuc n) = None
+
+-- the row of a pid, which the caller has claimed
+abbrev pub HasClaimed : CallsHandle → ℤ → ℕ → Type 0
+HasClaimed a pid row = (row_of_pid a.view.roster pid ≡ Some row) × (is_held a.view row ≡ true)
+
+-- no row of the pid is claimed by the caller: ESRCH
+abbrev pub HasNotClaimed : CallsHandle → ℤ → Type 0
+HasNotClaimed a pid = (row : ℕ) → row_of_pid a.view.roster pid ≡ Some row → is_held a.view row ≡ false
+
+-- what the tracee published at its stop
+abbrev pub published : CallsHandle → ℕ → Content
+published a row = content_after a.view.roster a.view.seen row
+
+-- a call that shows something of a claimed stop
+abbrev pub IsShownOf : {T : Type 0} → CallsHandle → ℤ → (Content → T) → Result T Errno → Type 0
+IsShownOf a pid shown (Ok answer) = (row : ℕ) × HasClaimed a pid row × (answer ≡ shown (published a row))
+IsShownOf a pid shown (Err errno.ESRCH) = HasNotClaimed a pid
+IsShownOf a pid shown (Err errno.EINVAL) = ⊥
+IsShownOf a pid shown (Err errno.ECHILD) = ⊥
+IsShownOf a pid shown (Err errno.EIO) = ⊥
+
+-- ---- restarts
+
+-- no signal is 0
+abbrev pub restart_of : Kind → Option ℕ → Restart
+restart_of kind signal = record { kind = kind; signal = unwrap_or signal 0 }
+
+-- the stop that was claimed is resumed
+abbrev pub IsRestart : CallsHandle → CallsHandle → ℤ → Kind → Option ℕ → Result (Unit {0}) Errno → Type 0
+IsRestart a b pid kind signal (Ok done) =
+    ((row : ℕ) × HasClaimed a pid row
+    × ((before : List Entry) × EndsWith a.view b.view before
+    (bare (event.Resume row (published a row).number (restart_of kind signal) a.view.number))))
+    × (unwrap_or signal 0 ≤ LAST_SIGNAL) × (b.counts ≡ a.counts)
+IsRestart a b pid kind signal (Err errno.ESRCH) = HasNotClaimed a pid × (b ≡ a)
+IsRestart a b pid kind signal (Err errno.EIO) =
+    ((row : ℕ) × HasClaimed a pid row) × (LAST_SIGNAL < unwrap_or signal 0) × (b ≡ a)
+IsRestart a b pid kind signal (Err errno.EINVAL) = ⊥
+IsRestart a b pid kind signal (Err errno.ECHILD) = ⊥
+
+-- ---- memory
+
+-- a word is eight bytes, the lowest first
+abbrev pub WORD : ℕ
+WORD = 8
+
+-- all bytes of the word at an address are mapped, and these are its bits
+pub record IsWordAt (memory : FlatMemory) (address bits : ℕ) : Type 0 where
+  pub bytes : List ℕ
+  pub long : length bytes ≡ WORD
+  pub within : address + WORD ≤ 2 ^ 64
+  pub mapped : EachIndex bytes (λ k. byte_at memory (address + k) ≡ Some (slice_index bytes k))
+  pub is_word : bits ≡ from_le_bytes w64 bytes
+
+-- one of its bytes is not mapped, or after the last address
+abbrev pub IsAbsentAt : FlatMemory → (address : ℕ) → Type 0
+IsAbsentAt memory address =
+    (k : ℕ) × (k < WORD) × ((byte_at memory (address + k) ≡ None) ⊎ (2 ^ 64 ≤ address + k))
+
+abbrev pub IsWordRead : CallsHandle → ℤ → ℕ → Result ℤ Errno → Type 0
+IsWordRead a pid address (Ok word) =
+    (row : ℕ) × HasClaimed a pid row
+    × ((bits : ℕ) × IsWordAt (published a row).memory address bits × (word ≡ cast_signed w64 bits))
+IsWordRead a pid address (Err errno.ESRCH) = HasNotClaimed a pid
+IsWordRead a pid address (Err errno.EIO) =
+    (row : ℕ) × HasClaimed a pid row × IsAbsentAt (published a row).memory address
+IsWordRead a pid address (Err errno.EINVAL) = ⊥
+IsWordRead a pid address (Err errno.ECHILD) = ⊥

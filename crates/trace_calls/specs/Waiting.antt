@@ -1,0 +1,98 @@
+-- What a wait answers, from the view of its caller before it (v) to the view after it (w) (waitid(2), waitpid(2)).
+use Rattle.std.specs.Prelude.{◌≡◌, ◌⊎◌, ◌<◌, ◌++◌, ℕ, Bool, true, false, List}
+use Rattle.stop_history.specs.declared.roster.Row.{Row}
+use Rattle.stop_history.specs.declared.state.State.{State}
+use Rattle.stop_history.specs.declared.state.State.TheVariants as state
+use Rattle.stop_history.specs.Event as event
+use Rattle.stop_history.specs.Over.{is_gone}
+use Rattle.stop_history.specs.State.{state_after}
+use Rattle.stop_table.specs.Entry.{AreLegal, Begins, Entry, GoesOn, bare, history_of}
+use Rattle.stop_table.specs.Handle.{EndsWith, IsLost, IsPoint, Looked}
+use Rattle.stop_table.specs.View.{View, actors_of}
+use Rattle.trace_calls.specs.declared.request.Request.{Request}
+use Rattle.trace_calls.specs.declared.selection.Selection.{Selection}
+use Rattle.trace_calls.specs.Selection.{IsSelected, has_parents}
+
+-- ---- states
+
+-- a row with a status for the wait: a stop, and a death where deaths are asked for (WEXITED)
+abbrev pub is_waitable_for : (deaths : Bool) → State → Bool
+is_waitable_for deaths (state.Stopped number status) = true
+is_waitable_for deaths (state.Dead number status) = deaths
+is_waitable_for deaths other = false
+
+-- a row that may have a status later: it runs, or a tracer has claimed its stop
+abbrev pub is_pending : State → Bool
+is_pending state.Running = true
+is_pending (state.Claimed number tracer) = true
+is_pending other = false
+
+-- a row that is waitable for the wait, with this raw status; the number is that of its last stop
+abbrev pub Reports : (deaths : Bool) → (number status : ℕ) → State → Type 0
+Reports deaths number status at =
+    (at ≡ state.Stopped number status) ⊎ ((deaths ≡ true) × (at ≡ state.Dead number status))
+
+-- ---- points
+
+-- At a point of the call of its own a row was in a state of this kind: directly after a step of the call on the row's
+-- word (where the row is unborn, on its parent's), or directly after another's claim that the call lost.
+pub record Saw (v w : View) (row : ℕ) (Kind : State → Type 0) : Type 0 where
+  pub point : List Entry
+  pub sooner : GoesOn (actors_of v) v.seen point
+  pub later : Begins point w.seen
+  pub step : IsPoint v w row point ⊎ IsLost v row point
+  pub state : Kind (state_after v.roster (history_of point) row)
+
+abbrev pub WasPassed : Bool → View → View → ℕ → Type 0
+WasPassed deaths v w row = Saw v w row (λ at. is_waitable_for deaths at ≡ false)
+
+-- ---- a status
+
+-- each selected row before it was passed at a point of its own
+pub record IsFirst (request : Request) (v w : View) (row : ℕ) : Type 0 where
+  pub selected : IsSelected v.roster request.selection row
+  pub before : (other : ℕ) → other < row → IsSelected v.roster request.selection other
+      → WasPassed request.deaths v w other
+
+-- the row was claimed: the claim ends what is seen, and directly before it the row was waitable for the wait
+abbrev pub Claimed : Bool → View → View → (row number status : ℕ) → Type 0
+Claimed deaths v w row number status =
+    (before : List Entry) × EndsWith v w before (bare (event.Claim row number v.number))
+    × Reports deaths number status (state_after v.roster (history_of before) row)
+
+-- the row was shown: the call only looked, and at one of its points the row was waitable for the wait
+abbrev pub Showed : Bool → View → View → (row number status : ℕ) → Type 0
+Showed deaths v w row number status = Looked v w × Saw v w row (Reports deaths number status)
+
+-- WNOWAIT
+abbrev pub Took : (keeps deaths : Bool) → View → View → (row number status : ℕ) → Type 0
+Took true deaths v w row number status = Showed deaths v w row number status
+Took false deaths v w row number status = Claimed deaths v w row number status
+
+-- the status of the first row that had one
+abbrev pub Found : Request → View → View → (row number status : ℕ) → Type 0
+Found request v w row number status =
+    IsFirst request v w row × Took request.keeps request.deaths v w row number status
+
+-- ---- no status
+
+-- nothing to report yet: each selected row was passed at a point of its own, and one of them was pending at one
+pub record NothingYet (request : Request) (v w : View) : Type 0 where
+  pub looked : Looked v w
+  pub passed : (row : ℕ) → IsSelected v.roster request.selection row → WasPassed request.deaths v w row
+  pub pends : (row : ℕ) × IsSelected v.roster request.selection row × Saw v w row (λ at. is_pending at ≡ true)
+
+-- in every legal history that goes on from this one each selected row is gone
+abbrev pub AreGoneForGood : List Row → Selection → (deaths : Bool) → List Entry → Type 0
+AreGoneForGood rows selection deaths h =
+    (more : List Entry) → AreLegal rows (more ++ h) → (row : ℕ) → IsSelected rows selection row
+    → is_gone deaths (state_after rows (history_of (more ++ h)) row) ≡ true
+
+-- no child to wait for (ECHILD): each selected row was gone at a point of its own, that is unborn, reaped, or dead and not
+-- asked for. For all tracees, and for a process group, this is so for good.
+pub record NoChild (request : Request) (v w : View) : Type 0 where
+  pub looked : Looked v w
+  pub gone : (row : ℕ) → IsSelected v.roster request.selection row
+      → Saw v w row (λ at. is_gone request.deaths at ≡ true)
+  pub final : has_parents request.selection ≡ true
+      → AreGoneForGood v.roster request.selection request.deaths w.seen

@@ -1,0 +1,74 @@
+//! How what a scan found is answered and kept.
+
+ghost use Rattle.std.specs.Prelude.{◌≡◌, ◌<◌, None, Some, length, slice_get, slice_set};
+ghost use Rattle.trace_calls.specs.Answer.{IsStatusOf};
+ghost use Rattle.trace_calls.specs.Settling.{IsPlaced, IsReportable, Settles};
+
+use crate::scan::Finding;
+use std::alloc::Allocator;
+use stop_history::Roster;
+use stop_table::Claim;
+use trace_options::Errno;
+use trace_record::statuses_are_encoded;
+use trace_status::{WaitStatus, decode};
+
+/// Answers what was found, keeps the claim of a stop at the place of its row, and counts the row that is answered.
+pub(crate) fn settle<A: Allocator>(
+    found: Finding<A>,
+    roster: &Roster<A>,
+    held: &mut Vec<Option<Claim<A>>, A>,
+    counts: &mut Vec<u32, A>,
+) -> Result<WaitStatus, Errno>
+    requires placed { IsPlaced roster.now held.old.items found }
+    requires held { length held.old.items ≡ length roster.now }
+    requires counts { length counts.old.items ≡ length roster.now }
+    ensures { Settles roster.now held.old.items held.new.items counts.old.items counts.new.items found result }
+{
+    match found {
+        Finding::Stop(claim) => {
+            let row = claim.row();
+            let status = report(roster, row, claim.record().status());
+            counts[row as usize] = claim.record().number;
+            put(held, claim);
+            Ok(status)
+        }
+        Finding::Ended { row, death, number } => {
+            counts[row as usize] = number;
+            Ok(report(roster, row, death.status()))
+        }
+        Finding::Shows {
+            row,
+            number,
+            status,
+        } => {
+            counts[row as usize] = number;
+            Ok(report(roster, row, status))
+        }
+        Finding::NothingYet => Ok(WaitStatus::StillAlive),
+        Finding::NoChild => Err(Errno::ECHILD),
+    }
+}
+
+/// The wait status of a row with this raw status.
+fn report<A: Allocator>(roster: &Roster<A>, row: u32, raw: u32) -> WaitStatus
+    requires { (row < length roster.now) × IsReportable raw }
+    ensures { IsStatusOf roster.now row raw result }
+{
+    statuses_are_encoded();
+    let Some(status) = decode(roster.row(row).tid, raw) else {
+        unreachable!()
+    };
+    status
+}
+
+/// Puts a claim at the place of its row, which is free.
+fn put<A: Allocator>(held: &mut Vec<Option<Claim<A>>, A>, claim: Claim<A>)
+    requires { slice_get held.old.items claim.row ≡ Some None }
+    ensures { held.new.items ≡ slice_set held.old.items claim.row (Some claim) }
+{
+    let row = claim.row() as usize;
+    match std::mem::replace(&mut held[row], Some(claim)) {
+        None => {}
+        Some(_) => unreachable!(),
+    }
+}

@@ -1,0 +1,102 @@
+//! The arguments of a system call, as strace(1) prints them.
+
+ghost use Rattle.std.specs.Prelude.{◌≡◌, ◌++◌, ◌+◌, ◌≤◌, IfOk, OnOk, length, option_map};
+ghost use Rattle.record_printer.specs.Arguments.{argument_at, argument_text, arguments_text, bytes_out};
+ghost use Rattle.record_printer.specs.StopNote.{argument_word};
+
+use crate::buffers::{buffer, write_buffer, write_string};
+use crate::iovecs::{array, write_array, write_separator};
+use crate::numbers::{write_address, write_decimal, write_hexadecimal, write_int, write_mode};
+use mem_views::Views;
+use std::alloc::Allocator;
+use trace_options::ArgumentKind;
+use trace_pages::NoMemory;
+use trace_record::StopRecord;
+
+/// Writes `count` arguments from the one at `start` on, each but the first argument of the call after a comma.
+pub fn write_arguments<A: Allocator, B: Allocator>(
+    text: &mut Vec<u8, A>,
+    stop: &StopRecord<B>,
+    limit: u32,
+    kinds: &[ArgumentKind],
+    start: usize,
+    count: usize,
+) -> Result<(), NoMemory>
+    requires { start + count ≤ length kinds.now }
+    ensures { OnOk result (text.new.items
+        ≡ text.old.items ++ arguments_text limit stop.now kinds.now start count) }
+{
+    for index in start..start + count {
+        write_argument_at(text, stop, limit, kinds, index)?;
+    }
+    Ok(())
+}
+
+/// Writes the argument at an index, from 0.
+fn write_argument_at<A: Allocator, B: Allocator>(
+    text: &mut Vec<u8, A>,
+    stop: &StopRecord<B>,
+    limit: u32,
+    kinds: &[ArgumentKind],
+    index: usize,
+) -> Result<(), NoMemory>
+    requires { index + 1 ≤ length kinds.now }
+    ensures { OnOk result (text.new.items ≡ text.old.items ++ argument_at limit stop.now kinds.now index) }
+{
+    write_separator(text, index == 0)?;
+    write_argument(text, stop, limit, kinds[index], argument_word(stop, index))
+}
+
+/// The register of an argument.
+pub fn argument_word<B: Allocator>(stop: &StopRecord<B>, index: usize) -> u64
+    ensures { result ≡ argument_word stop.now index }
+{
+    match stop.regs.args().get(index) {
+        Some(word) => *word,
+        None => 0,
+    }
+}
+
+/// Writes the argument in a register by its kind.
+fn write_argument<A: Allocator, B: Allocator>(
+    text: &mut Vec<u8, A>,
+    stop: &StopRecord<B>,
+    limit: u32,
+    kind: ArgumentKind,
+    word: u64,
+) -> Result<(), NoMemory>
+    ensures { OnOk result (text.new.items ≡ text.old.items ++ argument_text limit stop.now kind word) }
+{
+    let views = Views::of(stop);
+    match kind {
+        ArgumentKind::Int => write_int(text, word),
+        ArgumentKind::Unsigned => write_decimal(text, word),
+        ArgumentKind::Hexadecimal => write_hexadecimal(text, word),
+        ArgumentKind::Mode => write_mode(text, word),
+        ArgumentKind::CString => write_string(text, &views, limit, word),
+        ArgumentKind::InBuffer => write_buffer(text, &views, limit, word, stop.regs.rdx),
+        ArgumentKind::InIovecs => write_array(text, &views, limit, word, stop.regs.rdx),
+        ArgumentKind::Address | ArgumentKind::OutBuffer | ArgumentKind::OutIovecs => {
+            write_address(text, word)
+        }
+    }
+}
+
+/// The bytes that came out of a call that answered `count`, as they are printed, or None where they are not all there.
+pub fn bytes_out<A: Allocator, B: Allocator>(
+    alloc: A,
+    stop: &StopRecord<B>,
+    limit: u32,
+    kind: ArgumentKind,
+    word: u64,
+    count: u64,
+) -> Result<Option<Vec<u8, A>>, NoMemory>
+    ensures { IfOk result (λ made. option_map (λ text. text.items) made ≡ bytes_out limit stop.now kind word count) }
+{
+    let views = Views::of(stop);
+    match kind {
+        ArgumentKind::OutBuffer => buffer(alloc, &views, limit, word, count),
+        ArgumentKind::OutIovecs => array(alloc, &views, limit, count, word, stop.regs.rdx),
+        _ => Ok(None),
+    }
+}

@@ -1,0 +1,67 @@
+//! Buffers and strings in memory, as strace(1) prints them.
+
+ghost use Rattle.std.specs.Prelude.{◌≡◌, ◌++◌, IfOk, OnOk, option_map};
+ghost use Rattle.record_printer.specs.Arguments.{buffer, or_address, string};
+
+use crate::numbers::write_address;
+use crate::quote::{write_quoted, write_shortened};
+use mem_views::{End, Views};
+use std::alloc::Allocator;
+use trace_pages::NoMemory;
+
+/// Writes the first bytes of a buffer in quotes, with dots after them where it has more, or its address where one of
+/// them is absent.
+pub fn write_buffer<A: Allocator, B: Allocator>(
+    text: &mut Vec<u8, A>,
+    views: &Views<'_, B>,
+    limit: u32,
+    addr: u64,
+    len: u64,
+) -> Result<(), NoMemory>
+    ensures { OnOk result (text.new.items ≡ text.old.items ++ or_address addr (buffer limit views.now addr len)) }
+{
+    let cut = views.bytes(addr, u64::from(limit).min(len));
+    match cut.end() {
+        End::Full => write_shortened(text, cut, u64::from(limit) < len),
+        _ => write_address(text, addr),
+    }
+}
+
+/// The first bytes of a buffer in quotes, with dots after them where it has more, or None where one of them is absent.
+pub fn buffer<A: Allocator, B: Allocator>(
+    alloc: A,
+    views: &Views<'_, B>,
+    limit: u32,
+    addr: u64,
+    len: u64,
+) -> Result<Option<Vec<u8, A>>, NoMemory>
+    ensures { IfOk result (λ made. option_map (λ text. text.items) made ≡ buffer limit views.now addr len) }
+{
+    let cut = views.bytes(addr, u64::from(limit).min(len));
+    match cut.end() {
+        End::Full => {
+            let mut text = Vec::new(alloc);
+            write_shortened(&mut text, cut, u64::from(limit) < len)?;
+            Ok(Some(text))
+        }
+        _ => Ok(None),
+    }
+}
+
+/// Writes the string at an address in quotes, or its first bytes with dots after them where it is longer, or its
+/// address where the bytes that have to be examined are not all there.
+pub fn write_string<A: Allocator, B: Allocator>(
+    text: &mut Vec<u8, A>,
+    views: &Views<'_, B>,
+    limit: u32,
+    addr: u64,
+) -> Result<(), NoMemory>
+    ensures { OnOk result (text.new.items ≡ text.old.items ++ or_address addr (string limit views.now addr)) }
+{
+    let cut = views.c_string(addr, u64::from(limit) + 1);
+    match cut.end() {
+        End::Nul => write_quoted(text, cut),
+        End::Limit => write_shortened(text, views.bytes(addr, u64::from(limit)), true),
+        _ => write_address(text, addr),
+    }
+}

@@ -1,0 +1,139 @@
+//! The start of a call: its line up to the result.
+
+ghost use Rattle.std.specs.Prelude.{◌≡◌, ◌++◌, ◌<◌, IfOk, IfSome, OnOk, length, option_map};
+ghost use Rattle.record_printer.specs.NoteOf.{start_of};
+ghost use Rattle.record_printer.specs.StopNote.{arguments_after, arguments_before, call_start, line_head, out_address};
+ghost use Rattle.record_printer.specs.StopNote.{printed_start};
+
+use crate::arguments::{argument_word, write_arguments};
+use crate::calls::{kinds_of, out_place, write_name};
+use crate::iovecs::write_separator;
+use crate::note::CallStart;
+use crate::numbers::{write_address, write_decimal};
+use crate::show::Show;
+use std::alloc::Allocator;
+use trace_options::ArgumentKind;
+use trace_pages::NoMemory;
+use trace_record::StopRecord;
+
+/// The start of a call: its line up to the result, where it is printed.
+pub fn call_start<A: Allocator + Copy, B: Allocator>(
+    alloc: A,
+    stop: &StopRecord<B>,
+    show: &Show,
+) -> Result<CallStart<A>, NoMemory>
+    ensures { IfOk result (λ start. start_of start ≡ call_start show.now stop.now) }
+{
+    let number = stop.regs.nr();
+    if show.calls.contains(number) {
+        printed_start(alloc, stop, show.limit, kinds_of(number))
+    } else {
+        Ok(CallStart {
+            shown: false,
+            number,
+            before: Vec::new(alloc),
+            out: None,
+            after: Vec::new(alloc),
+        })
+    }
+}
+
+/// The start of a call that is printed, by the kinds of its arguments.
+fn printed_start<A: Allocator + Copy, B: Allocator>(
+    alloc: A,
+    stop: &StopRecord<B>,
+    limit: u32,
+    kinds: &[ArgumentKind],
+) -> Result<CallStart<A>, NoMemory>
+    ensures { IfOk result (λ start. start_of start ≡ printed_start limit stop.now kinds.now) }
+{
+    let place = out_place(kinds);
+    let mut before = Vec::new(alloc);
+    write_head(&mut before, stop)?;
+    write_before(&mut before, stop, limit, kinds, place)?;
+    let out = out_address(alloc, stop, place)?;
+    let mut after = Vec::new(alloc);
+    write_after(&mut after, stop, limit, kinds, place)?;
+    after.extend_from_slice(b") = ".as_slice())?;
+    Ok(CallStart {
+        shown: true,
+        number: stop.regs.nr(),
+        before,
+        out,
+        after,
+    })
+}
+
+/// Writes the thread and the name of its call.
+fn write_head<A: Allocator, B: Allocator>(
+    text: &mut Vec<u8, A>,
+    stop: &StopRecord<B>,
+) -> Result<(), NoMemory>
+    ensures { OnOk result (text.new.items ≡ text.old.items ++ line_head stop.now) }
+{
+    write_decimal(text, u64::from(stop.tid))?;
+    text.push(b' ')?;
+    write_name(text, stop.regs.nr())?;
+    text.push(b'(')?;
+    Ok(())
+}
+
+/// Writes the arguments before the one whose bytes come out, or all of them.
+fn write_before<A: Allocator, B: Allocator>(
+    text: &mut Vec<u8, A>,
+    stop: &StopRecord<B>,
+    limit: u32,
+    kinds: &[ArgumentKind],
+    place: Option<usize>,
+) -> Result<(), NoMemory>
+    requires { IfSome place (λ place. place < length kinds.now) }
+    ensures { OnOk result (text.new.items
+        ≡ text.old.items ++ arguments_before limit stop.now kinds.now place) }
+{
+    match place {
+        Some(place) => {
+            write_arguments(text, stop, limit, kinds, 0, place)?;
+            write_separator(text, place == 0)
+        }
+        None => write_arguments(text, stop, limit, kinds, 0, kinds.len()),
+    }
+}
+
+/// Writes the arguments after the one whose bytes come out.
+fn write_after<A: Allocator, B: Allocator>(
+    text: &mut Vec<u8, A>,
+    stop: &StopRecord<B>,
+    limit: u32,
+    kinds: &[ArgumentKind],
+    place: Option<usize>,
+) -> Result<(), NoMemory>
+    requires { IfSome place (λ place. place < length kinds.now) }
+    ensures { OnOk result (text.new.items
+        ≡ text.old.items ++ arguments_after limit stop.now kinds.now place) }
+{
+    match place {
+        Some(place) => {
+            let next = place + 1;
+            write_arguments(text, stop, limit, kinds, next, kinds.len() - next)
+        }
+        None => Ok(()),
+    }
+}
+
+/// The address of the argument whose bytes come out.
+fn out_address<A: Allocator, B: Allocator>(
+    alloc: A,
+    stop: &StopRecord<B>,
+    place: Option<usize>,
+) -> Result<Option<Vec<u8, A>>, NoMemory>
+    ensures { IfOk result (λ made. option_map (λ text. text.items) made ≡ out_address stop.now place) }
+{
+    match place {
+        Some(place) => {
+            let mut text = Vec::new(alloc);
+            write_address(&mut text, argument_word(stop, place))?;
+            Ok(Some(text))
+        }
+        None => Ok(None),
+    }
+}

@@ -1,0 +1,10 @@
+//! How a row ended.
+
+use trace_record::Death;
+
+/// The death of a row, with the number of its last stop, 0 where it made none.
+#[derive(Clone, Copy)]
+pub struct Ending {
+    pub number: u32,
+    pub death: Death,
+}

@@ -1,0 +1,60 @@
+//! What each stop of a row gives to the printed text (strace(1)).
+
+ghost use Rattle.std.specs.Prelude.{◌≡◌};
+ghost use Rattle.record_printer.specs.Came.{child_of};
+ghost use Rattle.record_printer.specs.NoteOf.{note_of};
+
+use std::alloc::{Allocator, Global};
+
+/// What is noted of a stop.
+#[derive(Drop)]
+pub enum Note<A: Allocator = Global> {
+    /// A call starts at a syscall-enter-stop (ptrace(2), "Syscall-stops").
+    Enter(CallStart<A>),
+    /// A call starts at a seccomp stop, unless it has stopped at its entry (ptrace(2), "PTRACE_EVENT stops").
+    Seccomp(CallStart<A>),
+    /// A call ends at a syscall-exit-stop.
+    Exit(CallEnd<A>),
+    /// The line of a signal, with its line feed.
+    Signal(Vec<u8, A>),
+    /// A child with this thread id was created.
+    Birth(u32),
+    /// Another stop, of which nothing is printed.
+    Quiet,
+}
+
+impl<A: Allocator> Note<A> {
+    /// The child that the stop creates.
+    pub fn child(&self) -> Option<u32>
+        ensures { result ≡ child_of (note_of self.now) }
+    {
+        match self {
+            Note::Birth(child) => Some(*child),
+            _ => None,
+        }
+    }
+}
+
+/// How a call starts: its line up to its end.
+#[derive(Drop)]
+pub struct CallStart<A: Allocator = Global> {
+    /// Whether calls of this number are printed.
+    pub(crate) shown: bool,
+    pub(crate) number: u64,
+    /// The line up to the argument whose bytes come out of the call, or up to the result where there is none.
+    pub(crate) before: Vec<u8, A>,
+    /// The address of that argument, which is printed where the bytes are not all there.
+    pub(crate) out: Option<Vec<u8, A>>,
+    /// The line from there to the result.
+    pub(crate) after: Vec<u8, A>,
+}
+
+/// How a call ends.
+#[derive(Drop)]
+pub struct CallEnd<A: Allocator = Global> {
+    pub(crate) number: u64,
+    /// The bytes that came out of the call, as they are printed, where they are all there.
+    pub(crate) out: Option<Vec<u8, A>>,
+    /// The result, without a line feed.
+    pub(crate) result: Vec<u8, A>,
+}

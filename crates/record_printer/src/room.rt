@@ -1,0 +1,86 @@
+//! How many bytes notes add to the texts of a row at most.
+
+ghost use Rattle.std.specs.Prelude.{◌≡◌, ◌+◌, IfSome, length};
+ghost use Rattle.record_printer.specs.KeptFold.{behind_len, end_len, note_len, start_len, text_len};
+ghost use Rattle.record_printer.specs.NoteOf.{end_of, note_of, start_of};
+ghost use Rattle.std.specs.Option.{option_copied};
+ghost use Rattle.std.specs.Prelude.{option_map};
+
+use crate::note::{CallEnd, CallStart, Note};
+use std::alloc::Allocator;
+
+/// Room for the text of a row, and for the lines that follow that of its pending call.
+#[derive(Clone, Copy)]
+pub struct Room {
+    pub lines: usize,
+    pub behind: usize,
+}
+
+impl Room {
+    /// The room for no note.
+    pub fn none() -> Room
+        ensures lines { result.lines ≡ 0 }
+        ensures behind { result.behind ≡ 0 }
+    {
+        Room {
+            lines: 0,
+            behind: 0,
+        }
+    }
+
+    /// The room for one more note, or None where it is no `usize`.
+    pub fn with<A: Allocator>(self, note: &Note<A>) -> Option<Room>
+        ensures lines { IfSome result (λ room. room.lines ≡ self.lines + note_len (note_of note.now)) }
+        ensures behind { IfSome result (λ room. room.behind ≡ self.behind + behind_len (note_of note.now)) }
+    {
+        let lines = with_note(self.lines, note)?;
+        let behind = with_behind(self.behind, note)?;
+        Some(Room { lines, behind })
+    }
+}
+
+fn with_note<A: Allocator>(lines: usize, note: &Note<A>) -> Option<usize>
+    ensures { IfSome result (λ more. more ≡ lines + note_len (note_of note.now)) }
+{
+    match note {
+        Note::Enter(start) | Note::Seccomp(start) => with_start(lines, start),
+        Note::Exit(end) => with_end(lines, end),
+        Note::Signal(line) => lines.checked_add(line.as_slice().len()),
+        Note::Birth(_) | Note::Quiet => Some(lines),
+    }
+}
+
+fn with_behind<A: Allocator>(behind: usize, note: &Note<A>) -> Option<usize>
+    ensures { IfSome result (λ more. more ≡ behind + behind_len (note_of note.now)) }
+{
+    match note {
+        Note::Signal(line) => behind.checked_add(line.as_slice().len()),
+        _ => Some(behind),
+    }
+}
+
+/// The room for the parts of the line of a call that its start has.
+pub fn with_start<A: Allocator>(lines: usize, start: &CallStart<A>) -> Option<usize>
+    ensures { IfSome result (λ more. more ≡ lines + start_len (start_of start.now)) }
+{
+    let before = lines.checked_add(start.before.as_slice().len())?;
+    let out = with_text(before, &start.out)?;
+    out.checked_add(start.after.as_slice().len())
+}
+
+fn with_end<A: Allocator>(lines: usize, end: &CallEnd<A>) -> Option<usize>
+    ensures { IfSome result (λ more. more ≡ lines + end_len (end_of end.now)) }
+{
+    let out = with_text(lines, &end.out)?;
+    let result = out.checked_add(end.result.as_slice().len())?;
+    result.checked_add(1)
+}
+
+fn with_text<A: Allocator>(lines: usize, text: &Option<Vec<u8, A>>) -> Option<usize>
+    ensures { IfSome result (λ more. more ≡ lines + text_len (option_map (λ t. t.items) text.now)) }
+{
+    match text {
+        Some(text) => lines.checked_add(text.as_slice().len()),
+        None => Some(lines),
+    }
+}

@@ -1,0 +1,10 @@
+pub mod CaseText
+pub mod Config
+pub mod Driven
+pub mod HistoryPieces
+pub mod Modes
+pub mod Plan
+pub mod Policy
+pub mod Printing
+pub mod Scheduled
+pub mod Turn

@@ -1,0 +1,63 @@
+//! Laws of the definitions: each function is its contract alone.
+
+ghost use Rattle.std.specs.Prelude.{◌≡◌, List, None, ℕ};
+ghost use Rattle.stop_history.specs.Roster.{IsRoster};
+ghost use Rattle.stop_table.specs.Entry.{AreLegal, Entry};
+ghost use Rattle.record_printer.specs.FolderAnswers.{lost, pieces_text};
+ghost use Rattle.record_printer.specs.declared.show.Show.{Show};
+ghost use Rattle.trace_options.specs.declared.filter.Filter.{Filter};
+ghost use Rattle.trace_options.specs.declared.options.Options.{Options};
+ghost use Rattle.trace_script.specs.CaseFile.{CaseContent};
+ghost use Rattle.trace_script.specs.Script.{Script};
+ghost use Rattle.tracer_workers.specs.CaseText.{Printer, bears, case_text, history_text};
+ghost use Rattle.tracer_workers.specs.Config.{plain, text_of};
+ghost use Rattle.tracer_workers.specs.declared.config.Config.{Config};
+ghost use Rattle.tracer_workers.specs.Driven.{AreDriven, AreReaped};
+ghost use Rattle.tracer_workers.specs.HistoryPieces.{pieces_of};
+ghost use Rattle.tracer_workers.specs.Modes.{AgreeButFilter, filtered_trace, plain_trace, shown_filter, trace_lines};
+ghost use Rattle.tracer_workers.specs.Plan.{Plan};
+ghost use Rattle.tracer_workers.specs.Printing.{printed_lines};
+
+use record_printer::lines_are_folded;
+
+/// A legal run whose tracees follow their scripts, whose restarts are the policy's, and in which each row that was born
+/// has been reaped, prints the text of its case, whatever the order of its events.
+pub fn runs_print_their_case()
+    ensures { (print : Printer) (plan : Plan) (h : List Entry) → IsRoster plan.rows → AreLegal plan.rows h →
+        AreDriven plan h → AreReaped plan.rows h → history_text print plan.rows h ≡ case_text print plan }
+{}
+
+/// Of such a run the pieces of all stops and deaths are whole, and their text is that of the case.
+pub fn pieces_of_a_run_are_whole()
+    ensures lost { (show : Show) (plan : Plan) (h : List Entry) → IsRoster plan.rows → AreLegal plan.rows h →
+        AreDriven plan h → AreReaped plan.rows h → lost plan.rows (pieces_of show plan.rows h) ≡ None }
+    ensures text { (show : Show) (plan : Plan) (h : List Entry) → IsRoster plan.rows → AreLegal plan.rows h →
+        AreDriven plan h → AreReaped plan.rows h →
+        pieces_text plan.rows (pieces_of show plan.rows h) ≡ case_text (printed_lines show) plan }
+{}
+
+/// Tracing with a filter prints the same lines of a script as tracing plainly, creates the same children, and ends alike:
+/// for every set of calls that is shown and filtered, and whatever the filter hands to the tracer.
+pub fn seccomp_changes_no_line()
+    ensures lines { (show : Show) (tid ret_data : ℕ) (options more : Options) (other : Filter) (script : Script) →
+        AgreeButFilter options more →
+        trace_lines show tid (plain_trace tid options other script)
+        ≡ trace_lines show tid (filtered_trace tid more (shown_filter show ret_data) script) }
+    ensures children { (show : Show) (tid ret_data : ℕ) (options more : Options) (other : Filter) (script : Script) →
+        AgreeButFilter options more → (child : ℕ) →
+        bears child (plain_trace tid options other script).stops
+        ≡ bears child (filtered_trace tid more (shown_filter show ret_data) script).stops }
+    ensures ending { (show : Show) (tid ret_data : ℕ) (options more : Options) (other : Filter) (script : Script) →
+        AgreeButFilter options more →
+        (plain_trace tid options other script).ending
+        ≡ (filtered_trace tid more (shown_filter show ret_data) script).ending }
+{
+    lines_are_folded();
+}
+
+/// The text of a case does not depend on the mode in which it is traced.
+pub fn the_mode_changes_no_text()
+    ensures { (config : Config) (content : CaseContent) → text_of config content ≡ text_of (plain config) content }
+{
+    seccomp_changes_no_line();
+}

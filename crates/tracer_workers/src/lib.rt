@@ -1,0 +1,14 @@
+//! Runs of a case: what its tracees' scripts and the tracers' policy make of it, and the text that it prints.
+#![tactic(auto)]
+
+mod config;
+mod laws;
+
+pub use config::{Config, policy};
+pub use laws::{
+    pieces_of_a_run_are_whole, runs_print_their_case, seccomp_changes_no_line,
+    the_mode_changes_no_text,
+};
+
+#[cfg(test)]
+mod tests;

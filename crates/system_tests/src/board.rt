@@ -149,4 +149,5 @@ fn the_laws_are_there() {
     stop_board::older_histories_are_legal();
     stop_board::rows_are_placed();
     stop_board::settled_rows_stay_settled();
+    stop_history::limits_are_fixed();
 }

@@ -7,6 +7,8 @@ mod board;
 #[cfg(test)]
 mod case;
 #[cfg(test)]
+mod cells;
+#[cfg(test)]
 mod definitions;
 #[cfg(test)]
 mod expected_words;
@@ -30,6 +32,10 @@ mod replay;
 mod roster;
 #[cfg(test)]
 mod rows;
+#[cfg(test)]
+mod views;
+#[cfg(test)]
+mod waits;
 #[cfg(test)]
 mod word;
 #[cfg(test)]

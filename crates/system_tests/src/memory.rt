@@ -8,7 +8,7 @@ use trace_pages::{MapError, Memory};
 const PAGES: u64 = 256;
 
 /// Maps the pages from address 0 on, and marks the last byte of each; whether all of that was accepted.
-pub(crate) fn fill<A: Allocator>(memory: &mut Memory<A>) -> bool {
+pub(crate) fn fill<A: Allocator + Copy>(memory: &mut Memory<A>) -> bool {
     for page in 0..PAGES {
         let mapped = memory.map(page * 4096).is_ok();
         if !mapped || memory.store(page * 4096 + 4095, &[page as u8]).is_err() {

@@ -46,6 +46,14 @@ fn a_word_has_the_bits_of_its_table(rt: HostRuntime) -> Result<(), Fail> {
 }
 
 #[test]
+fn the_bits_of_a_word_are_taken_apart(rt: HostRuntime) -> Result<(), Fail> {
+    for word in [OPENING, CLAIMED, RESUMED, GREATEST] {
+        assert_eq!(rt; Word::unpack_known(word.pack()), word);
+    }
+    Ok(())
+}
+
+#[test]
 fn the_opening_word_is_zero(rt: HostRuntime) -> Result<(), Fail> {
     assert_eq!(rt; OPENING.pack(), 0);
     assert_eq!(rt; Word::unpack(0), Some(OPENING));

@@ -4,7 +4,9 @@ ghost use Rattle.std.specs.Prelude.{◌<◌, ◌≤◌};
 ghost use Rattle.stop_history.specs.declared.limits.TheConstants.{LAST_NUMBER, MOST_ROWS};
 
 use crate::expected_words::{OPENING, dead, stopped_at_fork, stopped_at_start};
-use stop_history::{Phase, Word, claimed, died, published, restarted, taken_up};
+use stop_history::{
+    Phase, Refused, Word, claimed, died, published, restart_in, restarted, taken_up,
+};
 use trace_record::{Death, Kind, Resume, Stop};
 
 /// A word whose fields besides the phase are these.
@@ -46,7 +48,17 @@ fn a_resume_keeps_its_restart_until_it_is_taken_up(rt: HostRuntime) {
     };
     let resumed = restarted(claimed_by_2(0, 4), how);
     assert_eq!(rt; resumed.pack(), 0x003e000000000801);
+    assert_eq!(rt; restart_in(resumed.phase), Ok(how));
     assert_eq!(rt; taken_up(resumed).pack(), 0x802);
+    assert_eq!(rt;
+        restart_in(taken_up(resumed).phase),
+        Err(Refused::NotRunning)
+    );
+    let first = Resume {
+        kind: Kind::Cont,
+        signal: 0,
+    };
+    assert_eq!(rt; restart_in(Phase::Fresh), Ok(first));
 }
 
 #[test]

@@ -1,0 +1,198 @@
+//! A tracee as a test runs it: at rest, or running with the record of its row's last stop. What a publish asks of its
+//! caller is checked here, so that a test needs no proof.
+
+ghost use Rattle.std.specs.Prelude.{◌≡◌, ◌+◌, ◌<◌, false, length, true, IfSome, MatchResult, is_some, if◌then◌else◌};
+ghost use Rattle.trace_record.specs.Stop.{IsStop, child_of};
+ghost use Rattle.stop_history.specs.History.{creates_next};
+ghost use Rattle.stop_history.specs.Roster.{row_at};
+ghost use Rattle.stop_table.specs.Entry.{cell_after};
+
+use std::alloc::{Allocator, Global};
+use stop_history::{LAST_NUMBER, Roster, is_next_child, place_of};
+use stop_table::{
+    GroupAlive, Start, Tracee, a_record_is_its_rows, stops_are_counted_by_their_tracee,
+};
+use trace_record::{Death, Resume, Stop, StopRecord};
+
+/// A tracee that does not have its row taken up.
+#[derive(Drop)]
+pub(crate) struct AtRest<A: Allocator = Global> {
+    pub tracee: Tracee<A>,
+    pub roster: Roster<A>,
+    pub row: u32,
+    pub births: usize,
+    pub ghost rests: { tracee.view.taken ≡ false },
+    pub ghost same_roster: { tracee.view.roster ≡ roster },
+    pub ghost same_row: { tracee.row ≡ row },
+    pub ghost counted: { (cell_after tracee.view.roster tracee.view.seen tracee.row).births ≡ births },
+}
+
+/// A tracee that has its row taken up, with the restart that it runs on by.
+#[derive(Drop)]
+pub(crate) struct Running<A: Allocator = Global> {
+    pub tracee: Tracee<A>,
+    pub roster: Roster<A>,
+    pub row: u32,
+    pub births: usize,
+    pub how: Resume,
+    pub record: StopRecord<A>,
+    pub ghost runs: { tracee.view.taken ≡ true },
+    pub ghost same_roster: { tracee.view.roster ≡ roster },
+    pub ghost same_row: { tracee.row ≡ row },
+    pub ghost counted: { (cell_after tracee.view.roster tracee.view.seen tracee.row).births ≡ births },
+    pub ghost tid: { record.tid ≡ (row_at tracee.view.roster tracee.row).tid },
+    pub ghost number: { record.number ≡ (cell_after tracee.view.roster tracee.view.seen tracee.row).number },
+}
+
+impl<A: Allocator> AtRest<A> {
+    /// Whether the row may begin to run.
+    pub(crate) fn start(&mut self) -> Start
+        ensures { self.new.tracee.table_id ≡ self.old.tracee.table_id }
+    {
+        stops_are_counted_by_their_tracee();
+        let _ = self.tracee.holds();
+        self.tracee.start()
+    }
+
+    /// Takes the row up. Where it is not to run, the handle comes back.
+    pub(crate) fn take_up(self) -> Result<Running<A>, AtRest<A>>
+        ensures { MatchResult result (λ r. r.tracee.table_id ≡ self.tracee.table_id)
+            (λ r. r.tracee.table_id ≡ self.tracee.table_id) }
+    {
+        let AtRest {
+            mut tracee,
+            roster,
+            row,
+            births,
+        } = self;
+        a_record_is_its_rows();
+        stops_are_counted_by_their_tracee();
+        let _ = tracee.holds();
+        match tracee.take_up() {
+            Some((how, record)) => Ok(Running {
+                tracee,
+                roster,
+                row,
+                births,
+                how,
+                record,
+            }),
+            None => Err(AtRest {
+                tracee,
+                roster,
+                row,
+                births,
+            }),
+        }
+    }
+}
+
+impl<A: Allocator> AtRest<A> {
+    /// Takes the row up, and publishes a syscall-enter-stop with this mark in `rax`.
+    pub(crate) fn stop(self, mark: u64) -> Option<AtRest<A>> {
+        match self.take_up() {
+            Ok(running) => running.publish(Stop::Enter, mark),
+            Err(_) => None,
+        }
+    }
+}
+
+/// Whether a tracee of this row, which has created this many children, can make a stop now. No test makes the stop of a
+/// signal.
+fn may_make<A: Allocator>(roster: &Roster<A>, row: u32, births: usize, stop: Stop) -> bool
+    requires { row < length roster.now }
+    ensures { result ≡ true → IsStop stop × (creates_next roster.now row births stop ≡ true) }
+{
+    let rows = roster.rows();
+    if let Stop::Signal(_) = stop {
+        return false;
+    }
+    match stop.child() {
+        None => true,
+        Some(tid) => is_next_child(rows, row as usize, births, place_of(rows, tid)),
+    }
+}
+
+/// How many children a row has after a stop.
+fn births_after(births: usize, stop: Stop) -> Option<usize>
+    ensures { IfSome result (λ n. n ≡ (if is_some (child_of stop) then births + 1 else births)) }
+{
+    match stop.child() {
+        None => Some(births),
+        Some(_) => births.checked_add(1),
+    }
+}
+
+impl<A: Allocator> Running<A> {
+    /// Publishes the row's next stop, with this mark in `rax`. Where the row cannot make the stop, it answers None.
+    pub(crate) fn publish(self, stop: Stop, mark: u64) -> Option<AtRest<A>>
+        ensures { IfSome result (λ r. r.tracee.table_id ≡ self.tracee.table_id) }
+    {
+        let Running {
+            mut tracee,
+            roster,
+            row,
+            births,
+            how: _,
+            mut record,
+        } = self;
+        // A handle holds its row, which is one of the roster.
+        if !tracee.holds()
+            || record.number >= LAST_NUMBER
+            || !may_make(&roster, row, births, stop)
+        {
+            return None;
+        }
+        let births = births_after(births, stop)?;
+        stops_are_counted_by_their_tracee();
+        record.number += 1;
+        record.stop = stop;
+        record.regs.rax = mark;
+        tracee.publish(record);
+        Some(AtRest {
+            tracee,
+            roster,
+            row,
+            births,
+        })
+    }
+
+    /// Ends the row with an exit code. A leader that another row of its group holds back answers that row, and runs on.
+    pub(crate) fn exit(self, code: u8) -> Result<AtRest<A>, (u32, Running<A>)> {
+        let Running {
+            mut tracee,
+            roster,
+            row,
+            births,
+            how,
+            record,
+        } = self;
+        a_record_is_its_rows();
+        stops_are_counted_by_their_tracee();
+        let _ = tracee.holds();
+        match tracee.exit(record, Death::Exited(code)) {
+            Ok(()) => Ok(AtRest {
+                tracee,
+                roster,
+                row,
+                births,
+            }),
+            Err(
+                GroupAlive {
+                    row: other,
+                    content: record,
+                },
+            ) => Err((
+                other,
+                Running {
+                    tracee,
+                    roster,
+                    row,
+                    births,
+                    how,
+                    record,
+                },
+            )),
+        }
+    }
+}

@@ -1,0 +1,49 @@
+//! Each growth of the piece of a stop refused in turn.
+
+use record_printer::{Show, piece_of};
+use refusing_allocator::RefusingAllocator;
+use std::test::Fail;
+use stop_history::LAST_NUMBER;
+use trace_options::CallSet;
+use trace_pages::MapError;
+use trace_record::{Stop, StopRecord};
+
+/// The starts and the end of a call, a call that is not known by name, and a signal.
+#[test]
+fn a_piece_that_is_refused_a_growth_is_not_made(rt: HostRuntime) -> Result<(), Fail> {
+    let show = Show {
+        limit: 32,
+        calls: CallSet::all(),
+    };
+    let mut record = StopRecord::empty(rt.alloc(), 100);
+    assert_eq!(rt; record.memory.map(0x10000), Ok::<(), MapError>(()));
+    assert!(rt; record.memory.store(0x10000, b"hi\n").is_ok());
+    record.number = 2;
+    record.regs.rsi = 0x10000;
+    record.regs.rdx = 3;
+    record.regs.rax = 3;
+    for (stop, number) in [
+        (Stop::Enter, 1),
+        (Stop::Seccomp(0), 1),
+        (Stop::Enter, 0),
+        (Stop::Exit, 0),
+        (Stop::Exit, 300),
+        (Stop::Signal(15), 0),
+    ] {
+        record.stop = stop;
+        record.regs.orig_rax = number;
+        let mut refused = 0u32;
+        for granted in 0..64 {
+            let heap = RefusingAllocator::new(rt.alloc(), granted);
+            assert!(rt; record.number <= LAST_NUMBER);
+            let made = piece_of(&heap, &record, &show).is_ok();
+            assert_eq!(rt; heap.has_refused(), !made, "{stop:?} {granted}");
+            if made {
+                break;
+            }
+            refused = refused.saturating_add(1);
+        }
+        assert!(rt; refused > 0 && refused < 64, "{stop:?} {refused}");
+    }
+    Ok(())
+}

@@ -13,7 +13,7 @@ LIBRARIES = trace_status trace_regs trace_options trace_pages trace_record stop_
 # Takes the name and the status from a line of rt's report.
 ENDED = s/^case=\(.*\) run=ended status=\([0-9]*\) .*/\1: status \2/
 
-.PHONY: all kit demo examples check test bench bench-case tools install clean
+.PHONY: all kit demo examples refused-code check test bench bench-case bench-cells bench-pages bench-fold tools install clean
 
 all: kit
 	@echo "make: proving the program and what it stands on, over what earlier runs kept (the first time: ten minutes)"
@@ -50,8 +50,8 @@ examples:
 		&& cp -R crates/$$crate/src crates/$$crate/specs crates/$$crate/proofs $(READER)/crates/$$crate/ || exit 1; done
 	@cp bench/read_case.rattle $(READER)/crates/read_case/src/main.rt
 	@touch $(READER)/crates/read_case/specs/Lib.antt $(READER)/crates/read_case/proofs/Lib.antt
-	@{ grep -v '^tracer\|^system_tests\|^refusing_allocator' crates.txt; echo "read_case: trace_script stop_board"; } \
-		> $(READER)/crates.txt
+	@for crate in $(LIBRARIES); do grep "^$$crate:" crates.txt || exit 1; done > $(READER)/crates.txt
+	@echo "read_case: trace_script stop_board" >> $(READER)/crates.txt
 	@found="$$(cd $(READER)/crates/read_case && $(RT) try --cases ../../../../../examples/run 2>&1)" \
 	  || { echo "$$found"; echo "examples: FAILED: a case file was not read" >&2; exit 1; }; \
 	echo "$$found" | sed -n -e '$(ENDED)' -e '/: status /p' | diff -u examples/cases - \
@@ -59,10 +59,16 @@ examples:
 	@rm -rf $(READER)
 	@echo "examples: each case file of examples/run was read"
 
+refused-code:
+	@echo "refused-code: compiling programs that must not compile, and one that must (a minute)"
+	@RT=$(RT) tools/must_not_compile/check.sh $(OUT)/refused_code
+	@echo "refused-code: each was refused by the error that it names"
+
 check: kit
 	@echo "check: proving every crate from nothing, then the must-fail edits, tests and programs (docs/STATUS.md has the time)"
 	@$(RT) ci
 	@$(MAKE) --no-print-directory examples
+	@$(MAKE) --no-print-directory refused-code
 
 test: kit
 	@echo "test: running the tests of each crate, without the proofs (seven minutes)"
@@ -80,6 +86,9 @@ bench: tools all
 	@$(OUT)/generate > $(OUT)/replay.txt
 	@$(PYTHON) bench/compare.py "bin/tracer replay" $(OUT)/plain $(OUT)/replay.txt
 	@$(MAKE) --no-print-directory bench-case
+	@$(MAKE) --no-print-directory bench-cells
+	@$(MAKE) --no-print-directory bench-pages
+	@$(MAKE) --no-print-directory bench-fold
 
 # The program that is timed is a crate of the repository for as long as it is built.
 bench-case: tools kit
@@ -95,6 +104,45 @@ bench-case: tools kit
 	  && echo "read_case: trace_script stop_board" >> crates.txt \
 	  && (cd crates/read_case && $(RT) run < /dev/null > /dev/null) && cp crates/read_case/out/read_case $(OUT)/read_case
 	@$(PYTHON) bench/compare.py --memory 4 $(OUT)/read_case $(OUT)/plain_case $(OUT)/case.txt
+
+# The same for the rounds over the cells that threads share.
+bench-cells: tools kit
+	@echo "bench-cells: timing rounds over the stop cells, a plain compare-exchange and a lock in turn (some minutes)"
+	@mkdir -p $(OUT)
+	@$(RUSTC) -O --edition 2024 -o $(OUT)/plain_cells bench/plain_cells.rs
+	@cp crates.txt $(OUT)/crates_before; trap 'cp $(OUT)/crates_before crates.txt; rm -rf crates/time_cells' EXIT INT TERM; \
+	mkdir -p crates/time_cells/src crates/time_cells/specs crates/time_cells/proofs \
+	  && cp bench/cells.rattle crates/time_cells/src/main.rt \
+	  && touch crates/time_cells/specs/Lib.antt crates/time_cells/proofs/Lib.antt \
+	  && echo "time_cells: stop_table stop_history trace_record trace_pages" >> crates.txt \
+	  && (cd crates/time_cells && $(RT) run -- own 1000 > /dev/null) && cp crates/time_cells/out/time_cells $(OUT)/time_cells
+	@$(PYTHON) bench/cells.py $(OUT)/time_cells $(OUT)/plain_cells
+
+# The same for a memory of 256 pages.
+bench-pages: tools kit
+	@echo "bench-pages: timing a memory of 256 pages and a plain Rust program in turn (a minute)"
+	@mkdir -p $(OUT)
+	@$(RUSTC) -O --edition 2024 -o $(OUT)/plain_pages bench/plain_pages.rs
+	@cp crates.txt $(OUT)/crates_before; trap 'cp $(OUT)/crates_before crates.txt; rm -rf crates/time_pages' EXIT INT TERM; \
+	mkdir -p crates/time_pages/src crates/time_pages/specs crates/time_pages/proofs \
+	  && cp bench/pages.rattle crates/time_pages/src/main.rt \
+	  && touch crates/time_pages/specs/Lib.antt crates/time_pages/proofs/Lib.antt \
+	  && echo "time_pages: trace_pages" >> crates.txt \
+	  && (cd crates/time_pages && $(RT) run -- map 256 > /dev/null) && cp crates/time_pages/out/time_pages $(OUT)/time_pages
+	@$(PYTHON) bench/pages.py $(OUT)/time_pages $(OUT)/plain_pages
+
+# The same for a folder of a million pieces.
+bench-fold: tools kit
+	@echo "bench-fold: timing a folder and a plain Rust program in turn (a minute)"
+	@mkdir -p $(OUT)
+	@$(RUSTC) -O --edition 2024 -o $(OUT)/plain_fold bench/plain_fold.rs
+	@cp crates.txt $(OUT)/crates_before; trap 'cp $(OUT)/crates_before crates.txt; rm -rf crates/time_fold' EXIT INT TERM; \
+	mkdir -p crates/time_fold/src crates/time_fold/specs crates/time_fold/proofs \
+	  && cp bench/fold.rattle crates/time_fold/src/main.rt \
+	  && touch crates/time_fold/specs/Lib.antt crates/time_fold/proofs/Lib.antt \
+	  && echo "time_fold: record_printer stop_history trace_options trace_record anyhow" >> crates.txt \
+	  && (cd crates/time_fold && $(RT) run -- order 1000 > /dev/null) && cp crates/time_fold/out/time_fold $(OUT)/time_fold
+	@$(PYTHON) bench/fold.py --memory 2 $(OUT)/time_fold $(OUT)/plain_fold
 
 tools:
 	@for command in $(RUSTC) $(PYTHON); do \

@@ -171,7 +171,10 @@ fn with_wnohang_a_blocking_wait_answers_at_once(rt: HostRuntime) -> Result<(), F
     // The root runs, and nothing will ever be reported of it.
     let nothing = Ok(WaitStatus::StillAlive);
     assert_eq!(rt; calls.waitid_blocking(&rt, Id::All, flags), nothing);
-    assert_eq!(rt; calls.waitpid_blocking(&rt, -1, WaitFlags::WNOHANG), nothing);
+    assert_eq!(rt;
+        calls.waitpid_blocking(&rt, -1, WaitFlags::WNOHANG),
+        nothing
+    );
     let _tracer = end(&rt, calls, &[]);
     Ok(())
 }

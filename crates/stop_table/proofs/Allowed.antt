@@ -25,8 +25,8 @@ use Rattle.stop_history.proofs.States.{runs_on}
 use Rattle.stop_table.specs.Entry.{Cell, Entry, GoesOn, IsCarried, cell_after, history_of, word_of}
 use Rattle.stop_table.specs.Rule.{Follows, IsHome, IsKept, Lies}
 use Rattle.stop_table.specs.Place.{place}
-use Rattle.stop_table.specs.Steps.{Seated, Sees, at_seen, looked, looked_on}
-use Rattle.stop_table.specs.View.{View, actors_of, is_among}
+use Rattle.stop_table.specs.Steps.{Seated, Sees, at_seen, found_by, looked, looked_on}
+use Rattle.stop_table.specs.View.{Observation, View, actors_of, exchange_on, is_among, look_at}
 use Rattle.stop_table.proofs.Entries.{other_cell, stays_on}
 use Rattle.stop_table.proofs.Moves.{Homes, St, at_place, moves}
 
@@ -45,13 +45,14 @@ module _ (me : Seated) (s : St) (k : IsKept me.0.roster s) (id t : ℕ) (at : ge
       → cell_after me.0.roster k.history t ≡ cell_after me.0.roster me.0.seen t
   still moved = stays_on me.0.roster (actors_of me.0) me.0.seen k.history k.legal on t moved
 
-  abbrev pub look_view : View
-  look_view = at_seen me.0 t k.history me.0.taken
+  -- what a step that changes nothing leaves
+  abbrev pub look_view : (List Entry → Observation) → View
+  look_view by = at_seen me.0 by k.history me.0.taken
 
-  pub look_kept : IsKept me.0.roster
-      (record { words = slice_set s.words (place t) (slice_index s.words (place t)); homes = s.homes; views = slice_set s.views id look_view })
-  look_kept =
-      moves me.0.roster s k id t (slice_index s.words (place t)) me.0 look_view [] k.taken s.homes there at
+  pub look_kept : (by : List Entry → Observation) → IsKept me.0.roster
+      (record { words = slice_set s.words (place t) (slice_index s.words (place t)); homes = s.homes; views = slice_set s.views id (look_view by) })
+  look_kept by =
+      moves me.0.roster s k id t (slice_index s.words (place t)) me.0 (look_view by) [] k.taken s.homes there at
       (record {
         legal = k.legal;
         cells = λ u other. refl;
@@ -72,8 +73,8 @@ module _ (me : Seated) (s : St) (k : IsKept me.0.roster s) (id t : ℕ) (at : ge
         flag = inl refl;
       })
 
-  pub look_told : looked_on t me (slice_index s.words (place t)) (look_view, me.1)
-  look_told = (
+  pub look_told : (by : List Entry → Observation) → found_by by t me (slice_index s.words (place t)) (look_view by, me.1)
+  look_told by = (
     k.history,
     refl,
     record { goes_on = on; placed = k.placed; legal = k.legal; view = refl },
@@ -95,7 +96,7 @@ module _ (me : Seated) (s : St) (k : IsKept me.0.roster s) (id t : ℕ) (at : ge
     pub flag : (taken_with (Happened x.event) k.taken t ≡ k.taken t) ⊎ (is_among t me.0.tracees ≡ true)
 
   abbrev pub made_view : Entry → Bool → View
-  made_view x taken = at_seen me.0 t (x ∷ k.history) taken
+  made_view x taken = at_seen me.0 (exchange_on t) (x ∷ k.history) taken
 
   pub made_kept : (n : ℕ) (x : Entry) (taken : Bool) (homes : Homes) → Makes n x taken homes → IsKept me.0.roster
       (record { words = slice_set s.words (place t) n; homes = homes; views = slice_set s.views id (made_view x taken) })
@@ -134,7 +135,7 @@ module _ (me : Seated) (s : St) (k : IsKept me.0.roster s) (id t : ℕ) (at : ge
       })
 
   pub made_told : (n : ℕ) (x : Entry) (taken : Bool) (homes : Homes) → Makes n x taken homes
-      → Sees me.0 t k.history (x ∷ []) taken (made_view x taken)
+      → Sees me.0 (exchange_on t) k.history (x ∷ []) taken (made_view x taken)
   made_told n x taken homes m =
       record { goes_on = on; placed = k.placed; legal = ((m.fits, m.ranged, m.carried), k.legal); view = refl }
 
@@ -143,12 +144,12 @@ module _ (me : Seated) (s : St) (k : IsKept me.0.roster s) (id t : ℕ) (at : ge
 pub loads : (me : Seated) (slots id t : ℕ) → t < length me.0.roster
     → Allows (IsKept me.0.roster) slots id me (place t) (λ n. n) (looked (step slots (place t) 0 0 none) me)
 loads me slots id t there s k sized at bounded = (
-  look_view me s k id t at there,
+  look_view me s k id t at there (look_at t),
   keeps,
   tt,
-  look_kept me s k id t at there,
-  at_place (λ row. looked_on row me (slice_index s.words (place t)) (look_view me s k id t at there, me.1)) t
-      (look_told me s k id t at there),
+  look_kept me s k id t at there (look_at t),
+  at_place (λ row. looked_on row me (slice_index s.words (place t)) (look_view me s k id t at there (look_at t), me.1)) t
+      (look_told me s k id t at there (look_at t)),
 )
 
 -- ---- words and phases

@@ -1,5 +1,5 @@
 -- What looks and claims answer, in terms of the history.
-use Rattle.std.proofs.Common.{refl, ◌≡◌, ◌≢◌, ◌<◌, ◌∷◌, ◌++◌, ◌⊎◌, [], ℕ, Bool, true, false, List}
+use Rattle.std.proofs.Common.{refl, ◌≡◌, ◌≢◌, ◌<◌, ◌∷◌, ◌++◌, [], ℕ, Bool, true, false, List}
 use Rattle.std.proofs.Common.{length, ◌∙◌, sym, ap, inl, inr, subst, eq-eqb, ne_eqb}
 use Rattle.std.proofs.lemmas.Bool.{cases_eq}
 use Rattle.std.proofs.lemmas.List.{append_assoc}
@@ -26,19 +26,19 @@ use Rattle.stop_history.proofs.Longer.{taken_or_same}
 use Rattle.stop_table.specs.declared.claim.Taken.{Taken}
 use Rattle.stop_table.specs.declared.claim.Taken.TheVariants as taken
 use Rattle.stop_table.specs.declared.shown.Shown.{Shown}
-use Rattle.stop_table.specs.Claiming.{IsTaken}
-use Rattle.stop_table.specs.Entry.{AreLegal, Cell, Entry, IsCarried, bare, cell_after, content_after}
+use Rattle.stop_table.specs.Claiming.{IsTaken, IsTakenOrLost}
+use Rattle.stop_table.specs.Entry.{AreLegal, Begins, Cell, Entry, IsCarried, bare, cell_after, content_after}
 use Rattle.stop_table.specs.Entry.{content_with, history_of, word_of}
-use Rattle.stop_table.specs.Handle.{AnswersAt, Claims, EndsWith, IsExitOf, IsHolding, IsLost, IsPoint, Looked, LooksAt}
-use Rattle.stop_table.specs.Handle.{Reaps, SeenAt, is_claimable, shown_of}
-use Rattle.stop_table.specs.Seat.{ReapedAt, Saw, TookStop}
+use Rattle.stop_table.specs.Handle.{AnswersAt, Claims, EndsWith, IsExitOf, IsHolding, IsLostSince, IsStepOf, Looked}
+use Rattle.stop_table.specs.Handle.{LooksAt, LosesAt, Reaps, SeenAt, is_claimable, shown_of}
+use Rattle.stop_table.specs.Seat.{Missed, ReapedAt, Saw, TookStop}
 use Rattle.stop_table.specs.Steps.{Seated, Sees}
-use Rattle.stop_table.specs.View.{View, actors_of}
+use Rattle.stop_table.specs.View.{View, actors_of, exchange_on, look_at}
 use Rattle.stop_table.proofs.Entries.{born_on, content_number, history_append, legal_append, own_cell, own_content}
 use Rattle.stop_table.proofs.Entries.{quiet_sooner, same_cell, shown_state}
 use Rattle.stop_table.proofs.Moves.{not_both}
-use Rattle.stop_table.proofs.Walking.{ended_with, ends_from, goes_from, look_step, looked_on, looks_from}
-use Rattle.stop_table.proofs.Walking.{one_look, point_from, sees_same, state_seen}
+use Rattle.stop_table.proofs.Walking.{ended_with, ends_from, goes_from, look_step, looked_on, looks_from, lost_since_from}
+use Rattle.stop_table.proofs.Walking.{one_look, sees_same, state_seen, step_from, step_on}
 
 -- ---- looks
 
@@ -66,31 +66,6 @@ looks_at_word u m n row w there first born s =
 pub answers : (u w : View) (row : ℕ) (a : Shown) → LooksAt u w row a → AnswersAt u w row a
 answers u w row a l =
     (l.0, record { point = l.1.point; sooner = l.1.sooner; later = l.1.later; step = inl l.1.step; shown = l.1.shown })
-
-answers_from : (u v w : View) (row : ℕ) (a : Shown) → Looked u v → AnswersAt v w row a → AnswersAt u w row a
-answers_from u v w row a first l =
-    let same = first.grows.same.roster in (
-      looked_on u v w first l.0,
-      record {
-        point = l.1.point;
-        sooner = goes_from u v l.1.point first.grows.goes_on first.grows.same l.1.sooner;
-        later = l.1.later;
-        step = elim l.1.step [
-          | inl seen ↦ inl (point_from u v w row l.1.point same first.grows.steps seen)
-          | inr lost ↦
-              inr (
-                lost.0,
-                lost.1,
-                lost.2,
-                lost.3,
-                lost.4,
-                lost.5,
-                goes_from u v lost.0 first.grows.goes_on first.grows.same lost.6,
-              )
-        ];
-        shown = l.1.shown ∙ ap (λ rows. shown_of (state_after rows (history_of l.1.point) row)) same;
-      },
-    )
 
 -- ---- what a row's content and its last event are
 
@@ -170,7 +145,7 @@ exit_of rows (x ∷ h) legal row status is =
 
 module _ (m n : Seated) (row : ℕ) (seen : Word) (h : List Entry) (there : row < length m.0.roster)
     (born : is_born m.0.roster (history_of m.0.seen) row ≡ true)
-    (s : Sees m.0 row h (bare (event.Claim row seen.number m.0.number) ∷ []) m.0.taken n.0)
+    (s : Sees m.0 (exchange_on row) h (bare (event.Claim row seen.number m.0.number) ∷ []) m.0.taken n.0)
     (word : seen ≡ word_of false (cell_after m.0.roster h row)) (p : Phase) (phase_is : seen.phase ≡ p) where
   abbrev entry : Entry
   entry = bare (event.Claim row seen.number m.0.number)
@@ -189,7 +164,7 @@ module _ (m n : Seated) (row : ℕ) (seen : Word) (h : List Entry) (there : row 
   -- the word that the claim leaves
   word_after : claimed_word seen m.0.number ≡ word_of false (cell_after n.0.roster n.0.seen row)
   word_after =
-      let same = sees_same m.0 n.0 row h (entry ∷ []) m.0.taken s in
+      let same = sees_same m.0 n.0 h (entry ∷ []) m.0.taken s in
       ap (λ w. claimed_word w m.0.number) word
       ∙ (λ j. record {
         phase = claimed_left m.0.number (events_of row (history_of h)) j;
@@ -202,7 +177,7 @@ module _ (m n : Seated) (row : ℕ) (seen : Word) (h : List Entry) (there : row 
 
   content_kept : content_after n.0.roster n.0.seen row ≡ content_after m.0.roster h row
   content_kept =
-      let same = sees_same m.0 n.0 row h (entry ∷ []) m.0.taken s in
+      let same = sees_same m.0 n.0 h (entry ∷ []) m.0.taken s in
       ap (λ rows. content_after rows n.0.seen row) same.roster
       ∙ ap (λ g. content_after m.0.roster g row) (ap (λ (v : View). v.seen) s.view)
       ∙ own_content m.0.roster entry h
@@ -223,11 +198,11 @@ did_claim m n row status seen content there born took phase_is =
     ∙ ap (λ (c : Content). c.number) (sym took.3) in
     let status_is : status ≡ stop_status content.stop =
     content_status m.0.roster h legal row status at ∙ ap (λ (c : Content). stop_status c.stop) (sym took.3) in
-    let same = sees_same m.0 n.0 row h (bare (event.Claim row seen.number m.0.number) ∷ []) m.0.taken s in (
+    let same = sees_same m.0 n.0 h (bare (event.Claim row seen.number m.0.number) ∷ []) m.0.taken s in (
       (
         h,
         subst (λ k. EndsWith m.0 n.0 h (bare (event.Claim row k m.0.number))) number
-            (ended_with m.0 n.0 row h (bare (event.Claim row seen.number m.0.number)) m.0.taken s),
+            (ended_with m.0 n.0 h (bare (event.Claim row seen.number m.0.number)) m.0.taken s),
         state_at m n row seen h there born s word p phase_is ∙ (λ j. state.Stopped (number j) (status_is j)),
         took.3,
       ),
@@ -249,7 +224,7 @@ did_reap m n row status seen death there born reaped phase_is ranged is =
     let last = exit_of m.0.roster h s.legal.1 row status (phase_at m n row seen h there born s word p phase_is) in
     let same : last.0 ≡ death = same_death last.0 death last.1 ranged (last.2 ∙ sym is) in (
       h,
-      ended_with m.0 n.0 row h (bare (event.Claim row seen.number m.0.number)) m.0.taken s,
+      ended_with m.0 n.0 h (bare (event.Claim row seen.number m.0.number)) m.0.taken s,
       state_at m n row seen h there born s word p phase_is ∙ ap (state.Dead seen.number) (sym is),
       ranged,
       subst (IsExitOf h row) same last.3,
@@ -298,7 +273,7 @@ claimed_cell rows x h row number tracer is =
 
 -- a row that is as it was shows the word that was seen
 unchanged_word : (m n : Seated) (row : ℕ) (seen w : Word) (p : Phase) → row < length m.0.roster
-    → is_born m.0.roster (history_of m.0.seen) row ≡ true → (s : Saw m n row w)
+    → is_born m.0.roster (history_of m.0.seen) row ≡ true → (s : Missed m n row w)
     → seen ≡ word_of false (cell_after m.0.roster m.0.seen row)
     → (cell_after m.0.roster m.0.seen row).phase ≡ p → ((k : ℕ) → is_waitable (shown true k p) ≡ true)
     → cell_after m.0.roster (s.2.goes_on.0 ++ m.0.seen) row ≡ cell_after m.0.roster m.0.seen row → w ≡ seen
@@ -319,23 +294,25 @@ unchanged_word m n row seen w p there born s word phase_m waits same =
     s.4 ∙ ap (λ b. word_of b (cell_after rows s.1 row)) low ∙ ap (word_of false) cell ∙ sym word
 
 lost_at : (m n : Seated) (row : ℕ) (seen w : Word) (p : Phase) (a : Shown) → row < length m.0.roster
-    → is_born m.0.roster (history_of m.0.seen) row ≡ true → (s : Saw m n row w)
+    → is_born m.0.roster (history_of m.0.seen) row ≡ true → (s : Missed m n row w)
+    → is_waitable (state_after m.0.roster (history_of m.0.seen) row) ≡ true
     → seen ≡ word_of false (cell_after m.0.roster m.0.seen row) → (cell_after m.0.roster m.0.seen row).phase ≡ p
     → ((c : ℕ) → shown_of (shown true seen.number (claimed_by c p)) ≡ a)
     → (was : WasClaimed row (history_of s.2.goes_on.0) (history_of m.0.seen))
     → (at : (before : List Entry) × (x : Entry) × (b : List Entry) × (s.2.goes_on.0 ≡ before ++ (x ∷ b))
     × (x.event ≡ event.Claim row was.number was.tracer) × (history_of b ≡ was.sooner))
-    → SeenAt m.0 n.0 (λ h. IsPoint m.0 n.0 row h ⊎ IsLost m.0 row h) row a
-lost_at m n row seen w p a there born s word phase_m after was at =
+    → SeenAt m.0 n.0 (IsLostSince m.0.seen m.0 n.0 row) row a
+lost_at m n row seen w p a there born s waited word phase_m after was at =
     let rows = m.0.roster in
     let x = at.1 in
     let b = at.2 in
     let quiet : IsQuiet (actors_of m.0) (history_of (x ∷ b)) =
     quiet_sooner (actors_of m.0) at.0 (x ∷ b)
     (subst (λ g. IsQuiet (actors_of m.0) (history_of g)) at.3 s.2.goes_on.2) in
+    let untouched : events_of row (history_of (b ++ m.0.seen)) ≡ events_of row (history_of m.0.seen) =
+    ap (events_of row) (history_append b m.0.seen ∙ ap (λ g. g ++ history_of m.0.seen) at.5) ∙ was.unchanged in
     let cell : cell_after rows (b ++ m.0.seen) row ≡ cell_after rows m.0.seen row =
-    same_cell rows row b m.0.seen
-    (ap (events_of row) (history_append b m.0.seen ∙ ap (λ g. g ++ history_of m.0.seen) at.5) ∙ was.unchanged) in
+    same_cell rows row b m.0.seen untouched in
     let left = claimed_cell rows x (b ++ m.0.seen) row was.number was.tracer at.4 in
     let born_x : is_born rows (history_of (x ∷ b ++ m.0.seen)) row ≡ true =
     born_on rows (actors_of m.0) row m.0.seen (x ∷ b ++ m.0.seen) (x ∷ b, refl, quiet) born in
@@ -350,24 +327,38 @@ lost_at m n row seen w p a there born s word phase_m after was at =
     born_x
     ∙ ap (λ k. shown true k (cell_after rows (x ∷ b ++ m.0.seen) row).phase) number
     ∙ ap (shown true seen.number) phase_x in
+    let later : Begins (x ∷ b ++ m.0.seen) n.0.seen = (
+      at.0,
+      ap (λ (v : View). v.seen) s.2.view ∙ s.2.goes_on.1 ∙ ap (λ g. g ++ m.0.seen) at.3
+          ∙ append_assoc at.0 (x ∷ b) m.0.seen,
+    ) in
     record {
       point = x ∷ b ++ m.0.seen;
       sooner = (x ∷ b, refl, quiet);
-      later = (
-        at.0,
-        ap (λ (v : View). v.seen) s.2.view ∙ s.2.goes_on.1 ∙ ap (λ g. g ++ m.0.seen) at.3
-            ∙ append_assoc at.0 (x ∷ b) m.0.seen,
-      );
-      step = inr (b ++ m.0.seen, x, was.number, was.tracer, at.4, refl, (b, refl, quiet.1));
+      later = later;
+      step = record {
+        waited = waited;
+        before = b ++ m.0.seen;
+        later = (b, refl);
+        untouched = untouched;
+        claim = x;
+        number = was.number;
+        tracer = was.tracer;
+        is_claim = at.4;
+        point = refl;
+        found = n.0.seen;
+        on = later;
+        exchange = look_step m n row w s;
+      };
       shown = sym (ap shown_of state_x ∙ after was.tracer);
     }
 
 -- between the look at a row that waited and the exchange that failed, another claimed the row
 pub lost_claim : (m n : Seated) (row : ℕ) (seen w : Word) (p : Phase) (a : Shown) → row < length m.0.roster
-    → is_born m.0.roster (history_of m.0.seen) row ≡ true → AreLegal m.0.roster m.0.seen → Saw m n row w → w ≢ seen
+    → is_born m.0.roster (history_of m.0.seen) row ≡ true → AreLegal m.0.roster m.0.seen → Missed m n row w → w ≢ seen
     → seen ≡ word_of false (cell_after m.0.roster m.0.seen row) → seen.phase ≡ p
     → ((k : ℕ) → is_waitable (shown true k p) ≡ true)
-    → ((c : ℕ) → shown_of (shown true seen.number (claimed_by c p)) ≡ a) → AnswersAt m.0 n.0 row a
+    → ((c : ℕ) → shown_of (shown true seen.number (claimed_by c p)) ≡ a) → LosesAt m.0 n.0 row a
 lost_claim m n row seen w p a there born legal_m s other word phase_is waits after =
     let rows = m.0.roster in
     let look = one_look m n row w s in
@@ -388,16 +379,41 @@ lost_claim m n row seen w p a there born legal_m s other word phase_is waits aft
           (same_cell rows row on.0 m.0.seen (ap (events_of row) (history_append on.0 m.0.seen) ∙ same))))
       | inr was ↦ (
         look,
-        lost_at m n row seen w p a there born s word phase_m after was
+        lost_at m n row seen w p a there born s waited word phase_m after was
             (split_at on.0 was.later (event.Claim row was.number was.tracer) was.sooner was.is),
       )
     ]
 
 -- ---- an attempt behind looks
 
+-- what was lost behind the look, the whole attempt lost
+loses_from : (u v w : View) (row : ℕ) (a : Shown) → Looked u v → IsStepOf u v (look_at row v.seen) → LosesAt v w row a
+    → AnswersAt u w row a
+loses_from u v w row a first look l =
+    let same = first.grows.same.roster in (
+      looked_on u v w first l.0,
+      record {
+        point = l.1.point;
+        sooner = goes_from u v l.1.point first.grows.goes_on first.grows.same l.1.sooner;
+        later = l.1.later;
+        step = inr (
+          v.seen,
+          step_on u v w (look_at row v.seen) look l.0.grows.steps,
+          lost_since_from v.seen u v w row l.1.point same first.grows.steps l.1.step,
+        );
+        shown = l.1.shown ∙ ap (λ rows. shown_of (state_after rows (history_of l.1.point) row)) same;
+      },
+    )
+
+-- the last look of a call that looks once more, at the row
+pub last_look : (u : View) (m n : Seated) (row : ℕ) (w : Word) → Looked u m.0 → Saw m n row w
+    → IsStepOf u n.0 (look_at row n.0.seen)
+last_look u m n row w first s = step_from u m.0 n.0 (look_at row n.0.seen) first.grows.steps (look_step m n row w s)
+
+-- the last of the looks was at the row
 pub taken_from : {A : Type 0} (deaths : Bool) (u v w : View) (row : ℕ) (r : Taken A) → Looked u v
-    → IsTaken deaths v w row r → IsTaken deaths u w row r
-taken_from deaths u v w row (taken.Stop claim) first is =
+    → IsStepOf u v (look_at row v.seen) → IsTakenOrLost deaths v w row r → IsTaken deaths u w row r
+taken_from deaths u v w row (taken.Stop claim) first look is =
     let same = first.grows.same in
     let c = is.0 in (
       (
@@ -412,7 +428,7 @@ taken_from deaths u v w row (taken.Stop claim) first is =
       is.2,
       is.3 ∙ same.number,
     )
-taken_from deaths u v w row (taken.Ended death number) first is =
+taken_from deaths u v w row (taken.Ended death number) first look is =
     let same = first.grows.same in
     let c = is.0 in (
       (
@@ -425,7 +441,7 @@ taken_from deaths u v w row (taken.Ended death number) first is =
       ),
       is.1,
     )
-taken_from deaths u v w row (taken.Nothing a) first is = (answers_from u v w row a first is.0, is.1)
+taken_from deaths u v w row (taken.Nothing a) first look is = (loses_from u v w row a first look is.0, is.1)
 
 -- ---- an attempt that finds nothing to claim
 

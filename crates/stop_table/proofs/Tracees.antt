@@ -28,9 +28,9 @@ use Rattle.stop_table.specs.Entry.{AreLegal, Cell, Entry, GoesOn, bare, cell_aft
 use Rattle.stop_table.specs.Handle.{EndsWith, Grows, IsUnborn, Looked, LooksAt, SawUnborn, TakesUp, shown_of}
 use Rattle.stop_table.specs.Seat.{HasEnded, Published, Saw, TookUp}
 use Rattle.stop_table.specs.Place.{place}
-use Rattle.stop_table.specs.Steps.{Seated, Sees, observed}
+use Rattle.stop_table.specs.Steps.{Seated, Sees}
 use Rattle.stop_table.specs.Tracee.{IsTracee}
-use Rattle.stop_table.specs.View.{View, actors_of}
+use Rattle.stop_table.specs.View.{View, actors_of, exchange_on, look_at}
 use Rattle.stop_table.proofs.Allowed.{acts_for, restart_mover, restart_runs}
 use Rattle.stop_table.proofs.Entries.{born_on, legal_history, shown_state, stays_on}
 use Rattle.stop_table.proofs.Walking.{ended_with, grows_on, legal_after, look_step, looked_on, one_look, sees_same}
@@ -65,9 +65,9 @@ tracee_looked rows m n row word holds t l slots = record {
 
 -- what an event of its own leaves of the handle: it has its row taken up no more
 idle_after : (rows : List Row) (m n : Seated) (row : ℕ) (word : Word) (h new : List Entry)
-    → IsTracee rows m row word true → Sees m.0 row h new false n.0 → n.1 ≡ rest m.1 → IsTracee rows n row word false
+    → IsTracee rows m row word true → Sees m.0 (exchange_on row) h new false n.0 → n.1 ≡ rest m.1 → IsTracee rows n row word false
 idle_after rows m n row word h new t s slots =
-    let same = sees_same m.0 n.0 row h new false s in
+    let same = sees_same m.0 n.0 h new false s in
     record {
       low = t.low;
       roster_is = same.roster ∙ t.roster_is;
@@ -85,7 +85,7 @@ pub published_tracee : (rows : List Row) (m n : Seated) (row : ℕ) (word : Word
     → IsTracee rows m row word true → Published m n row content
     → ((before : List Entry) × EndsWith m.0 n.0 before (publish_of row content)) × IsTracee rows n row word false
 published_tracee rows m n row word content t p = (
-  (p.1, ended_with m.0 n.0 row p.1 (publish_of row content) false p.2),
+  (p.1, ended_with m.0 n.0 p.1 (publish_of row content) false p.2),
   idle_after rows m n row word p.1 (publish_of row content ∷ []) t p.2 p.0,
 )
 
@@ -93,7 +93,7 @@ pub exited_tracee : (rows : List Row) (m n : Seated) (row : ℕ) (word : Word) (
     → IsTracee rows m row word true → HasEnded m n row death
     → ((before : List Entry) × EndsWith m.0 n.0 before (bare (event.Exit row death))) × IsTracee rows n row word false
 exited_tracee rows m n row word death t e = (
-  (e.1, ended_with m.0 n.0 row e.1 (bare (event.Exit row death)) false e.2),
+  (e.1, ended_with m.0 n.0 e.1 (bare (event.Exit row death)) false e.2),
   idle_after rows m n row word e.1 (bare (event.Exit row death) ∷ []) t e.2 e.0,
 )
 
@@ -200,7 +200,7 @@ looks_unborn u v w row first second unborn =
           none,
           (
             unborn.1.0,
-            step_from u v w unborn.1.0 w.seen first.grows.steps unborn.1.1,
+            step_from u v w (look_at unborn.1.0 w.seen) first.grows.steps unborn.1.1,
             subst (λ rs. parent_of rs row ≡ Some unborn.1.0) same unborn.1.2,
           ),
         );
@@ -237,7 +237,7 @@ takes_row_up rows m n o p row word w how content t s ranged is second born slots
     let at_p : cell_after rows p.0.seen row ≡ cell_after rows o.0.seen row =
     ap (λ h. cell_after rows h row) seen_p
     ∙ subst (λ rs. cell_after rs took.1 row ≡ cell_after rs o.0.seen row) roster_o took.4 in
-    let same_p = sees_same o.0 p.0 row took.1 [] true took.2 in
+    let same_p = sees_same o.0 p.0 took.1 [] true took.2 in
     let to_n : cell_after rows p.0.seen row ≡ cell_after rows n.0.seen row = at_p ∙ at_o in
     let phase_p : (cell_after rows p.0.seen row).phase ≡ w.phase = ap (λ (c : Cell). c.phase) to_n ∙ seen in
     let legal_p : AreLegal rows p.0.seen =
@@ -256,14 +256,14 @@ takes_row_up rows m n o p row word w how content t s ranged is second born slots
       goes_on = subst (GoesOn (actors_of o.0) o.0.seen) (sym seen_p) took.2.goes_on;
       legal = subst (λ rs. AreLegal rs p.0.seen) (sym (same_p.roster ∙ roster_o)) legal_p;
       same = same_p;
-      steps = (observed row took.1 ∷ [], ap (λ (x : View). x.observations) took.2.view);
+      steps = (exchange_on row took.1 ∷ [], ap (λ (x : View). x.observations) took.2.view);
     } in (
       record {
         grows = grows_on m.0 o.0 p.0 whole.grows grows_p;
-        step = step_from m.0 o.0 p.0 row p.0.seen whole.grows.steps (
-          observed row took.1 ∷ [],
+        step = step_from m.0 o.0 p.0 (exchange_on row p.0.seen) whole.grows.steps (
+          exchange_on row took.1 ∷ [],
           ap (λ (x : View). x.observations) took.2.view,
-          inl (ap (observed row) (sym seen_p)),
+          inl (ap (exchange_on row) (sym seen_p)),
         );
         running = subst (λ rs. state_after rs (history_of p.0.seen) row ≡ state.Running) roster_m runs;
         restart = subst (λ rs. restart_in (cell_after rs p.0.seen row).phase ≡ Ok how) roster_m

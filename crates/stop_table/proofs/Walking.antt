@@ -8,7 +8,7 @@ use Rattle.stop_history.specs.declared.phase.Phase.{Phase}
 use Rattle.stop_history.specs.declared.phase.Phase.TheVariants as phase
 use Rattle.stop_history.specs.declared.roster.Row.{Row}
 use Rattle.stop_history.specs.Roster.{IsRoster, parent_of, rank_of}
-use Rattle.stop_history.specs.State.{is_born, state_after, state_in}
+use Rattle.stop_history.specs.State.{is_born, is_waitable, state_after, state_in}
 use Rattle.stop_history.specs.Word.{Word, shown}
 use Rattle.stop_history.proofs.Births.{born_by_rank}
 use Rattle.stop_history.proofs.Longer.{unborn_is_silent}
@@ -16,11 +16,11 @@ use Rattle.stop_history.proofs.Rosters.{placed}
 use Rattle.stop_history.proofs.States.{state_within}
 use Rattle.stop_table.specs.declared.shown.Shown.{Shown}
 use Rattle.stop_table.specs.Entry.{AreLegal, Begins, Entry, GoesOn, cell_after, history_of, word_of}
-use Rattle.stop_table.specs.Handle.{EndsWith, Grows, Has, HasSteps, IsPoint, IsSame, IsStepOf, IsUnborn, Looked}
-use Rattle.stop_table.specs.Handle.{LooksAt, SawUnborn, SeenAt, shown_of}
-use Rattle.stop_table.specs.Seat.{Saw}
-use Rattle.stop_table.specs.Steps.{Seated, Sees, observed}
-use Rattle.stop_table.specs.View.{Observation, View, actors_of}
+use Rattle.stop_table.specs.Handle.{EndsWith, Grows, Has, HasSteps, IsLostSince, IsPoint, IsSame, IsStepOf, IsUnborn}
+use Rattle.stop_table.specs.Handle.{IsLost, Looked, LooksAt, SawUnborn, SeenAt, shown_of}
+use Rattle.stop_table.specs.Seat.{FoundBy, Saw}
+use Rattle.stop_table.specs.Steps.{Seated, Sees}
+use Rattle.stop_table.specs.View.{Observation, View, actors_of, exchange_on, look_at}
 use Rattle.stop_table.proofs.Entries.{goes_nowhere, goes_on, legal_history, shown_state}
 use Rattle.stop_table.proofs.Allowed.{not_taken}
 use Rattle.stop_table.proofs.Own.{same_actors}
@@ -38,8 +38,9 @@ same_trans u v w first second = record {
   number = second.number ∙ first.number;
 }
 
-pub sees_same : (v w : View) (row : ℕ) (h new : List Entry) (taken : Bool) → Sees v row h new taken w → IsSame v w
-sees_same v w row h new taken s = record {
+pub sees_same : (v w : View) {step : List Entry → Observation} (h new : List Entry) (taken : Bool)
+    → Sees v step h new taken w → IsSame v w
+sees_same v w h new taken s = record {
   roster = ap (λ (x : View). x.roster) s.view;
   tracees = ap (λ (x : View). x.tracees) s.view;
   tracers = ap (λ (x : View). x.tracers) s.view;
@@ -60,44 +61,90 @@ steps_trans u v w first second = (
   second.1 ∙ ap (λ os. second.0 ++ os) first.1 ∙ sym (append_assoc second.0 first.0 u.observations),
 )
 
-has_front : (a b : List Observation) (row : ℕ) (h : List Entry) → Has a row h → Has (a ++ b) row h
-has_front [] b row h has = absurd has
-has_front (o ∷ a) b row h has = elim has [ inl here ↦ inl here | inr later ↦ inr (has_front a b row h later) ]
+has_front : (a b : List Observation) (o : Observation) → Has a o → Has (a ++ b) o
+has_front [] b o has = absurd has
+has_front (x ∷ a) b o has = elim has [ inl here ↦ inl here | inr later ↦ inr (has_front a b o later) ]
 
-has_back : (a b : List Observation) (row : ℕ) (h : List Entry) → Has b row h → Has (a ++ b) row h
-has_back [] b row h has = has
-has_back (o ∷ a) b row h has = inr (has_back a b row h has)
+has_back : (a b : List Observation) (o : Observation) → Has b o → Has (a ++ b) o
+has_back [] b o has = has
+has_back (x ∷ a) b o has = inr (has_back a b o has)
 
 -- a step of a part of a call is one of the whole
-pub step_from : (u v w : View) (row : ℕ) (h : List Entry) → HasSteps u v → IsStepOf v w row h → IsStepOf u w row h
-step_from u v w row h first step = (
+pub step_from : (u v w : View) (o : Observation) → HasSteps u v → IsStepOf v w o → IsStepOf u w o
+step_from u v w o first step = (
   step.0 ++ first.0,
   step.1 ∙ ap (λ os. step.0 ++ os) first.1 ∙ sym (append_assoc step.0 first.0 u.observations),
-  has_front step.0 first.0 row h step.2,
+  has_front step.0 first.0 o step.2,
 )
 
-pub step_on : (u v w : View) (row : ℕ) (h : List Entry) → IsStepOf u v row h → HasSteps v w → IsStepOf u w row h
-step_on u v w row h step later = (
+pub step_on : (u v w : View) (o : Observation) → IsStepOf u v o → HasSteps v w → IsStepOf u w o
+step_on u v w o step later = (
   later.0 ++ step.0,
   later.1 ∙ ap (λ os. later.0 ++ os) step.1 ∙ sym (append_assoc later.0 step.0 u.observations),
-  has_back later.0 step.0 row h step.2,
+  has_back later.0 step.0 o step.2,
 )
 
 pub point_from : (u v w : View) (row : ℕ) (h : List Entry) → v.roster ≡ u.roster → HasSteps u v → IsPoint v w row h
     → IsPoint u w row h
 point_from u v w row h same first point =
     elim point [
-      | inl own ↦ inl (step_from u v w row h first own)
+      | inl own ↦ inl (step_from u v w (look_at row h) first own)
       | inr parents ↦
           inr (
             subst (λ rows. IsUnborn rows row h) same parents.0,
             (
               parents.1.0,
-              step_from u v w parents.1.0 h first parents.1.1,
+              step_from u v w (look_at parents.1.0 h) first parents.1.1,
               subst (λ rows. parent_of rows row ≡ Some parents.1.0) same parents.1.2,
             ),
           )
     ]
+
+-- what a part of a call lost to another, the whole call lost
+pub lost_since_from : (look : List Entry) (u v w : View) (row : ℕ) (h : List Entry) → v.roster ≡ u.roster → HasSteps u v
+    → IsLostSince look v w row h → IsLostSince look u w row h
+lost_since_from look u v w row h same first lost = record {
+  waited = subst (λ rows. is_waitable (state_after rows (history_of look) row) ≡ true) same lost.waited;
+  before = lost.before;
+  later = lost.later;
+  untouched = lost.untouched;
+  claim = lost.claim;
+  number = lost.number;
+  tracer = lost.tracer;
+  is_claim = lost.is_claim;
+  point = lost.point;
+  found = lost.found;
+  on = lost.on;
+  exchange = step_from u v w (exchange_on row lost.found) first lost.exchange;
+}
+
+pub lost_from : (u v w : View) (row : ℕ) (h : List Entry) → v.roster ≡ u.roster → HasSteps u v → IsLost v w row h
+    → IsLost u w row h
+lost_from u v w row h same first lost = (
+  lost.0,
+  step_from u v w (look_at row lost.0) first lost.1,
+  lost_since_from lost.0 u v w row h same first lost.2,
+)
+
+pub lost_on : (u v w : View) (row : ℕ) (h : List Entry) → IsLost u v row h → HasSteps v w → IsLost u w row h
+lost_on u v w row h lost later = (
+  lost.0,
+  step_on u v w (look_at row lost.0) lost.1 later,
+  record {
+    waited = lost.2.waited;
+    before = lost.2.before;
+    later = lost.2.later;
+    untouched = lost.2.untouched;
+    claim = lost.2.claim;
+    number = lost.2.number;
+    tracer = lost.2.tracer;
+    is_claim = lost.2.is_claim;
+    point = lost.2.point;
+    found = lost.2.found;
+    on = lost.2.on;
+    exchange = step_on u v w (exchange_on row lost.2.found) lost.2.exchange later;
+  },
+)
 
 -- ---- a call that goes on
 
@@ -142,30 +189,33 @@ looks_from u v w row a first l = (looked_on u v w first l.0, seen_from u v w fir
 
 -- ---- one look
 
-pub seen_is : (m n : Seated) (row : ℕ) (word : Word) → (s : Saw m n row word) → n.0.seen ≡ s.1
+pub seen_is : (m n : Seated) {step : List Entry → Observation} (row : ℕ) (word : Word)
+    → (s : FoundBy step m n row word) → n.0.seen ≡ s.1
 seen_is m n row word s = ap (λ (x : View). x.seen) s.2.view
 
-pub one_look : (m n : Seated) (row : ℕ) (word : Word) → Saw m n row word → Looked m.0 n.0
-one_look m n row word s =
+pub one_look : (m n : Seated) {step : List Entry → Observation} (row : ℕ) (word : Word) → FoundBy step m n row word
+    → Looked m.0 n.0
+one_look m n {step} row word s =
     let at = seen_is m n row word s in
-    let same = sees_same m.0 n.0 row s.1 [] m.0.taken s.2 in
+    let same = sees_same m.0 n.0 s.1 [] m.0.taken s.2 in
     record {
       grows = record {
         goes_on = subst (GoesOn (actors_of m.0) m.0.seen) (sym at) s.2.goes_on;
         legal = subst (λ rows. AreLegal rows n.0.seen) (sym same.roster)
             (subst (AreLegal m.0.roster) (sym at) s.2.legal);
         same = same;
-        steps = (observed row s.1 ∷ [], ap (λ (x : View). x.observations) s.2.view);
+        steps = (step s.1 ∷ [], ap (λ (x : View). x.observations) s.2.view);
       };
       taken = ap (λ (x : View). x.taken) s.2.view;
     }
 
--- the step of a look, and the history directly after it, which is what is seen now
-pub look_step : (m n : Seated) (row : ℕ) (word : Word) → Saw m n row word → IsStepOf m.0 n.0 row n.0.seen
-look_step m n row word s = (
-  observed row s.1 ∷ [],
+-- the step, and the history directly after it, which is what is seen now
+pub look_step : (m n : Seated) {step : List Entry → Observation} (row : ℕ) (word : Word) → FoundBy step m n row word
+    → IsStepOf m.0 n.0 (step n.0.seen)
+look_step m n {step} row word s = (
+  step s.1 ∷ [],
   ap (λ (x : View). x.observations) s.2.view,
-  inl (ap (observed row) (sym (seen_is m n row word s))),
+  inl (ap step (sym (seen_is m n row word s))),
 )
 
 -- the word seen is that of the row now
@@ -249,17 +299,17 @@ pub legal_after : (v w : View) → Looked v w → AreLegal v.roster w.seen
 legal_after v w l = subst (λ rows. AreLegal rows w.seen) l.grows.same.roster l.grows.legal
 
 -- a step with an event of the handle's own
-pub ended_with : (v w : View) (row : ℕ) (h : List Entry) (x : Entry) (taken : Bool) → Sees v row h (x ∷ []) taken w
-    → EndsWith v w h x
-ended_with v w row h x taken s =
-    let same = sees_same v w row h (x ∷ []) taken s in
+pub ended_with : (v w : View) {step : List Entry → Observation} (h : List Entry) (x : Entry) (taken : Bool)
+    → Sees v step h (x ∷ []) taken w → EndsWith v w h x
+ended_with v w {step} h x taken s =
+    let same = sees_same v w h (x ∷ []) taken s in
     let seen = ap (λ (u : View). u.seen) s.view in
     record {
       goes_on = s.goes_on;
       seen = seen;
       legal = subst (λ rows. AreLegal rows w.seen) (sym same.roster) (subst (AreLegal v.roster) (sym seen) s.legal);
       same = same;
-      steps = (observed row (x ∷ h) ∷ [], ap (λ (u : View). u.observations) s.view);
+      steps = (step (x ∷ h) ∷ [], ap (λ (u : View). u.observations) s.view);
     }
 
 -- looks before an event of the handle's own

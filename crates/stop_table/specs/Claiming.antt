@@ -2,7 +2,7 @@
 use Rattle.std.specs.Prelude.{◌≡◌, ℕ, Bool, true, false}
 use Rattle.stop_table.specs.declared.claim.Taken.{Taken}
 use Rattle.stop_table.specs.declared.claim.Taken.TheVariants as taken
-use Rattle.stop_table.specs.Handle.{AnswersAt, Claims, IsHolding, Reaps, is_claimable}
+use Rattle.stop_table.specs.Handle.{AnswersAt, Claims, IsHolding, LosesAt, Reaps, is_claimable}
 use Rattle.stop_table.specs.View.{View}
 
 -- the stop was claimed, or the death where deaths are asked for; or the row was at a point of the call as the answer
@@ -13,3 +13,8 @@ IsTaken deaths v w row (taken.Stop claim) =
     × (claim.row ≡ row) × (claim.tracer ≡ v.number)
 IsTaken deaths v w row (taken.Ended death number) = Reaps v w row death number × (deaths ≡ true)
 IsTaken deaths v w row (taken.Nothing a) = AnswersAt v w row a × (is_claimable deaths a ≡ false)
+
+-- the same of an attempt at what a look has shown: there is nothing only where it was lost to another
+abbrev pub IsTakenOrLost : {A : Type 0} → (deaths : Bool) → View → View → ℕ → Taken A → Type 0
+IsTakenOrLost deaths v w row (taken.Nothing a) = LosesAt v w row a × (is_claimable deaths a ≡ false)
+IsTakenOrLost deaths v w row other = IsTaken deaths v w row other

@@ -16,7 +16,7 @@ use Rattle.stop_history.specs.Step.{died, restarted}
 use Rattle.stop_table.specs.Entry.{AreLegal, Entry, GoesOn, bare, cell_after, history_of, publish_of, word_of}
 use Rattle.stop_table.specs.Place.{place}
 use Rattle.stop_table.specs.Rule.{AllGoOn}
-use Rattle.stop_table.specs.View.{Observation, Past, View, actors_of, is_among}
+use Rattle.stop_table.specs.View.{Observation, Past, View, actors_of, exchange_on, is_among, look_at}
 
 -- a handle's view, and the slots that are out with it
 abbrev pub Seated : Type 0
@@ -25,29 +25,26 @@ Seated = Me (Option Content) View
 abbrev pub TheStep : Type 0
 TheStep = Step (Option Content)
 
-abbrev pub observed : ℕ → List Entry → Observation
-observed row h = record { row = row; seen = h }
-
--- the view once it has seen the history h, by a step on the word of a row
-abbrev pub at_seen : View → (row : ℕ) → (h : List Entry) → (taken : Bool) → View
-at_seen v row h taken = record {
+-- the view once it has seen the history h, by a step
+abbrev pub at_seen : View → (step : List Entry → Observation) → (h : List Entry) → (taken : Bool) → View
+at_seen v step h taken = record {
   roster = v.roster;
   tracees = v.tracees;
   number = v.number;
   tracers = v.tracers;
   taken = taken;
   seen = h;
-  observations = observed row h ∷ v.observations;
+  observations = step h ∷ v.observations;
   told = [];
 }
 
 -- Up to the step the history was h, which goes on from what was seen by events of others. Then it has the entries `new`
 -- too, and is legal.
-pub record Sees (v : View) (row : ℕ) (h new : List Entry) (taken : Bool) (w : View) : Type 0 where
+pub record Sees (v : View) (step : List Entry → Observation) (h new : List Entry) (taken : Bool) (w : View) : Type 0 where
   pub goes_on : GoesOn (actors_of v) v.seen h
   pub placed : IsRoster v.roster
   pub legal : AreLegal v.roster (new ++ h)
-  pub view : w ≡ at_seen v row (new ++ h) taken
+  pub view : w ≡ at_seen v step (new ++ h) taken
 
 -- the number found is that of the row's word after the history; an active row runs, and is one of the handle's own
 -- exactly where the handle has it taken up
@@ -61,9 +58,18 @@ Shows v row found h =
 abbrev pub AtRow : TheStep → (ℕ → Type 0) → Type 0
 AtRow s told = (row : ℕ) → s.word ≡ place row → told row
 
+-- the step found the row's word, and changed nothing
+abbrev pub found_by : (step : List Entry → Observation) → ℕ → Seated → ℕ → Seated → Type 0
+found_by step row m found n =
+    (h : List Entry) × (n.1 ≡ m.1) × Sees m.0 step h [] m.0.taken n.0 × Shows m.0 row found h
+
 -- the row's word was read
 abbrev pub looked_on : ℕ → Seated → ℕ → Seated → Type 0
-looked_on row m found n = (h : List Entry) × (n.1 ≡ m.1) × Sees m.0 row h [] m.0.taken n.0 × Shows m.0 row found h
+looked_on row m found n = found_by (look_at row) row m found n
+
+-- an exchange found another word in the row than it looked for
+abbrev pub missed_on : ℕ → Seated → ℕ → Seated → Type 0
+missed_on row m found n = found_by (exchange_on row) row m found n
 
 abbrev pub looked : TheStep → Seated → ℕ → Seated → Type 0
 looked s m found n = AtRow s (λ row. looked_on row m found n)
@@ -72,7 +78,7 @@ looked s m found n = AtRow s (λ row. looked_on row m found n)
 abbrev pub took_on : ℕ → Seated → Seated → Type 0
 took_on row m n =
     (h : List Entry) × (n.1 ≡ (place row, Some (cell_after m.0.roster h row).content) ∷ m.1)
-    × Sees m.0 row h [] true n.0 × (cell_after m.0.roster h row ≡ cell_after m.0.roster m.0.seen row)
+    × Sees m.0 (exchange_on row) h [] true n.0 × (cell_after m.0.roster h row ≡ cell_after m.0.roster m.0.seen row)
 
 abbrev pub took : TheStep → Seated → ℕ → Seated → Type 0
 took s m found n = AtRow s (λ row. took_on row m n)
@@ -81,7 +87,7 @@ took s m found n = AtRow s (λ row. took_on row m n)
 abbrev pub publishes_on : ℕ → Seated → Seated → Type 0
 publishes_on row m n =
     (content : Content) → m.1 ≡ (place row, Some content) ∷ rest m.1
-    → (h : List Entry) × (n.1 ≡ rest m.1) × Sees m.0 row h (publish_of row content ∷ []) false n.0
+    → (h : List Entry) × (n.1 ≡ rest m.1) × Sees m.0 (exchange_on row) h (publish_of row content ∷ []) false n.0
 
 abbrev pub publishes : TheStep → Seated → ℕ → Seated → Type 0
 publishes s m found n = AtRow s (λ row. publishes_on row m n)
@@ -89,7 +95,7 @@ publishes s m found n = AtRow s (λ row. publishes_on row m n)
 -- the row was claimed, by the exchange of the word found
 abbrev pub claims_on : ℕ → Seated → ℕ → Seated → List Entry → Type 0
 claims_on row m found n h =
-    Sees m.0 row h (bare (event.Claim row (cell_after m.0.roster h row).number m.0.number) ∷ []) m.0.taken n.0
+    Sees m.0 (exchange_on row) h (bare (event.Claim row (cell_after m.0.roster h row).number m.0.number) ∷ []) m.0.taken n.0
     × (found ≡ raw_of (word_of false (cell_after m.0.roster h row)))
 
 -- the stop that stood there was claimed, and its record is out; or another word was found
@@ -97,7 +103,7 @@ abbrev pub claimed_on : TheStep → ℕ → Seated → ℕ → Seated → Type 0
 claimed_on s row m found n =
     (found ≡ s.first → (h : List Entry) × (n.1 ≡ (place row, Some (cell_after m.0.roster h row).content) ∷ m.1)
     × claims_on row m found n h)
-    × (found ≢ s.first → looked_on row m found n)
+    × (found ≢ s.first → missed_on row m found n)
 
 abbrev pub claimed : TheStep → Seated → ℕ → Seated → Type 0
 claimed s m found n = AtRow s (λ row. claimed_on s row m found n)
@@ -106,7 +112,7 @@ claimed s m found n = AtRow s (λ row. claimed_on s row m found n)
 abbrev pub reaped_on : TheStep → ℕ → Seated → ℕ → Seated → Type 0
 reaped_on s row m found n =
     (found ≡ s.first → (h : List Entry) × (n.1 ≡ m.1) × claims_on row m found n h)
-    × (found ≢ s.first → looked_on row m found n)
+    × (found ≢ s.first → missed_on row m found n)
 
 abbrev pub reaped : TheStep → Seated → ℕ → Seated → Type 0
 reaped s m found n = AtRow s (λ row. reaped_on s row m found n)
@@ -117,7 +123,7 @@ resumed_on s row m n =
     (how : Restart) × IsResume how
     × (s.second ≡ raw_of (restarted (word_of false (cell_after m.0.roster m.0.seen row)) how))
     × (h : List Entry) × (n.1 ≡ rest m.1)
-    × Sees m.0 row h
+    × Sees m.0 (exchange_on row) h
     (bare (event.Resume row (cell_after m.0.roster m.0.seen row).number how m.0.number) ∷ []) m.0.taken n.0
 
 abbrev pub resumed : TheStep → Seated → ℕ → Seated → Type 0
@@ -128,7 +134,7 @@ abbrev pub exited_on : TheStep → ℕ → Seated → Seated → Type 0
 exited_on s row m n =
     (death : Death) × IsDeath death
     × (s.second ≡ raw_of (died (word_of false (cell_after m.0.roster m.0.seen row)) death))
-    × (h : List Entry) × (n.1 ≡ rest m.1) × Sees m.0 row h (bare (event.Exit row death) ∷ []) false n.0
+    × (h : List Entry) × (n.1 ≡ rest m.1) × Sees m.0 (exchange_on row) h (bare (event.Exit row death) ∷ []) false n.0
 
 abbrev pub exited : TheStep → Seated → ℕ → Seated → Type 0
 exited s m found n = AtRow s (λ row. exited_on s row m n)

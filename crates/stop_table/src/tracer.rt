@@ -9,7 +9,7 @@ ghost use Rattle.stop_history.specs.declared.phase.Phase.TheVariants.{Dead, Stop
 ghost use Rattle.stop_history.specs.Event as event;
 ghost use Rattle.stop_history.specs.Roster.{IsRoster};
 ghost use Rattle.stop_history.specs.State.{is_born};
-ghost use Rattle.stop_table.specs.Claiming.{IsTaken};
+ghost use Rattle.stop_table.specs.Claiming.{IsTaken, IsTakenOrLost};
 ghost use Rattle.stop_table.specs.Entry.{bare, cell_after, history_of, word_of};
 ghost use Rattle.stop_table.specs.Handle.{EndsWith, IsHolding, LooksAt, Meets};
 ghost use Rattle.stop_table.specs.Opening.{new_view};
@@ -160,7 +160,7 @@ impl<A: Allocator> Tracer<A> {
         requires word { (word ≡ word_of false (cell_after self.old.view.roster self.old.view.seen row))
             × ((status : _) × (word.phase ≡ Stopped status)) }
         ensures handle { KeepsHandle self.old self.new }
-        ensures taken { IsTaken deaths self.old.view self.new.view row result }
+        ensures taken { IsTakenOrLost deaths self.old.view self.new.view row result }
     {
         match self
             .cells
@@ -188,7 +188,7 @@ impl<A: Allocator> Tracer<A> {
         requires word { (word ≡ word_of false (cell_after self.old.view.roster self.old.view.seen row))
             × (word.phase ≡ Dead status) }
         ensures handle { KeepsHandle self.old self.new }
-        ensures taken { IsTaken true self.old.view self.new.view row result }
+        ensures taken { IsTakenOrLost true self.old.view self.new.view row result }
     {
         if let Err(_) = self
             .cells

@@ -8,9 +8,9 @@ use Rattle.stop_table.specs.declared.shown.Shown.{Shown}
 use Rattle.stop_table.specs.Entry.{Begins, Entry, bare, history_of}
 use Rattle.stop_table.specs.Handle.{AnswersAt, EndsWith, HasSteps, IsPoint, Looked, LooksAt}
 use Rattle.stop_table.specs.Handle.{is_claimable, shown_of}
-use Rattle.stop_table.specs.View.{View}
+use Rattle.stop_table.specs.View.{View, look_at}
 use Rattle.stop_table.proofs.Entries.{begins_on}
-use Rattle.stop_table.proofs.Walking.{ends_from, goes_from, looked_on, point_from, step_on}
+use Rattle.stop_table.proofs.Walking.{ends_from, goes_from, looked_on, lost_from, lost_on, point_from, step_on}
 use Rattle.trace_calls.specs.Scan.{is_pending_shown}
 use Rattle.trace_calls.specs.Waiting.{Claimed, Reports, Saw, Showed, is_pending, is_waitable_for}
 
@@ -88,16 +88,7 @@ saw_from u v w row P first s =
       later = s.later;
       step = elim s.step [
         | inl seen ↦ inl (point_from u v w row s.point same first.grows.steps seen)
-        | inr lost ↦
-            inr (
-              lost.0,
-              lost.1,
-              lost.2,
-              lost.3,
-              lost.4,
-              lost.5,
-              goes_from u v lost.0 first.grows.goes_on first.grows.same lost.6,
-            )
+        | inr lost ↦ inr (lost_from u v w row s.point same first.grows.steps lost)
       ];
       state = subst (λ rows. P (state_after rows (history_of s.point) row)) same s.state;
     }
@@ -105,8 +96,8 @@ saw_from u v w row P first s =
 point_on : (u v w : View) (row : ℕ) (h : List Entry) → IsPoint u v row h → HasSteps v w → IsPoint u w row h
 point_on u v w row h point later =
     elim point [
-      | inl own ↦ inl (step_on u v w row h own later)
-      | inr parents ↦ inr (parents.0, (parents.1.0, step_on u v w parents.1.0 h parents.1.1 later, parents.1.2))
+      | inl own ↦ inl (step_on u v w (look_at row h) own later)
+      | inr parents ↦ inr (parents.0, (parents.1.0, step_on u v w (look_at parents.1.0 h) parents.1.1 later, parents.1.2))
     ]
 
 -- a point stays one as the call goes on
@@ -116,7 +107,10 @@ saw_on u v w row P s later steps = record {
   point = s.point;
   sooner = s.sooner;
   later = begins_on s.point v.seen w.seen s.later later;
-  step = elim s.step [ inl seen ↦ inl (point_on u v w row s.point seen steps) | inr lost ↦ inr lost ];
+  step = elim s.step [
+    | inl seen ↦ inl (point_on u v w row s.point seen steps)
+    | inr lost ↦ inr (lost_on u v w row s.point lost steps)
+  ];
   state = s.state;
 }
 

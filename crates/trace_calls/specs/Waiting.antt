@@ -34,13 +34,13 @@ Reports deaths number status at =
 
 -- ---- points
 
--- At a point of the call of its own a row was in a state of this kind: directly after a step of the call on the row's
--- word (where the row is unborn, on its parent's), or directly after another's claim that the call lost.
+-- At a point of the call of its own a row was in a state of this kind: at a look of the call at the row's word (where
+-- the row is unborn, at its parent's), or directly after the claim of it that the call lost to another.
 pub record Saw (v w : View) (row : ℕ) (Kind : State → Type 0) : Type 0 where
   pub point : List Entry
   pub sooner : GoesOn (actors_of v) v.seen point
   pub later : Begins point w.seen
-  pub step : IsPoint v w row point ⊎ IsLost v row point
+  pub step : IsPoint v w row point ⊎ IsLost v w row point
   pub state : Kind (state_after v.roster (history_of point) row)
 
 abbrev pub WasPassed : Bool → View → View → ℕ → Type 0

@@ -7,7 +7,7 @@ use Rattle.stop_history.specs.Step.{claimed as claimed_word}
 use Rattle.stop_history.specs.Word.{Word}
 use Rattle.stop_table.specs.Entry.{AreLegal, cell_after, history_of, word_of}
 use Rattle.stop_table.specs.declared.shown.Shown.TheVariants as shows
-use Rattle.stop_table.specs.Handle.{AnswersAt, Claims, IsHolding}
+use Rattle.stop_table.specs.Handle.{Claims, IsHolding, LosesAt}
 use Rattle.stop_table.specs.Tracer.{IsTracer, TracerHandle}
 use Rattle.stop_table.proofs.Answering.{did_claim, lost_claim}
 use Rattle.stop_table.proofs.Tracers.{missed_claim, room_left, took_claim}
@@ -78,7 +78,7 @@ returns-in-Err-clause-taken g c =
     let e = c.in-Err.ensures in
     let word = c.requires.word.0
     ∙ ap (λ (h : TracerHandle). word_of false (cell_after h.view.roster h.view.seen c.args.row)) (sym c.self.view_is) in (
-      subst (λ (h : TracerHandle). AnswersAt h.view c.try_claim.new.seat.me.0 c.args.row
+      subst (λ (h : TracerHandle). LosesAt h.view c.try_claim.new.seat.me.0 c.args.row
           (shows.Claimed c.word.inside.number)) c.self.view_is
           (lost_claim x.seat.me c.try_claim.new.seat.me c.args.row c.args.word _ (phase.Stopped c.requires.word.1.0)
           (shows.Claimed c.word.inside.number) there born (subst (λ rs. AreLegal rs x.seat.me.0.seen) (sym t.roster_is) t.legal)

@@ -6,7 +6,7 @@ use Rattle.stop_history.specs.State.{is_born}
 use Rattle.stop_history.specs.Word.{Word}
 use Rattle.stop_table.specs.declared.shown.Shown.TheVariants as shows
 use Rattle.stop_table.specs.Entry.{AreLegal, cell_after, history_of, word_of}
-use Rattle.stop_table.specs.Handle.{AnswersAt, Reaps}
+use Rattle.stop_table.specs.Handle.{LosesAt, Reaps}
 use Rattle.stop_table.specs.Tracer.{TracerHandle}
 use Rattle.stop_table.proofs.Answering.{did_reap, has_death, lost_claim}
 use Rattle.stop_table.proofs.Tracers.{kept_reap, missed_claim}
@@ -34,7 +34,7 @@ returns-in-Err-clause-taken g c =
     let e = c.in-Err.ensures in
     let word = c.requires.word.0
     ∙ ap (λ (h : TracerHandle). word_of false (cell_after h.view.roster h.view.seen c.args.row)) (sym c.self.view_is) in (
-      subst (λ (h : TracerHandle). AnswersAt h.view c.try_reap.new.seat.me.0 c.args.row shows.Reaped) c.self.view_is
+      subst (λ (h : TracerHandle). LosesAt h.view c.try_reap.new.seat.me.0 c.args.row shows.Reaped) c.self.view_is
           (lost_claim x.seat.me c.try_reap.new.seat.me c.args.row c.args.word c.in-Err.field-0 (phase.Dead c.args.status)
           shows.Reaped there born (subst (λ rs. AreLegal rs x.seat.me.0.seen) (sym t.roster_is) t.legal) e.reaped.0 e.reaped.1
           word c.requires.word.1 (λ k. refl) (λ k. refl)),

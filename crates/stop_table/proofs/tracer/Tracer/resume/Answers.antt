@@ -69,5 +69,5 @@ returns-clause-made g c =
       run.1,
       subst (λ (v : View). EndsWith v c.let_run.new.seat.me.0 run.1 (bare (event.Resume row number c.args.how v.number)))
           (c.bring.ensures.seat.2 ∙ ap (λ (h : TracerHandle). h.view) c.self.view_is)
-          (ended_with c.bring.new.seat.me.0 c.let_run.new.seat.me.0 row run.1 x' c.bring.new.seat.me.0.taken run.2),
+          (ended_with c.bring.new.seat.me.0 c.let_run.new.seat.me.0 run.1 x' c.bring.new.seat.me.0.taken run.2),
     )

@@ -4,10 +4,10 @@ use Rattle.std.specs.Arc.{arc_value}
 use Rattle.stop_history.specs.declared.phase.Phase.TheVariants as phase
 use Rattle.stop_history.specs.Word.{Word, shown}
 use Rattle.stop_table.specs.declared.shown.Shown.TheVariants as shows
-use Rattle.stop_table.specs.Claiming.{IsTaken}
+use Rattle.stop_table.specs.Claiming.{IsTaken, IsTakenOrLost}
 use Rattle.stop_table.specs.Handle.{AnswersAt, is_claimable, shown_of}
 use Rattle.stop_table.specs.Tracer.{TracerHandle}
-use Rattle.stop_table.proofs.Answering.{answers, born_after, claimable_stop, nothing_there, taken_from}
+use Rattle.stop_table.proofs.Answering.{answers, born_after, claimable_stop, last_look, nothing_there, taken_from}
 use Rattle.stop_table.proofs.Tracers.{seen_unborn, tracer_looked, tracer_looked_twice}
 use Rattle.stop_table.proofs.Walking.{idle_word, looked_on, one_look}
 use Rattle.stop_table.proofs.tracer.Tracer.try_row.Goals as goal
@@ -124,7 +124,8 @@ returns-in-Dead-clause-taken g c =
     c.self.view_is
     (taken_from c.args.deaths x.seat.me.0 c.see-word.new.seat.me.0 c.reap_seen.new.self.view c.args.row
     c.reap_seen.result looked
-    (subst (λ d. IsTaken d c.see-word.new.seat.me.0 c.reap_seen.new.self.view c.args.row c.reap_seen.result) (sym deaths)
+    (last_look x.seat.me.0 c.sees_born.new.seat.me c.see-word.new.seat.me c.args.row c.see-word.result e.2 c.see-word.ensures.1)
+    (subst (λ d. IsTakenOrLost d c.see-word.new.seat.me.0 c.reap_seen.new.self.view c.args.row c.reap_seen.result) (sym deaths)
     c.reap_seen.ensures.taken))
 
 pub returns-in_default : goal.returns-in_default
@@ -140,5 +141,7 @@ returns-in_default g c =
           (λ (h : TracerHandle). IsTaken c.args.deaths h.view c.claim_seen.new.self.view c.args.row c.claim_seen.result)
           c.self.view_is
           (taken_from c.args.deaths x.seat.me.0 c.see-word.new.seat.me.0 c.claim_seen.new.self.view c.args.row
-          c.claim_seen.result looked c.claim_seen.ensures.taken);
+          c.claim_seen.result looked
+          (last_look x.seat.me.0 c.sees_born.new.seat.me c.see-word.new.seat.me c.args.row c.see-word.result e.2 c.see-word.ensures.1)
+          c.claim_seen.ensures.taken);
     }

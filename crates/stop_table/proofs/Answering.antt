@@ -26,6 +26,7 @@ use Rattle.stop_history.proofs.Longer.{taken_or_same}
 use Rattle.stop_table.specs.declared.claim.Taken.{Taken}
 use Rattle.stop_table.specs.declared.claim.Taken.TheVariants as taken
 use Rattle.stop_table.specs.declared.shown.Shown.{Shown}
+use Rattle.stop_table.specs.declared.shown.Shown.TheVariants as shows
 use Rattle.stop_table.specs.Claiming.{IsTaken, IsTakenOrLost}
 use Rattle.stop_table.specs.Entry.{AreLegal, Begins, Cell, Entry, IsCarried, bare, cell_after, content_after}
 use Rattle.stop_table.specs.Entry.{content_with, history_of, word_of}
@@ -270,6 +271,67 @@ claimed_cell rows x h row number tracer is =
       ap (λ (c : Cell). c.phase) own ∙ ap (λ e. phase_in (e ∷ es)) is ∙ sym (claimed_left tracer es),
       ap (λ (c : Cell). c.number) own ∙ ap (λ e. number_in (e ∷ es)) is,
     )
+
+-- the phase and the number of a word that shows a stop, or a death
+stop_shown : (born : Bool) (n number status : ℕ) (p : Phase) → shown born n p ≡ state.Stopped number status
+    → (p ≡ phase.Stopped status) × (n ≡ number)
+stop_shown true n number status phase.Fresh is = cc
+stop_shown false n number status phase.Fresh is = cc
+stop_shown born n number status (phase.Resumed how) is = cc
+stop_shown born n number status phase.Active is = cc
+stop_shown born n number status (phase.Stopped other) is =
+    ((let same : other ≡ status = cc in ap phase.Stopped same), (let same : n ≡ number = cc in same))
+stop_shown born n number status (phase.Claimed tracer) is = cc
+stop_shown born n number status (phase.Dead other) is = cc
+stop_shown born n number status phase.Reaped is = cc
+
+death_shown : (born : Bool) (n number status : ℕ) (p : Phase) → shown born n p ≡ state.Dead number status
+    → p ≡ phase.Dead status
+death_shown true n number status phase.Fresh is = cc
+death_shown false n number status phase.Fresh is = cc
+death_shown born n number status (phase.Resumed how) is = cc
+death_shown born n number status phase.Active is = cc
+death_shown born n number status (phase.Stopped other) is = cc
+death_shown born n number status (phase.Claimed tracer) is = cc
+death_shown born n number status (phase.Dead other) is = (let same : other ≡ status = cc in ap phase.Dead same)
+death_shown born n number status phase.Reaped is = cc
+
+-- directly after the claim that was lost, the row is as that claim left what the look had seen
+module _ (look : List Entry) (v w : View) (row : ℕ) (h : List Entry) (there : row < length v.roster)
+    (lost : IsLostSince look v w row h) where
+  cell_kept : cell_after v.roster lost.before row ≡ cell_after v.roster look row
+  cell_kept =
+      ap (λ g. cell_after v.roster g row) lost.later.1
+      ∙ same_cell v.roster row lost.later.0 look
+      (ap (λ g. events_of row (history_of g)) (sym lost.later.1) ∙ lost.untouched)
+
+  state_left : (born : Bool) × (state_after v.roster (history_of h) row
+      ≡ shown born (cell_after v.roster look row).number (claimed_by lost.tracer (cell_after v.roster look row).phase))
+  state_left =
+      let left = claimed_cell v.roster lost.claim lost.before row lost.number lost.tracer lost.is_claim in
+      let born = is_born v.roster (history_of h) row in
+      let at = lost.point in (
+        born,
+        shown_state v.roster h row there
+            ∙ ap (λ g. shown born (cell_after v.roster g row).number (cell_after v.roster g row).phase) at
+            ∙ (λ j. shown born (left.1 j) (left.0 j))
+            ∙ ap (λ (c : Cell). shown born c.number (claimed_by lost.tracer c.phase)) cell_kept,
+      )
+
+  pub lost_stop : (number status : ℕ) → state_after v.roster (history_of look) row ≡ state.Stopped number status
+      → shown_of (state_after v.roster (history_of h) row) ≡ shows.Claimed number
+  lost_stop number status stood =
+      let is = stop_shown (is_born v.roster (history_of look) row) (cell_after v.roster look row).number number status
+      (cell_after v.roster look row).phase (sym (shown_state v.roster look row there) ∙ stood) in
+      ap shown_of (state_left.1 ∙ (λ j. shown state_left.0 (is.1 j) (claimed_by lost.tracer (is.0 j))))
+
+  pub lost_death : (number status : ℕ) → state_after v.roster (history_of look) row ≡ state.Dead number status
+      → shown_of (state_after v.roster (history_of h) row) ≡ shows.Reaped
+  lost_death number status stood =
+      let is = death_shown (is_born v.roster (history_of look) row) (cell_after v.roster look row).number number status
+      (cell_after v.roster look row).phase (sym (shown_state v.roster look row there) ∙ stood) in
+      ap shown_of (state_left.1
+      ∙ ap (λ p. shown state_left.0 (cell_after v.roster look row).number (claimed_by lost.tracer p)) is)
 
 -- a row that is as it was shows the word that was seen
 unchanged_word : (m n : Seated) (row : ℕ) (seen w : Word) (p : Phase) → row < length m.0.roster

@@ -1,20 +1,23 @@
 //! Laws of what the contracts tell: each function is its contract alone.
 
-ghost use Rattle.std.specs.Prelude.{◌≡◌, ◌∷◌, ◌≢◌, ◌||◌, ◌+◌, ℕ, true, List, filter, is_some, if◌then◌else◌};
+ghost use Rattle.std.specs.Prelude.{◌≡◌, ◌∷◌, ◌≢◌, ◌||◌, ◌+◌, ◌<◌, ℕ, true, List, filter, is_some, if◌then◌else◌, length};
 ghost use Rattle.trace_record.specs.Content.{Content};
 ghost use Rattle.trace_record.specs.Stop.{child_of};
 ghost use Rattle.trace_record.specs.declared.death.Death.{Death};
 ghost use Rattle.stop_history.specs.declared.actor.Actor.{Actor};
 ghost use Rattle.stop_history.specs.declared.roster.Row.{Row};
+ghost use Rattle.stop_history.specs.declared.state.State.TheVariants as state;
 ghost use Rattle.stop_history.specs.Actor.{actor_of};
 ghost use Rattle.stop_history.specs.Event as event;
 ghost use Rattle.stop_history.specs.Event.{subject};
 ghost use Rattle.stop_history.specs.History.{IsLegal};
 ghost use Rattle.stop_history.specs.Ranges.{AreInRange};
 ghost use Rattle.stop_history.specs.Roster.{row_at};
+ghost use Rattle.stop_history.specs.State.{state_after};
 ghost use Rattle.stop_history.specs.Word.{Word};
+ghost use Rattle.stop_table.specs.declared.shown.Shown.TheVariants as shows;
 ghost use Rattle.stop_table.specs.Entry.{AreLegal, Entry, bare, cell_after, content_after, history_of, publish_of};
-ghost use Rattle.stop_table.specs.Handle.{EndsWith, Grows, IsHolding, Meets, own_events};
+ghost use Rattle.stop_table.specs.Handle.{EndsWith, Grows, IsHolding, IsLostSince, Meets, own_events, shown_of};
 ghost use Rattle.stop_table.specs.Tracer.{is_held};
 ghost use Rattle.stop_table.specs.View.{View, actors_of, is_among};
 
@@ -51,6 +54,19 @@ pub fn a_meeting_keeps_events()
     ensures claims { (v w u : View) → is_among v.number v.tracers ≡ true → Meets v w u →
         AreLegal u.roster u.seen → (row : ℕ) →
         is_held v row ≡ true → cell_after u.roster u.seen row ≡ cell_after v.roster v.seen row }
+{}
+
+/// Directly after the claim that a call lost, the stop that the call's look had seen is claimed, with its number; and the
+/// death that it had seen is reaped.
+pub fn what_was_lost_is_claimed_or_reaped()
+    ensures stop { (look : List Entry) (v w : View) (row : ℕ) (h : List Entry) → row < length v.roster →
+        IsLostSince look v w row h → (number status : ℕ) →
+        state_after v.roster (history_of look) row ≡ state.Stopped number status →
+        shown_of (state_after v.roster (history_of h) row) ≡ shows.Claimed number }
+    ensures death { (look : List Entry) (v w : View) (row : ℕ) (h : List Entry) → row < length v.roster →
+        IsLostSince look v w row h → (number status : ℕ) →
+        state_after v.roster (history_of look) row ≡ state.Dead number status →
+        shown_of (state_after v.roster (history_of h) row) ≡ shows.Reaped }
 {}
 
 /// The events of what a handle has seen are a legal history in range: so the laws of histories hold of it, among them

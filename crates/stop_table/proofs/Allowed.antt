@@ -26,7 +26,7 @@ use Rattle.stop_table.specs.Entry.{Cell, Entry, GoesOn, IsCarried, cell_after, h
 use Rattle.stop_table.specs.Rule.{Follows, IsHome, IsKept, Lies}
 use Rattle.stop_table.specs.Place.{place}
 use Rattle.stop_table.specs.Steps.{Seated, Sees, at_seen, found_by, looked, looked_on}
-use Rattle.stop_table.specs.View.{Observation, View, actors_of, exchange_on, is_among, look_at}
+use Rattle.stop_table.specs.View.{Observation, View, actors_of, an_exchange, is_among, a_look}
 use Rattle.stop_table.proofs.Entries.{other_cell, stays_on}
 use Rattle.stop_table.proofs.Moves.{Homes, St, at_place, moves}
 
@@ -96,7 +96,7 @@ module _ (me : Seated) (s : St) (k : IsKept me.0.roster s) (id t : ℕ) (at : ge
     pub flag : (taken_with (Happened x.event) k.taken t ≡ k.taken t) ⊎ (is_among t me.0.tracees ≡ true)
 
   abbrev pub made_view : Entry → Bool → View
-  made_view x taken = at_seen me.0 (exchange_on t) (x ∷ k.history) taken
+  made_view x taken = at_seen me.0 (an_exchange t) (x ∷ k.history) taken
 
   pub made_kept : (n : ℕ) (x : Entry) (taken : Bool) (homes : Homes) → Makes n x taken homes → IsKept me.0.roster
       (record { words = slice_set s.words (place t) n; homes = homes; views = slice_set s.views id (made_view x taken) })
@@ -135,7 +135,7 @@ module _ (me : Seated) (s : St) (k : IsKept me.0.roster s) (id t : ℕ) (at : ge
       })
 
   pub made_told : (n : ℕ) (x : Entry) (taken : Bool) (homes : Homes) → Makes n x taken homes
-      → Sees me.0 (exchange_on t) k.history (x ∷ []) taken (made_view x taken)
+      → Sees me.0 (an_exchange t) k.history (x ∷ []) taken (made_view x taken)
   made_told n x taken homes m =
       record { goes_on = on; placed = k.placed; legal = ((m.fits, m.ranged, m.carried), k.legal); view = refl }
 
@@ -144,12 +144,12 @@ module _ (me : Seated) (s : St) (k : IsKept me.0.roster s) (id t : ℕ) (at : ge
 pub loads : (me : Seated) (slots id t : ℕ) → t < length me.0.roster
     → Allows (IsKept me.0.roster) slots id me (place t) (λ n. n) (looked (step slots (place t) 0 0 none) me)
 loads me slots id t there s k sized at bounded = (
-  look_view me s k id t at there (look_at t),
+  look_view me s k id t at there (a_look t),
   keeps,
   tt,
-  look_kept me s k id t at there (look_at t),
-  at_place (λ row. looked_on row me (slice_index s.words (place t)) (look_view me s k id t at there (look_at t), me.1)) t
-      (look_told me s k id t at there (look_at t)),
+  look_kept me s k id t at there (a_look t),
+  at_place (λ row. looked_on row me (slice_index s.words (place t)) (look_view me s k id t at there (a_look t), me.1)) t
+      (look_told me s k id t at there (a_look t)),
 )
 
 -- ---- words and phases

@@ -32,9 +32,9 @@ use Rattle.stop_table.specs.Entry.{AreLegal, Begins, Cell, Entry, IsCarried, bar
 use Rattle.stop_table.specs.Entry.{content_with, history_of, word_of}
 use Rattle.stop_table.specs.Handle.{AnswersAt, Claims, EndsWith, IsExitOf, IsHolding, IsLostSince, IsStepOf, Looked}
 use Rattle.stop_table.specs.Handle.{LooksAt, LosesAt, Reaps, SeenAt, is_claimable, shown_of}
-use Rattle.stop_table.specs.Seat.{Missed, ReapedAt, Saw, TookStop}
+use Rattle.stop_table.specs.Seat.{MissedAt, ReapedAt, Saw, TookStop}
 use Rattle.stop_table.specs.Steps.{Seated, Sees}
-use Rattle.stop_table.specs.View.{View, actors_of, exchange_on, look_at}
+use Rattle.stop_table.specs.View.{View, actors_of, an_exchange, a_look}
 use Rattle.stop_table.proofs.Entries.{born_on, content_number, history_append, legal_append, own_cell, own_content}
 use Rattle.stop_table.proofs.Entries.{quiet_sooner, same_cell, shown_state}
 use Rattle.stop_table.proofs.Moves.{not_both}
@@ -146,7 +146,7 @@ exit_of rows (x ∷ h) legal row status is =
 
 module _ (m n : Seated) (row : ℕ) (seen : Word) (h : List Entry) (there : row < length m.0.roster)
     (born : is_born m.0.roster (history_of m.0.seen) row ≡ true)
-    (s : Sees m.0 (exchange_on row) h (bare (event.Claim row seen.number m.0.number) ∷ []) m.0.taken n.0)
+    (s : Sees m.0 (an_exchange row) h (bare (event.Claim row seen.number m.0.number) ∷ []) m.0.taken n.0)
     (word : seen ≡ word_of false (cell_after m.0.roster h row)) (p : Phase) (phase_is : seen.phase ≡ p) where
   abbrev entry : Entry
   entry = bare (event.Claim row seen.number m.0.number)
@@ -335,7 +335,7 @@ module _ (look : List Entry) (v w : View) (row : ℕ) (h : List Entry) (there : 
 
 -- a row that is as it was shows the word that was seen
 unchanged_word : (m n : Seated) (row : ℕ) (seen w : Word) (p : Phase) → row < length m.0.roster
-    → is_born m.0.roster (history_of m.0.seen) row ≡ true → (s : Missed m n row w)
+    → is_born m.0.roster (history_of m.0.seen) row ≡ true → (s : MissedAt m n row w)
     → seen ≡ word_of false (cell_after m.0.roster m.0.seen row)
     → (cell_after m.0.roster m.0.seen row).phase ≡ p → ((k : ℕ) → is_waitable (shown true k p) ≡ true)
     → cell_after m.0.roster (s.2.goes_on.0 ++ m.0.seen) row ≡ cell_after m.0.roster m.0.seen row → w ≡ seen
@@ -356,7 +356,7 @@ unchanged_word m n row seen w p there born s word phase_m waits same =
     s.4 ∙ ap (λ b. word_of b (cell_after rows s.1 row)) low ∙ ap (word_of false) cell ∙ sym word
 
 lost_at : (m n : Seated) (row : ℕ) (seen w : Word) (p : Phase) (a : Shown) → row < length m.0.roster
-    → is_born m.0.roster (history_of m.0.seen) row ≡ true → (s : Missed m n row w)
+    → is_born m.0.roster (history_of m.0.seen) row ≡ true → (s : MissedAt m n row w)
     → is_waitable (state_after m.0.roster (history_of m.0.seen) row) ≡ true
     → seen ≡ word_of false (cell_after m.0.roster m.0.seen row) → (cell_after m.0.roster m.0.seen row).phase ≡ p
     → ((c : ℕ) → shown_of (shown true seen.number (claimed_by c p)) ≡ a)
@@ -417,7 +417,7 @@ lost_at m n row seen w p a there born s waited word phase_m after was at =
 
 -- between the look at a row that waited and the exchange that failed, another claimed the row
 pub lost_claim : (m n : Seated) (row : ℕ) (seen w : Word) (p : Phase) (a : Shown) → row < length m.0.roster
-    → is_born m.0.roster (history_of m.0.seen) row ≡ true → AreLegal m.0.roster m.0.seen → Missed m n row w → w ≢ seen
+    → is_born m.0.roster (history_of m.0.seen) row ≡ true → AreLegal m.0.roster m.0.seen → MissedAt m n row w → w ≢ seen
     → seen ≡ word_of false (cell_after m.0.roster m.0.seen row) → seen.phase ≡ p
     → ((k : ℕ) → is_waitable (shown true k p) ≡ true)
     → ((c : ℕ) → shown_of (shown true seen.number (claimed_by c p)) ≡ a) → LosesAt m.0 n.0 row a
@@ -448,8 +448,8 @@ lost_claim m n row seen w p a there born legal_m s other word phase_is waits aft
 
 -- ---- an attempt behind looks
 
--- what was lost behind the look, the whole attempt lost
-loses_from : (u v w : View) (row : ℕ) (a : Shown) → Looked u v → IsStepOf u v (look_at row v.seen) → LosesAt v w row a
+-- what was lost after the look, the whole attempt lost
+loses_from : (u v w : View) (row : ℕ) (a : Shown) → Looked u v → IsStepOf u v (a_look row v.seen) → LosesAt v w row a
     → AnswersAt u w row a
 loses_from u v w row a first look l =
     let same = first.grows.same.roster in (
@@ -460,7 +460,7 @@ loses_from u v w row a first look l =
         later = l.1.later;
         step = inr (
           v.seen,
-          step_on u v w (look_at row v.seen) look l.0.grows.steps,
+          step_on u v w (a_look row v.seen) look l.0.grows.steps,
           lost_since_from v.seen u v w row l.1.point same first.grows.steps l.1.step,
         );
         shown = l.1.shown ∙ ap (λ rows. shown_of (state_after rows (history_of l.1.point) row)) same;
@@ -469,12 +469,12 @@ loses_from u v w row a first look l =
 
 -- the last look of a call that looks once more, at the row
 pub last_look : (u : View) (m n : Seated) (row : ℕ) (w : Word) → Looked u m.0 → Saw m n row w
-    → IsStepOf u n.0 (look_at row n.0.seen)
-last_look u m n row w first s = step_from u m.0 n.0 (look_at row n.0.seen) first.grows.steps (look_step m n row w s)
+    → IsStepOf u n.0 (a_look row n.0.seen)
+last_look u m n row w first s = step_from u m.0 n.0 (a_look row n.0.seen) first.grows.steps (look_step m n row w s)
 
 -- the last of the looks was at the row
 pub taken_from : {A : Type 0} (deaths : Bool) (u v w : View) (row : ℕ) (r : Taken A) → Looked u v
-    → IsStepOf u v (look_at row v.seen) → IsTakenOrLost deaths v w row r → IsTaken deaths u w row r
+    → IsStepOf u v (a_look row v.seen) → IsTakenOrLost deaths v w row r → IsTaken deaths u w row r
 taken_from deaths u v w row (taken.Stop claim) first look is =
     let same = first.grows.same in
     let c = is.0 in (

@@ -40,7 +40,7 @@ use Rattle.stop_table.specs.Rule.{IsHome, IsKept, Lies}
 use Rattle.stop_table.specs.Place.{place}
 use Rattle.stop_table.specs.Steps.{Seated, Sees, at_seen, claimed, claimed_on, claims_on, exited, exited_on, publishes}
 use Rattle.stop_table.specs.Steps.{publishes_on, reaped, reaped_on, resumed, resumed_on, took, took_on}
-use Rattle.stop_table.specs.View.{View, actors_of, exchange_on, is_among}
+use Rattle.stop_table.specs.View.{View, actors_of, an_exchange, is_among}
 use Rattle.stop_table.proofs.Allowed.{Makes, acts_for, followed, hand_is, look_kept, look_told, look_view, made_kept, made_told}
 use Rattle.stop_table.proofs.Allowed.{made_view, not_taken, on, only_one, restart_lies, restart_mover, restart_runs, still}
 use Rattle.stop_table.proofs.Entries.{born_on, own_cell, shown_state, word_ranged}
@@ -132,7 +132,7 @@ publish_allowed me slots id t old new r there own taken moved hand tid number fe
       at_place (λ row. publishes_on row me (made_view me s k id t at there x false, rest me.1)) t
           (λ q hand'.
           subst (λ (p : Content). (h : List Entry) × (rest me.1 ≡ rest me.1)
-          × Sees me.0 (exchange_on t) h (publish_of t p ∷ []) false (made_view me s k id t at there x false))
+          × Sees me.0 (an_exchange t) h (publish_of t p ∷ []) false (made_view me s k id t at there x false))
           (hand_is me.1 (place t) r q (rest me.1) (rest me.1) hand hand')
           (k.history, refl, made_told me s k id t at there new x false homes m)),
     )
@@ -169,7 +169,7 @@ take_up_allowed me slots id t old new how there own idle born restart old_is new
     let next = taken_with (TakenUp t) k.taken in
     let up : next t ≡ true = rw (eq-eqb t t refl) refl in
     let still_taken : (u : ℕ) → u ≢ t → next u ≡ k.taken u = (λ u other. rw (ne_eqb u t other) refl) in
-    let w : View = at_seen me.0 (exchange_on t) k.history true in
+    let w : View = at_seen me.0 (an_exchange t) k.history true in
     let homes : Homes = slice_set s.homes (place t) none in
     hits me s id (place t) old new (took (step slots (place t) old new none) me) found (
       w,
@@ -337,14 +337,14 @@ claim_allowed me slots id t old new status seen there mine few ranged phase_is o
           ),
     ))
     (λ miss. (
-      look_view me s k id t at there (exchange_on t),
+      look_view me s k id t at there (an_exchange t),
       keeps,
       tt,
-      look_kept me s k id t at there (exchange_on t),
+      look_kept me s k id t at there (an_exchange t),
       at_place
           (λ row. claimed_on (step slots (place t) old new none) row me (slice_index s.words (place t))
-          (look_view me s k id t at there (exchange_on t), me.1)) t
-          ((λ same. absurd (miss same)), (λ other. look_told me s k id t at there (exchange_on t))),
+          (look_view me s k id t at there (an_exchange t), me.1)) t
+          ((λ same. absurd (miss same)), (λ other. look_told me s k id t at there (an_exchange t))),
     ))
 
 pub reap_allowed : (me : Seated) (slots id t old new status : ℕ) (seen : Word) → t < length me.0.roster
@@ -386,14 +386,14 @@ reap_allowed me slots id t old new status seen there mine few ranged phase_is ol
           ),
     ))
     (λ miss. (
-      look_view me s k id t at there (exchange_on t),
+      look_view me s k id t at there (an_exchange t),
       keeps,
       tt,
-      look_kept me s k id t at there (exchange_on t),
+      look_kept me s k id t at there (an_exchange t),
       at_place
           (λ row. reaped_on (step slots (place t) old new none) row me (slice_index s.words (place t))
-          (look_view me s k id t at there (exchange_on t), me.1)) t
-          ((λ same. absurd (miss same)), (λ other. look_told me s k id t at there (exchange_on t))),
+          (look_view me s k id t at there (an_exchange t), me.1)) t
+          ((λ same. absurd (miss same)), (λ other. look_told me s k id t at there (an_exchange t))),
     ))
 
 -- ---- a tracer resumes what it has claimed

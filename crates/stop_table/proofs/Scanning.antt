@@ -16,7 +16,7 @@ use Rattle.stop_table.specs.Group.{AreSettled, IsResting, SawAlive, SawHeldBack}
 use Rattle.stop_table.specs.Handle.{Looked}
 use Rattle.stop_table.specs.Seat.{Saw}
 use Rattle.stop_table.specs.Steps.{Seated}
-use Rattle.stop_table.specs.View.{View, actors_of, look_at}
+use Rattle.stop_table.specs.View.{View, actors_of, a_look}
 use Rattle.stop_table.proofs.Allowed.{acts_for}
 use Rattle.stop_table.proofs.Entries.{born_on, stays_on}
 use Rattle.stop_table.proofs.Groups.{settled_on, somebody_holds}
@@ -47,7 +47,7 @@ alive_or_rests u m n row word there first born s b is =
     ∙ ap (λ rows. state_after rows (history_of n.0.seen) row) same in
     told u n.0 row word b is
     (λ alive. (
-      step_from u m.0 n.0 (look_at row n.0.seen) first.grows.steps (look_step m n row word s),
+      step_from u m.0 n.0 (a_look row n.0.seen) first.grows.steps (look_step m n row word s),
       ap is_alive (sym shows) ∙ alive,
     ))
     (λ dead. inl (ap is_ended (sym shows) ∙ not_alive word.number word.phase dead))
@@ -135,7 +135,7 @@ held_back u v w leader other roster own moved leads first settled second alive t
       point = w.seen;
       sooner = whole.grows.goes_on;
       later = ([], refl);
-      step = step_from u v w (look_at other w.seen) first.grows.steps alive.0;
+      step = step_from u v w (a_look other w.seen) first.grows.steps alive.0;
       first = somebody_holds u.roster w.seen leader other leads
           (settled_from u v w leader own moved first second other settled) there apart together
           (ap (λ rows. is_alive (state_after rows (history_of w.seen) other)) (sym same) ∙ alive.1);

@@ -22,7 +22,7 @@ use Rattle.stop_table.specs.Handle.{IsUnborn, Looked}
 use Rattle.stop_table.specs.Seat.{Saw}
 use Rattle.stop_table.specs.Start.{Answers, IsFinal, StartsAt, above, further, itself, parent}
 use Rattle.stop_table.specs.Steps.{Seated}
-use Rattle.stop_table.specs.View.{View, actors_of, look_at}
+use Rattle.stop_table.specs.View.{View, actors_of, a_look}
 use Rattle.stop_table.proofs.Entries.{born_on, history_append, legal_back, legal_history}
 use Rattle.stop_table.proofs.Walking.{born_by_births, look_step, looked_on, one_look, root_is_born, state_seen}
 use Rattle.stop_table.proofs.Walking.{step_from, unborn_now, word_now}
@@ -166,7 +166,7 @@ module _ (u : View) (m n : Seated) (row mother : ℕ) (word : Word) (first : Loo
     step = inl (
       mother,
       parent row mother of_parent,
-      step_from u m.0 n.0 (look_at mother n.0.seen) first.grows.steps (look_step m n mother word s),
+      step_from u m.0 n.0 (a_look mother n.0.seen) first.grows.steps (look_step m n mother word s),
     );
     answers = answers;
   }

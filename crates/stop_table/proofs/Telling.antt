@@ -25,7 +25,7 @@ use Rattle.stop_table.specs.Seat.{FoundBy, HasEnded, HoldsAtHand, LetRun, Publis
 use Rattle.stop_table.specs.Place.{place}
 use Rattle.stop_table.specs.Steps.{Seated, Sees, TheStep, claimed_on, claims_on, exited_on, found_by, publishes_on}
 use Rattle.stop_table.specs.Steps.{reaped_on, resumed_on, took_on}
-use Rattle.stop_table.specs.View.{Observation, View, exchange_on}
+use Rattle.stop_table.specs.View.{Observation, View, an_exchange}
 use Rattle.stop_table.proofs.Allowed.{hand_is}
 use Rattle.stop_table.proofs.Entries.{legal_back, word_ranged}
 
@@ -99,15 +99,15 @@ claimed_word_is m t h seen found there roster legal ranged is shown =
 
 claimed_at : (row : ℕ) (m n : Seated) (w : View) (found : ℕ) (seen : Word) (h : List Entry)
     → row < length m.0.roster → claims_on row m found n h → n.0 ≡ w → IsWord seen → raw_of seen ≡ found
-    → Sees m.0 (exchange_on row) h (bare (event.Claim row seen.number m.0.number) ∷ []) m.0.taken w
+    → Sees m.0 (an_exchange row) h (bare (event.Claim row seen.number m.0.number) ∷ []) m.0.taken w
     × (seen ≡ word_of false (cell_after m.0.roster h row))
 claimed_at row m n w found seen h there c is_view ranged is =
     let same = claimed_word_is m row h seen found there c.0.placed
     (legal_back m.0.roster
     (bare (event.Claim row (cell_after m.0.roster h row).number m.0.number) ∷ []) h c.0.legal)
     ranged is c.1 in (
-      subst (λ (v : View). Sees m.0 (exchange_on row) h (bare (event.Claim row seen.number m.0.number) ∷ []) m.0.taken v) is_view
-          (subst (λ k. Sees m.0 (exchange_on row) h (bare (event.Claim row k m.0.number) ∷ []) m.0.taken n.0)
+      subst (λ (v : View). Sees m.0 (an_exchange row) h (bare (event.Claim row seen.number m.0.number) ∷ []) m.0.taken v) is_view
+          (subst (λ k. Sees m.0 (an_exchange row) h (bare (event.Claim row k m.0.number) ∷ []) m.0.taken n.0)
           (sym (ap (λ (x : Word). x.number) same)) c.0),
       same,
     )
@@ -134,7 +134,7 @@ pub took_up : (row : ℕ) (m n o : Seated) (r : Content) → took_on row m n
 took_up row m n o r play hand after = (
   ap (λ (x : Seated). x.1) after ∙ ap (λ d. (place row, None) ∷ d) (ap rest play.1),
   play.0,
-  subst (λ (v : View). Sees m.0 (exchange_on row) play.0 [] true v) (ap (λ (x : Seated). x.0) (sym after)) play.2,
+  subst (λ (v : View). Sees m.0 (an_exchange row) play.0 [] true v) (ap (λ (x : Seated). x.0) (sym after)) play.2,
   hand_is n.1 (place row) r (cell_after m.0.roster play.0 row).content (rest n.1) m.1 hand play.1,
   play.3,
 )
@@ -148,7 +148,7 @@ did_publish row m was n r before play =
     let p = play r in_hand in (
       p.1 ∙ ap rest (ap (λ (x : Seated). x.1) before),
       p.0,
-      subst (λ (v : View). Sees v (exchange_on row) p.0 (publish_of row r ∷ []) false n.0) (ap (λ (x : Seated). x.0) before) p.2,
+      subst (λ (v : View). Sees v (an_exchange row) p.0 (publish_of row r ∷ []) false n.0) (ap (λ (x : Seated). x.0) before) p.2,
     )
 
 -- the phase of a row whose claim is held
@@ -194,10 +194,10 @@ did_run s row m was n how w r there held before ranged second play =
     let same_how : play.0 ≡ how = sym (restart_is w how play.0 same) in (
       play.4 ∙ ap rest (ap (λ (x : Seated). x.1) before),
       play.3,
-      subst (λ (v : View). Sees v (exchange_on row) play.3 (bare (event.Resume row w.number how v.number) ∷ []) v.taken n.0) view
-          (subst (λ k. Sees m.0 (exchange_on row) play.3 (bare (event.Resume row k how m.0.number) ∷ []) m.0.taken n.0)
+      subst (λ (v : View). Sees v (an_exchange row) play.3 (bare (event.Resume row w.number how v.number) ∷ []) v.taken n.0) view
+          (subst (λ k. Sees m.0 (an_exchange row) play.3 (bare (event.Resume row k how m.0.number) ∷ []) m.0.taken n.0)
           (sym (ap (λ (x : Word). x.number) cell_is))
-          (subst (λ (q : Restart). Sees m.0 (exchange_on row) play.3
+          (subst (λ (q : Restart). Sees m.0 (an_exchange row) play.3
           (bare (event.Resume row (cell_after m.0.roster m.0.seen row).number q m.0.number) ∷ []) m.0.taken n.0)
           same_how play.5)),
     )
@@ -240,6 +240,6 @@ did_exit s row m was n d w r before ranged cell in_range second play =
     let same_death_is : play.0 ≡ d = sym (died_is w d play.0 in_range play.1 same) in (
       play.4 ∙ ap rest (ap (λ (x : Seated). x.1) before),
       play.3,
-      subst (λ (v : View). Sees v (exchange_on row) play.3 (bare (event.Exit row d) ∷ []) false n.0) view
-          (subst (λ (q : Death). Sees m.0 (exchange_on row) play.3 (bare (event.Exit row q) ∷ []) false n.0) same_death_is play.5),
+      subst (λ (v : View). Sees v (an_exchange row) play.3 (bare (event.Exit row d) ∷ []) false n.0) view
+          (subst (λ (q : Death). Sees m.0 (an_exchange row) play.3 (bare (event.Exit row q) ∷ []) false n.0) same_death_is play.5),
     )

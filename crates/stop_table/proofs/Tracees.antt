@@ -30,7 +30,7 @@ use Rattle.stop_table.specs.Seat.{HasEnded, Published, Saw, TookUp}
 use Rattle.stop_table.specs.Place.{place}
 use Rattle.stop_table.specs.Steps.{Seated, Sees}
 use Rattle.stop_table.specs.Tracee.{IsTracee}
-use Rattle.stop_table.specs.View.{View, actors_of, exchange_on, look_at}
+use Rattle.stop_table.specs.View.{View, actors_of, an_exchange, a_look}
 use Rattle.stop_table.proofs.Allowed.{acts_for, restart_mover, restart_runs}
 use Rattle.stop_table.proofs.Entries.{born_on, legal_history, shown_state, stays_on}
 use Rattle.stop_table.proofs.Walking.{ended_with, grows_on, legal_after, look_step, looked_on, one_look, sees_same}
@@ -65,7 +65,7 @@ tracee_looked rows m n row word holds t l slots = record {
 
 -- what an event of its own leaves of the handle: it has its row taken up no more
 idle_after : (rows : List Row) (m n : Seated) (row : ℕ) (word : Word) (h new : List Entry)
-    → IsTracee rows m row word true → Sees m.0 (exchange_on row) h new false n.0 → n.1 ≡ rest m.1 → IsTracee rows n row word false
+    → IsTracee rows m row word true → Sees m.0 (an_exchange row) h new false n.0 → n.1 ≡ rest m.1 → IsTracee rows n row word false
 idle_after rows m n row word h new t s slots =
     let same = sees_same m.0 n.0 h new false s in
     record {
@@ -200,7 +200,7 @@ looks_unborn u v w row first second unborn =
           none,
           (
             unborn.1.0,
-            step_from u v w (look_at unborn.1.0 w.seen) first.grows.steps unborn.1.1,
+            step_from u v w (a_look unborn.1.0 w.seen) first.grows.steps unborn.1.1,
             subst (λ rs. parent_of rs row ≡ Some unborn.1.0) same unborn.1.2,
           ),
         );
@@ -256,14 +256,14 @@ takes_row_up rows m n o p row word w how content t s ranged is second born slots
       goes_on = subst (GoesOn (actors_of o.0) o.0.seen) (sym seen_p) took.2.goes_on;
       legal = subst (λ rs. AreLegal rs p.0.seen) (sym (same_p.roster ∙ roster_o)) legal_p;
       same = same_p;
-      steps = (exchange_on row took.1 ∷ [], ap (λ (x : View). x.observations) took.2.view);
+      steps = (an_exchange row took.1 ∷ [], ap (λ (x : View). x.observations) took.2.view);
     } in (
       record {
         grows = grows_on m.0 o.0 p.0 whole.grows grows_p;
-        step = step_from m.0 o.0 p.0 (exchange_on row p.0.seen) whole.grows.steps (
-          exchange_on row took.1 ∷ [],
+        step = step_from m.0 o.0 p.0 (an_exchange row p.0.seen) whole.grows.steps (
+          an_exchange row took.1 ∷ [],
           ap (λ (x : View). x.observations) took.2.view,
-          inl (ap (exchange_on row) (sym seen_p)),
+          inl (ap (an_exchange row) (sym seen_p)),
         );
         running = subst (λ rs. state_after rs (history_of p.0.seen) row ≡ state.Running) roster_m runs;
         restart = subst (λ rs. restart_in (cell_after rs p.0.seen row).phase ≡ Ok how) roster_m

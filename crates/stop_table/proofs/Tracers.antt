@@ -18,11 +18,11 @@ use Rattle.stop_history.proofs.Longer.{claimed_before}
 use Rattle.stop_table.specs.declared.shown.Shown.TheVariants as shows
 use Rattle.stop_table.specs.Entry.{AreLegal, Cell, Entry, GoesOn, bare, cell_after, history_of, word_of}
 use Rattle.stop_table.specs.Handle.{IsHolding, Looked, LooksAt, Meets, SawUnborn}
-use Rattle.stop_table.specs.Seat.{HoldsAtHand, LetRun, Met, Missed, ReapedAt, Saw, TookStop}
+use Rattle.stop_table.specs.Seat.{HoldsAtHand, LetRun, Met, MissedAt, ReapedAt, Saw, TookStop}
 use Rattle.stop_table.specs.Place.{place}
 use Rattle.stop_table.specs.Steps.{Seated, Sees}
 use Rattle.stop_table.specs.Tracer.{AreApart, IsTracer, emptied}
-use Rattle.stop_table.specs.View.{View, actors_of, exchange_on, is_among}
+use Rattle.stop_table.specs.View.{View, actors_of, an_exchange, is_among}
 use Rattle.stop_table.proofs.Entries.{history_append, other_cell, own_cell, stays_on}
 use Rattle.stop_table.proofs.Exchanges.{claimed_phase_of}
 use Rattle.stop_history.proofs.Rosters.{few_rows}
@@ -73,7 +73,7 @@ tracer_looked rows m n number held t l slots =
 -- ---- an event of its own
 
 module _ (rows : List Row) (m n : Seated) (number row : ℕ) (held : List ℕ) (h : List Entry) (x : Entry)
-    (t : IsTracer rows m number held) (own : subject x.event ≡ row) (s : Sees m.0 (exchange_on row) h (x ∷ []) m.0.taken n.0) where
+    (t : IsTracer rows m number held) (own : subject x.event ≡ row) (s : Sees m.0 (an_exchange row) h (x ∷ []) m.0.taken n.0) where
   legal : AreLegal rows (x ∷ h)
   legal = subst (λ rs. AreLegal rs (x ∷ h)) t.roster_is s.legal
 
@@ -245,7 +245,7 @@ seen_unborn rows m w number held row t l unborn =
 
 -- an exchange that found another word changed nothing
 pub missed_claim : (rows : List Row) (m n : Seated) (number row : ℕ) (w : Word) (held : List ℕ)
-    → IsTracer rows m number held → Missed m n row w → IsTracer rows n number held
+    → IsTracer rows m number held → MissedAt m n row w → IsTracer rows n number held
 missed_claim rows m n number row w held t s = tracer_looked rows m n number held t (one_look m n row w s) s.0
 
 -- there is room for one more claim

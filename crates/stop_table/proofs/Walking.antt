@@ -20,7 +20,7 @@ use Rattle.stop_table.specs.Handle.{EndsWith, Grows, Has, HasSteps, IsLostSince,
 use Rattle.stop_table.specs.Handle.{IsLost, Looked, LooksAt, SawUnborn, SeenAt, shown_of}
 use Rattle.stop_table.specs.Seat.{FoundBy, Saw}
 use Rattle.stop_table.specs.Steps.{Seated, Sees}
-use Rattle.stop_table.specs.View.{Observation, View, actors_of, exchange_on, look_at}
+use Rattle.stop_table.specs.View.{Observation, View, actors_of, an_exchange, a_look}
 use Rattle.stop_table.proofs.Entries.{goes_nowhere, goes_on, legal_history, shown_state}
 use Rattle.stop_table.proofs.Allowed.{not_taken}
 use Rattle.stop_table.proofs.Own.{same_actors}
@@ -88,13 +88,13 @@ pub point_from : (u v w : View) (row : ℕ) (h : List Entry) → v.roster ≡ u.
     → IsPoint u w row h
 point_from u v w row h same first point =
     elim point [
-      | inl own ↦ inl (step_from u v w (look_at row h) first own)
+      | inl own ↦ inl (step_from u v w (a_look row h) first own)
       | inr parents ↦
           inr (
             subst (λ rows. IsUnborn rows row h) same parents.0,
             (
               parents.1.0,
-              step_from u v w (look_at parents.1.0 h) first parents.1.1,
+              step_from u v w (a_look parents.1.0 h) first parents.1.1,
               subst (λ rows. parent_of rows row ≡ Some parents.1.0) same parents.1.2,
             ),
           )
@@ -115,21 +115,21 @@ lost_since_from look u v w row h same first lost = record {
   point = lost.point;
   found = lost.found;
   on = lost.on;
-  exchange = step_from u v w (exchange_on row lost.found) first lost.exchange;
+  exchange = step_from u v w (an_exchange row lost.found) first lost.exchange;
 }
 
 pub lost_from : (u v w : View) (row : ℕ) (h : List Entry) → v.roster ≡ u.roster → HasSteps u v → IsLost v w row h
     → IsLost u w row h
 lost_from u v w row h same first lost = (
   lost.0,
-  step_from u v w (look_at row lost.0) first lost.1,
+  step_from u v w (a_look row lost.0) first lost.1,
   lost_since_from lost.0 u v w row h same first lost.2,
 )
 
 pub lost_on : (u v w : View) (row : ℕ) (h : List Entry) → IsLost u v row h → HasSteps v w → IsLost u w row h
 lost_on u v w row h lost later = (
   lost.0,
-  step_on u v w (look_at row lost.0) lost.1 later,
+  step_on u v w (a_look row lost.0) lost.1 later,
   record {
     waited = lost.2.waited;
     before = lost.2.before;
@@ -142,7 +142,7 @@ lost_on u v w row h lost later = (
     point = lost.2.point;
     found = lost.2.found;
     on = lost.2.on;
-    exchange = step_on u v w (exchange_on row lost.2.found) lost.2.exchange later;
+    exchange = step_on u v w (an_exchange row lost.2.found) lost.2.exchange later;
   },
 )
 

@@ -14,7 +14,7 @@ IsTaken deaths v w row (taken.Stop claim) =
 IsTaken deaths v w row (taken.Ended death number) = Reaps v w row death number × (deaths ≡ true)
 IsTaken deaths v w row (taken.Nothing a) = AnswersAt v w row a × (is_claimable deaths a ≡ false)
 
--- the same of an attempt at what a look has shown: there is nothing only where it was lost to another
+-- the same of an attempt to claim what a look has just shown: it gets nothing only where another's claim came first
 abbrev pub IsTakenOrLost : {A : Type 0} → (deaths : Bool) → View → View → ℕ → Taken A → Type 0
 IsTakenOrLost deaths v w row (taken.Nothing a) = LosesAt v w row a × (is_claimable deaths a ≡ false)
 IsTakenOrLost deaths v w row other = IsTaken deaths v w row other

@@ -6,7 +6,7 @@ use Rattle.stop_history.specs.Roster.{is_leader, parent_of, row_at}
 use Rattle.stop_history.specs.State.{is_alive, is_ended, state_after}
 use Rattle.stop_table.specs.Entry.{Begins, Entry, GoesOn, history_of}
 use Rattle.stop_table.specs.Handle.{IsStepOf, IsUnborn}
-use Rattle.stop_table.specs.View.{View, actors_of, look_at}
+use Rattle.stop_table.specs.View.{View, actors_of, a_look}
 
 -- among the rows below k, the leader's group is settled beside it, the leader aside
 abbrev pub AreSettled : List Row → (leader k : ℕ) → List Entry → Type 0
@@ -27,7 +27,7 @@ IsResting rows row h =
 -- at the call's last step, which was a look at its word, the row was alive
 abbrev pub SawAlive : View → View → ℕ → Type 0
 SawAlive v w row =
-    IsStepOf v w (look_at row w.seen) × (is_alive (state_after v.roster (history_of w.seen) row) ≡ true)
+    IsStepOf v w (a_look row w.seen) × (is_alive (state_after v.roster (history_of w.seen) row) ≡ true)
 
 -- the same of a row of another's thread group, beside it
 abbrev pub SawAliveBeside : View → View → (row other : ℕ) → Type 0
@@ -44,5 +44,5 @@ pub record SawHeldBack (v w : View) (row other : ℕ) : Type 0 where
   pub point : List Entry
   pub sooner : GoesOn (actors_of v) v.seen point
   pub later : Begins point w.seen
-  pub step : IsStepOf v w (look_at other point)
+  pub step : IsStepOf v w (a_look other point)
   pub first : holding_back v.roster (state_after v.roster (history_of point)) row ≡ Some other

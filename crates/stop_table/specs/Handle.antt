@@ -21,7 +21,7 @@ use Rattle.stop_table.specs.declared.shown.Shown.{Shown}
 use Rattle.stop_table.specs.declared.shown.Shown.TheVariants as shows
 use Rattle.std.specs.Prelude.{Ok}
 use Rattle.stop_table.specs.Entry.{AreLegal, Begins, Entry, GoesOn, bare, cell_after, content_after, history_of, word_of}
-use Rattle.stop_table.specs.View.{Observation, View, actors_of, exchange_on, look_at}
+use Rattle.stop_table.specs.View.{Observation, View, actors_of, an_exchange, a_look}
 
 -- the events of a handle's own actors
 abbrev pub own_events : View → List Entry
@@ -71,20 +71,22 @@ IsStepOf v w step = (added : List Observation) × (w.observations ≡ added ++ v
 abbrev pub IsUnborn : List Row → ℕ → List Entry → Type 0
 IsUnborn rows row h = state_after rows (history_of h) row ≡ state.Unborn
 
--- directly at a look of this call at the word of the row or, where the row is unborn there, of its parent
+-- directly after a look of this call at the word of the row or, where the row is unborn there, of its parent
 abbrev pub IsPoint : View → View → ℕ → List Entry → Type 0
 IsPoint v w row h =
-    IsStepOf v w (look_at row h)
-    ⊎ (IsUnborn v.roster row h × ((parent : ℕ) × IsStepOf v w (look_at parent h) × (parent_of v.roster row ≡ Some parent)))
+    IsStepOf v w (a_look row h)
+    ⊎ (IsUnborn v.roster row h
+    × ((parent : ℕ) × IsStepOf v w (a_look parent h) × (parent_of v.roster row ≡ Some parent)))
 
 -- at a look at its parent's word the row was unborn
 abbrev pub SawUnborn : View → View → ℕ → Type 0
 SawUnborn v w row =
     IsUnborn v.roster row w.seen
-    × ((parent : ℕ) × IsStepOf v w (look_at parent w.seen) × (parent_of v.roster row ≡ Some parent))
+    × ((parent : ℕ) × IsStepOf v w (a_look parent w.seen) × (parent_of v.roster row ≡ Some parent))
 
--- A stop or a death that stood at a look was lost to another: the row's next event was another's claim, h is directly
--- after that, and then an exchange of this call found another word.
+-- What a look showed, a stop or a death, was lost to another: the row's next event was a claim, h is the history directly
+-- after it, and an exchange of this call came later. Up to its point a call makes no event (`SeenAt`), so the claim is
+-- another's.
 pub record IsLostSince (look : List Entry) (v w : View) (row : ℕ) (h : List Entry) : Type 0 where
   pub waited : is_waitable (state_after v.roster (history_of look) row) ≡ true
   pub before : List Entry
@@ -97,11 +99,11 @@ pub record IsLostSince (look : List Entry) (v w : View) (row : ℕ) (h : List En
   pub point : h ≡ claim ∷ before
   pub found : List Entry
   pub on : Begins h found
-  pub exchange : IsStepOf v w (exchange_on row found)
+  pub exchange : IsStepOf v w (an_exchange row found)
 
 -- the same of a look of this call
 abbrev pub IsLost : View → View → ℕ → List Entry → Type 0
-IsLost v w row h = (look : List Entry) × IsStepOf v w (look_at row look) × IsLostSince look v w row h
+IsLost v w row h = (look : List Entry) × IsStepOf v w (a_look row look) × IsLostSince look v w row h
 
 -- what a look shows of a state; a row that is not there shows as one that is unborn
 abbrev pub shown_of : State → Shown
@@ -121,15 +123,15 @@ pub record SeenAt (v w : View) (Step : List Entry → Type 0) (row : ℕ) (a : S
   pub step : Step point
   pub shown : a ≡ shown_of (state_after v.roster (history_of point) row)
 
--- the call made no event, and showed what stood at one of its looks
+-- the call only looked, and showed what stood at one of its looks
 abbrev pub LooksAt : View → View → ℕ → Shown → Type 0
 LooksAt v w row a = Looked v w × SeenAt v w (IsPoint v w row) row a
 
--- the call made no event, and showed what stood at one of its looks, or directly after the claim that it lost to another
+-- the call changed nothing, and showed what stood at one of its looks, or directly after the claim that it lost to
 abbrev pub AnswersAt : View → View → ℕ → Shown → Type 0
 AnswersAt v w row a = Looked v w × SeenAt v w (λ h. IsPoint v w row h ⊎ IsLost v w row h) row a
 
--- the same of a part of a call behind its look at the row: what stood there was lost to another
+-- the same of what a call does after its look at the row: it lost what the look showed
 abbrev pub LosesAt : View → View → ℕ → Shown → Type 0
 LosesAt v w row a = Looked v w × SeenAt v w (IsLostSince v.seen v w row) row a
 
@@ -173,7 +175,7 @@ pub record IsHolding (v : View) (row : ℕ) (word : Word) (content : Content) : 
 -- the row was taken up, to run on as its last restart says, with the content of its last stop
 pub record TakesUp (v w : View) (row : ℕ) (how : Restart) (content : Content) : Type 0 where
   pub grows : Grows v w
-  pub step : IsStepOf v w (exchange_on row w.seen)
+  pub step : IsStepOf v w (an_exchange row w.seen)
   pub running : state_after v.roster (history_of w.seen) row ≡ state.Running
   pub restart : restart_in (cell_after v.roster w.seen row).phase ≡ Ok how
   pub in_range : IsResume how

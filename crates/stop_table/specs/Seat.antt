@@ -15,7 +15,7 @@ use Rattle.stop_table.specs.declared.cells.Cells.{Cells}
 use Rattle.stop_table.specs.Entry.{AreLegal, Entry, GoesOn, bare, cell_after, history_of, publish_of, word_of}
 use Rattle.stop_table.specs.Place.{place}
 use Rattle.stop_table.specs.Steps.{Seated, Sees, met, silent}
-use Rattle.stop_table.specs.View.{Observation, View, actors_of, exchange_on, is_among, look_at}
+use Rattle.stop_table.specs.View.{Observation, View, actors_of, an_exchange, is_among, a_look}
 
 abbrev pub IsSeatOf : {A : Type 0} → Cells A → Seat (Option Content) View → Type 0
 IsSeatOf cells seat =
@@ -34,16 +34,16 @@ FoundBy step m n row word =
 
 -- one look at the word of a row
 abbrev pub Saw : Seated → Seated → ℕ → Word → Type 0
-Saw m n row word = FoundBy (look_at row) m n row word
+Saw m n row word = FoundBy (a_look row) m n row word
 
 -- an exchange that found another word in a row than it looked for
-abbrev pub Missed : Seated → Seated → ℕ → Word → Type 0
-Missed m n row word = FoundBy (exchange_on row) m n row word
+abbrev pub MissedAt : Seated → Seated → ℕ → Word → Type 0
+MissedAt m n row word = FoundBy (an_exchange row) m n row word
 
 -- what showed the word was claimed, after the history h
 abbrev pub ClaimedAt : Seated → Seated → ℕ → Word → List Entry → Type 0
 ClaimedAt m n row word h =
-    Sees m.0 (exchange_on row) h (bare (event.Claim row word.number m.0.number) ∷ []) m.0.taken n.0
+    Sees m.0 (an_exchange row) h (bare (event.Claim row word.number m.0.number) ∷ []) m.0.taken n.0
     × (word ≡ word_of false (cell_after m.0.roster h row))
 
 -- the stop that showed the word was claimed, with its record
@@ -67,23 +67,23 @@ pub record HoldsAtHand (m : Seated) (row : ℕ) (word : Word) (content : Content
 abbrev pub LetRun : Seated → Seated → (row number : ℕ) → Restart → Type 0
 LetRun m n row number how =
     (n.1 ≡ rest m.1)
-    × (h : List Entry) × Sees m.0 (exchange_on row) h (bare (event.Resume row number how m.0.number) ∷ []) m.0.taken n.0
+    × (h : List Entry) × Sees m.0 (an_exchange row) h (bare (event.Resume row number how m.0.number) ∷ []) m.0.taken n.0
 
 -- the record was published
 abbrev pub Published : Seated → Seated → ℕ → Content → Type 0
 Published m n row content =
-    (n.1 ≡ rest m.1) × (h : List Entry) × Sees m.0 (exchange_on row) h (publish_of row content ∷ []) false n.0
+    (n.1 ≡ rest m.1) × (h : List Entry) × Sees m.0 (an_exchange row) h (publish_of row content ∷ []) false n.0
 
 -- the row has ended
 abbrev pub HasEnded : Seated → Seated → ℕ → Death → Type 0
 HasEnded m n row death =
-    (n.1 ≡ rest m.1) × (h : List Entry) × Sees m.0 (exchange_on row) h (bare (event.Exit row death) ∷ []) false n.0
+    (n.1 ≡ rest m.1) × (h : List Entry) × Sees m.0 (an_exchange row) h (bare (event.Exit row death) ∷ []) false n.0
 
 -- the row was taken up, with its record, whose slot is out
 abbrev pub TookUp : Seated → Seated → ℕ → Content → Type 0
 TookUp m n row content =
     (n.1 ≡ (place row, None) ∷ m.1)
-    × (h : List Entry) × Sees m.0 (exchange_on row) h [] true n.0 × (content ≡ (cell_after m.0.roster h row).content)
+    × (h : List Entry) × Sees m.0 (an_exchange row) h [] true n.0 × (content ≡ (cell_after m.0.roster h row).content)
     × (cell_after m.0.roster h row ≡ cell_after m.0.roster m.0.seen row)
 
 -- the handle took another in: what it has seen begins with what either had seen, and it acts for the actors of both

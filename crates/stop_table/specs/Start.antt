@@ -7,7 +7,7 @@ use Rattle.stop_table.specs.declared.start.Start.{Start}
 use Rattle.stop_table.specs.declared.start.Start.TheVariants as start
 use Rattle.stop_table.specs.Entry.{AreLegal, Begins, Entry, GoesOn, history_of}
 use Rattle.stop_table.specs.Handle.{IsStepOf}
-use Rattle.stop_table.specs.View.{View, actors_of, look_at}
+use Rattle.stop_table.specs.View.{View, actors_of, a_look}
 
 -- the last born row on the path from a root down to the row
 pub data IsLastBorn (rows : List Row) (h : List Entry) : (row born : ℕ) → Type 0 where
@@ -35,7 +35,7 @@ pub data IsAncestor (rows : List Row) : (row ancestor : ℕ) → Type 0 where
 -- a look of this call at the word of an ancestor; a root needs none, and its point is what was seen before the call
 abbrev pub IsStartPoint : View → View → ℕ → List Entry → Type 0
 IsStartPoint v w row h =
-    ((ancestor : ℕ) × IsAncestor v.roster row ancestor × IsStepOf v w (look_at ancestor h))
+    ((ancestor : ℕ) × IsAncestor v.roster row ancestor × IsStepOf v w (a_look ancestor h))
     ⊎ ((parent_of v.roster row ≡ None) × (h ≡ v.seen))
 
 -- the answer is that of one thread at a point of the call

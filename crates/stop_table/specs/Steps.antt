@@ -16,7 +16,7 @@ use Rattle.stop_history.specs.Step.{died, restarted}
 use Rattle.stop_table.specs.Entry.{AreLegal, Entry, GoesOn, bare, cell_after, history_of, publish_of, word_of}
 use Rattle.stop_table.specs.Place.{place}
 use Rattle.stop_table.specs.Rule.{AllGoOn}
-use Rattle.stop_table.specs.View.{Observation, Past, View, actors_of, exchange_on, is_among, look_at}
+use Rattle.stop_table.specs.View.{Observation, Past, View, actors_of, an_exchange, is_among, a_look}
 
 -- a handle's view, and the slots that are out with it
 abbrev pub Seated : Type 0
@@ -65,11 +65,11 @@ found_by step row m found n =
 
 -- the row's word was read
 abbrev pub looked_on : ℕ → Seated → ℕ → Seated → Type 0
-looked_on row m found n = found_by (look_at row) row m found n
+looked_on row m found n = found_by (a_look row) row m found n
 
 -- an exchange found another word in the row than it looked for
 abbrev pub missed_on : ℕ → Seated → ℕ → Seated → Type 0
-missed_on row m found n = found_by (exchange_on row) row m found n
+missed_on row m found n = found_by (an_exchange row) row m found n
 
 abbrev pub looked : TheStep → Seated → ℕ → Seated → Type 0
 looked s m found n = AtRow s (λ row. looked_on row m found n)
@@ -78,7 +78,7 @@ looked s m found n = AtRow s (λ row. looked_on row m found n)
 abbrev pub took_on : ℕ → Seated → Seated → Type 0
 took_on row m n =
     (h : List Entry) × (n.1 ≡ (place row, Some (cell_after m.0.roster h row).content) ∷ m.1)
-    × Sees m.0 (exchange_on row) h [] true n.0 × (cell_after m.0.roster h row ≡ cell_after m.0.roster m.0.seen row)
+    × Sees m.0 (an_exchange row) h [] true n.0 × (cell_after m.0.roster h row ≡ cell_after m.0.roster m.0.seen row)
 
 abbrev pub took : TheStep → Seated → ℕ → Seated → Type 0
 took s m found n = AtRow s (λ row. took_on row m n)
@@ -87,7 +87,7 @@ took s m found n = AtRow s (λ row. took_on row m n)
 abbrev pub publishes_on : ℕ → Seated → Seated → Type 0
 publishes_on row m n =
     (content : Content) → m.1 ≡ (place row, Some content) ∷ rest m.1
-    → (h : List Entry) × (n.1 ≡ rest m.1) × Sees m.0 (exchange_on row) h (publish_of row content ∷ []) false n.0
+    → (h : List Entry) × (n.1 ≡ rest m.1) × Sees m.0 (an_exchange row) h (publish_of row content ∷ []) false n.0
 
 abbrev pub publishes : TheStep → Seated → ℕ → Seated → Type 0
 publishes s m found n = AtRow s (λ row. publishes_on row m n)
@@ -95,7 +95,7 @@ publishes s m found n = AtRow s (λ row. publishes_on row m n)
 -- the row was claimed, by the exchange of the word found
 abbrev pub claims_on : ℕ → Seated → ℕ → Seated → List Entry → Type 0
 claims_on row m found n h =
-    Sees m.0 (exchange_on row) h (bare (event.Claim row (cell_after m.0.roster h row).number m.0.number) ∷ []) m.0.taken n.0
+    Sees m.0 (an_exchange row) h (bare (event.Claim row (cell_after m.0.roster h row).number m.0.number) ∷ []) m.0.taken n.0
     × (found ≡ raw_of (word_of false (cell_after m.0.roster h row)))
 
 -- the stop that stood there was claimed, and its record is out; or another word was found
@@ -123,7 +123,7 @@ resumed_on s row m n =
     (how : Restart) × IsResume how
     × (s.second ≡ raw_of (restarted (word_of false (cell_after m.0.roster m.0.seen row)) how))
     × (h : List Entry) × (n.1 ≡ rest m.1)
-    × Sees m.0 (exchange_on row) h
+    × Sees m.0 (an_exchange row) h
     (bare (event.Resume row (cell_after m.0.roster m.0.seen row).number how m.0.number) ∷ []) m.0.taken n.0
 
 abbrev pub resumed : TheStep → Seated → ℕ → Seated → Type 0
@@ -134,7 +134,7 @@ abbrev pub exited_on : TheStep → ℕ → Seated → Seated → Type 0
 exited_on s row m n =
     (death : Death) × IsDeath death
     × (s.second ≡ raw_of (died (word_of false (cell_after m.0.roster m.0.seen row)) death))
-    × (h : List Entry) × (n.1 ≡ rest m.1) × Sees m.0 (exchange_on row) h (bare (event.Exit row death) ∷ []) false n.0
+    × (h : List Entry) × (n.1 ≡ rest m.1) × Sees m.0 (an_exchange row) h (bare (event.Exit row death) ∷ []) false n.0
 
 abbrev pub exited : TheStep → Seated → ℕ → Seated → Type 0
 exited s m found n = AtRow s (λ row. exited_on s row m n)

@@ -6,17 +6,17 @@ use Rattle.stop_history.specs.declared.actor.Actor.TheVariants.{Tracee, Tracer}
 use Rattle.stop_history.specs.declared.roster.Row.{Row}
 use Rattle.stop_table.specs.Entry.{Entry}
 
--- a step on a row's word, which is a look or an exchange, and the history directly after it
+-- a step on a row's word, which is a look at it or an exchange, and the history directly after the step
 pub record Observation : Type 0 where
   pub row : ℕ
   pub is_look : Bool
   pub seen : List Entry
 
-abbrev pub look_at : ℕ → List Entry → Observation
-look_at row h = record { row = row; is_look = true; seen = h }
+abbrev pub a_look : ℕ → List Entry → Observation
+a_look row h = record { row = row; is_look = true; seen = h }
 
-abbrev pub exchange_on : ℕ → List Entry → Observation
-exchange_on row h = record { row = row; is_look = false; seen = h }
+abbrev pub an_exchange : ℕ → List Entry → Observation
+an_exchange row h = record { row = row; is_look = false; seen = h }
 
 -- the actors for which a handle acted, and what it had seen, when it met another
 pub record Past : Type 0 where

@@ -56,8 +56,8 @@ pub fn a_meeting_keeps_events()
         is_held v row ≡ true → cell_after u.roster u.seen row ≡ cell_after v.roster v.seen row }
 {}
 
-/// Directly after the claim that a call lost, the stop that the call's look had seen is claimed, with its number; and the
-/// death that it had seen is reaped.
+/// Where a call lost its claim to another, the stop that the call's look had shown is claimed at that point, with its
+/// number, and the death that it had shown is reaped.
 pub fn what_was_lost_is_claimed_or_reaped()
     ensures stop { (look : List Entry) (v w : View) (row : ℕ) (h : List Entry) → row < length v.roster →
         IsLostSince look v w row h → (number status : ℕ) →

@@ -18,7 +18,7 @@ ghost use Rattle.stop_table.specs.Entry.{AreLegal, cell_after, history_of, word_
 ghost use Rattle.stop_table.specs.Group.{IsGroupSettled};
 ghost use Rattle.stop_table.specs.Handle.{Looked, SawUnborn};
 ghost use Rattle.stop_table.specs.Place.{place};
-ghost use Rattle.stop_table.specs.Seat.{HasEnded, HoldsAtHand, IsSameSeat, IsSeatOf, LetRun, Met, Missed, Published, ReapedAt};
+ghost use Rattle.stop_table.specs.Seat.{HasEnded, HoldsAtHand, IsSameSeat, IsSeatOf, LetRun, Met, MissedAt, Published, ReapedAt};
 ghost use Rattle.stop_table.specs.Seat.{Saw, TookStop, TookUp};
 ghost use Rattle.stop_table.specs.View.{is_among};
 
@@ -144,7 +144,7 @@ impl<A: Allocator> Cells<A> {
         ensures seat { IsSameSeat seat.old seat.new }
         ensures claimed { MatchResult result
             (λ r. TookStop seat.old.me seat.new.me row seen r)
-            (λ w. Missed seat.old.me seat.new.me row w × (w ≢ seen)) }
+            (λ w. MissedAt seat.old.me seat.new.me row w × (w ≢ seen)) }
     {
         let old = seen.pack();
         let new = claimed(seen, tracer).pack();
@@ -176,7 +176,7 @@ impl<A: Allocator> Cells<A> {
         ensures seat { IsSameSeat seat.old seat.new }
         ensures reaped { MatchResult result
             (λ _. ReapedAt seat.old.me seat.new.me row seen)
-            (λ w. Missed seat.old.me seat.new.me row w × (w ≢ seen)) }
+            (λ w. MissedAt seat.old.me seat.new.me row w × (w ≢ seen)) }
     {
         let old = seen.pack();
         let new = claimed(seen, tracer).pack();

@@ -8,7 +8,7 @@ use Rattle.stop_table.specs.declared.shown.Shown.{Shown}
 use Rattle.stop_table.specs.Entry.{Begins, Entry, bare, history_of}
 use Rattle.stop_table.specs.Handle.{AnswersAt, EndsWith, HasSteps, IsPoint, Looked, LooksAt}
 use Rattle.stop_table.specs.Handle.{is_claimable, shown_of}
-use Rattle.stop_table.specs.View.{View, look_at}
+use Rattle.stop_table.specs.View.{View, a_look}
 use Rattle.stop_table.proofs.Entries.{begins_on}
 use Rattle.stop_table.proofs.Walking.{ends_from, goes_from, looked_on, lost_from, lost_on, point_from, step_on}
 use Rattle.trace_calls.specs.Scan.{is_pending_shown}
@@ -96,8 +96,8 @@ saw_from u v w row P first s =
 point_on : (u v w : View) (row : ℕ) (h : List Entry) → IsPoint u v row h → HasSteps v w → IsPoint u w row h
 point_on u v w row h point later =
     elim point [
-      | inl own ↦ inl (step_on u v w (look_at row h) own later)
-      | inr parents ↦ inr (parents.0, (parents.1.0, step_on u v w (look_at parents.1.0 h) parents.1.1 later, parents.1.2))
+      | inl own ↦ inl (step_on u v w (a_look row h) own later)
+      | inr parents ↦ inr (parents.0, (parents.1.0, step_on u v w (a_look parents.1.0 h) parents.1.1 later, parents.1.2))
     ]
 
 -- a point stays one as the call goes on

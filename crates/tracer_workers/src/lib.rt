@@ -15,4 +15,6 @@ pub use run_error::RunError;
 pub use scheduled::run_scheduled;
 
 #[cfg(test)]
+mod run_tests;
+#[cfg(test)]
 mod tests;

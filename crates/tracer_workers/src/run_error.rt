@@ -3,17 +3,17 @@
 use thiserror::Error;
 use trace_pages::NoMemory;
 
-/// Why a run of a case has no text.
+/// Why a run of a case has no text. It is displayed as the program says it on standard error.
 #[derive(Clone, Copy, Debug, Drop, Error, PartialEq, Eq)]
 pub enum RunError {
     /// A growth was refused.
-    #[error("no memory")]
+    #[error("tracer: no memory")]
     NoMemory,
     /// A row that was born was not reaped, or a piece of it is missing, is there twice, or is a stranger's.
-    #[error("lost stop")]
+    #[error("tracer: lost stop")]
     Lost,
     /// A thread could not be started; then no tracee has run.
-    #[error("cannot start threads")]
+    #[error("tracer: cannot start threads")]
     Threads,
 }
 

@@ -4,32 +4,30 @@
 //! a restart to the next stop or the death; a worker's turn is a wait and the restart. A turn is whole, so a board keeps
 //! the cells, and nothing comes between the two halves of a turn.
 
-ghost use Rattle.std.specs.Prelude.{[], ◌≡◌, ◌⊎◌, ◌<◌, ◌≤◌, ◌∷◌, ℕ, List, None, Some, true, false, IfOk, IfErr, IsOkUnless, OnOk, length};
-ghost use Rattle.std.specs.Prelude.{◌+◌, IsErr, Ok, slice_get, slice_set};
+ghost use Rattle.std.specs.Prelude.{[], ◌≡◌, ◌<◌, ◌≤◌, ◌∷◌, ℕ, List, None, Some, true, false, IfOk, IsOkUnless, OnOk, length};
+ghost use Rattle.std.specs.Prelude.{◌+◌, IsErr, Ok, slice_get};
+ghost use Rattle.record_printer.specs.FolderAnswers.{lost, pieces_text, refusal};
+ghost use Rattle.record_printer.specs.Piece as pieces;
+ghost use Rattle.record_printer.specs.Represents.{Represents as HasCome};
 ghost use Rattle.stop_board.specs.Board.{Represents};
 ghost use Rattle.stop_history.specs.Event as event;
 ghost use Rattle.stop_history.specs.Event.{History};
 ghost use Rattle.stop_history.specs.Sequential.{exit_answer, publish_answer};
 ghost use Rattle.stop_history.specs.State.{last_number};
-ghost use Rattle.stop_history.specs.declared.limits.TheConstants.{LAST_NUMBER};
-ghost use Rattle.trace_record.specs.Death.{IsDeath};
-ghost use Rattle.trace_record.specs.Stop.{IsStop};
-ghost use Rattle.tracer_workers.specs.HistoryPieces.{stop_piece};
-ghost use Rattle.record_printer.specs.FolderAnswers.{lost, pieces_text, refusal};
-ghost use Rattle.record_printer.specs.Piece as pieces;
-ghost use Rattle.record_printer.specs.Represents.{Represents as HasCome};
+ghost use Rattle.stop_history.specs.declared.limits.TheConstants.{LAST_NUMBER, TRACERS};
 ghost use Rattle.stop_table.specs.Entry.{Entry};
 ghost use Rattle.trace_record.specs.Content.{Content};
-ghost use Rattle.trace_script.specs.CaseFacts.{IsCase};
+ghost use Rattle.trace_record.specs.Death.{IsDeath};
+ghost use Rattle.trace_record.specs.Stop.{IsStop};
 ghost use Rattle.trace_script.specs.CaseFile.{CaseContent};
 ghost use Rattle.trace_script.specs.Machine.{IsAnswer};
 ghost use Rattle.trace_script.specs.StopTrace.{Position, context_of, next_element, next_position};
 ghost use Rattle.tracer_workers.specs.Config.{plain, text_of};
-ghost use Rattle.tracer_workers.specs.declared.run_error.RunError.TheVariants as run_error;
-ghost use Rattle.tracer_workers.specs.Scheduled.{IsHeldOrIdle, IsOver, IsQuiet, KeptRow, Moved, RunState, Stands, StayedBy};
-ghost use Rattle.stop_history.specs.declared.limits.TheConstants.{TRACERS};
+ghost use Rattle.tracer_workers.specs.HistoryPieces.{stop_piece};
+ghost use Rattle.tracer_workers.specs.Scheduled.{IsOver, KeptRow, Moved, RunState, Stands};
 ghost use Rattle.tracer_workers.specs.Turn.{HasClaimed, HasDied, HasGone, HasHeld, HasRunOn, HasStopped, HasTurned, HasWorked, IsToRun};
-ghost use Rattle.tracer_workers.specs.Turn.{new_row, with_next, with_number, with_row};
+ghost use Rattle.tracer_workers.specs.Turn.{new_row, with_next, with_number};
+ghost use Rattle.tracer_workers.specs.declared.run_error.RunError.TheVariants as run_error;
 
 use crate::config::{Config, policy};
 use crate::laws::the_mode_changes_no_text;

@@ -1,5 +1,6 @@
 pub mod AfterClaim
 pub mod BornRows
+pub mod Claims
 pub mod Due
 pub mod Fewer
 pub mod Fitting
@@ -7,6 +8,7 @@ pub mod FittingCases
 pub mod Left
 pub mod Made
 pub mod ModeText
+pub mod Rounds
 pub mod RowPieces
 pub mod RunEnd
 pub mod RunSteps

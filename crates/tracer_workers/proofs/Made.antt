@@ -112,15 +112,22 @@ made_on content run new h x made on =
 
 -- ---- no stop is claimed
 
-pub free_on : (rows : List Row) (h : List Entry) (x : Entry) → AreFree h
+pub free_but : (rows : List Row) (h : List Entry) (x : Entry)
+    → ((other : ℕ) → other ≢ subject x.event → is_claimed (phase_in (events_of other (history_of h))) ≡ false)
     → is_claimed (phase_in (x.event ∷ events_of (subject x.event) (history_of h))) ≡ false
     → AreFree (x ∷ h)
-free_on rows h x free own row =
+free_but rows h x others own row =
     elim (cases_eq (subject x.event) row) [
       | inl same ↦
           (let here : is_claimed (phase_in (events_of (subject x.event) (history_of (x ∷ h)))) ≡ false =
           ap (λ (a : Left). is_claimed (phase_in a.events)) (own_left rows x h (subject x.event) refl) ∙ own in
           subst (λ r. is_claimed (phase_in (events_of r (history_of (x ∷ h)))) ≡ false) same here)
       | inr other ↦
-          ap (λ (a : Left). is_claimed (phase_in a.events)) (other_left rows x h row other) ∙ free row
+          ap (λ (a : Left). is_claimed (phase_in a.events)) (other_left rows x h row other)
+          ∙ others row (λ is. other (sym is))
     ]
+
+pub free_on : (rows : List Row) (h : List Entry) (x : Entry) → AreFree h
+    → is_claimed (phase_in (x.event ∷ events_of (subject x.event) (history_of h))) ≡ false
+    → AreFree (x ∷ h)
+free_on rows h x free own = free_but rows h x (λ other apart. free other) own

@@ -41,6 +41,14 @@ use Rattle.tracer_workers.proofs.Left.{Left, left_of, own_left}
 use Rattle.tracer_workers.proofs.Made.{GoesOnBy}
 use Rattle.tracer_workers.specs.Turn.{onward}
 
+-- no script has more stops
+pub last_most : (content : CaseContent) (run : RunState) (h : List Entry) (row : ℕ) → HasMade content run h
+    → row < length content.rows → last_number (history_of h) row ≤ most_stops
+last_most content run h row made within =
+    let fit = fits_at (plan_of run.config content) h (fitting_case run.config content made.known) made.legal made.driven row
+    within in
+    omega (arith, fit.number, fit.within)
+
 -- ---- a stop is published
 
 -- the next stop of a running row
@@ -168,7 +176,7 @@ exit_goes content run new h row d made within runs free range dies p =
 
 -- ---- a death is reaped, and a stop is claimed
 
-dead_phase : (born : Bool) (number status tracer : ℕ) (es : List Event) → state_in born es ≡ state.Dead number status
+pub dead_phase : (born : Bool) (number status tracer : ℕ) (es : List Event) → state_in born es ≡ state.Dead number status
     → claimed_phase tracer es ≡ phase.Reaped
 dead_phase true number status tracer [] is = cc
 dead_phase false number status tracer [] is = cc

@@ -24,13 +24,11 @@ use Rattle.trace_script.specs.CaseFile.{CaseContent}
 use Rattle.tracer_workers.specs.Config.{plan_of, show_of}
 use Rattle.tracer_workers.specs.Driven.{IsDeathOf, element_after}
 use Rattle.tracer_workers.specs.HistoryPieces.{pieces_of, stop_piece}
-use Rattle.tracer_workers.specs.Scheduled.{IsHeldOrIdle, IsKept, IsReady, KeptRow, Moved, RunState, Stands, most_stops}
+use Rattle.tracer_workers.specs.Scheduled.{IsHeldOrIdle, IsKept, IsReady, KeptRow, Moved, RunState, Stands}
 use Rattle.tracer_workers.specs.Turn.{HasDied, HasStopped, onward, with_next, with_number, with_row}
 use Rattle.tracer_workers.proofs.Fewer.{fewer_left, index_of_get}
 use Rattle.tracer_workers.proofs.Made.{free_on, made_on}
-use Rattle.tracer_workers.proofs.Fitting.{fits_at}
-use Rattle.tracer_workers.proofs.FittingCases.{fitting_case}
-use Rattle.tracer_workers.proofs.RunSteps.{exit_goes, not_held, publish_by_ok, publish_goes, stop_due}
+use Rattle.tracer_workers.proofs.RunSteps.{exit_goes, last_most, not_held, publish_by_ok, publish_goes, stop_due}
 use Rattle.tracer_workers.proofs.TurnStarts.{kept_ready}
 use Rattle.tracer_workers.proofs.Taken.{death_taken, stop_taken}
 
@@ -184,12 +182,6 @@ module _ (content : CaseContent) (before : RunState) (h : List Entry) (row : ℕ
   abbrev dead : KeptRow
   dead = with_next k new_content at
 
-  last_most : last_number (history_of h) row ≤ most_stops
-  last_most =
-      let fit = fits_at (plan_of before.config content) h (fitting_case before.config content stands.0.known) stands.0.legal
-      stands.0.driven row within in
-      omega (arith, fit.number, fit.within)
-
   kept_numbers : (it : KeptRow) → slice_get (slice_set before.rows row dead) row ≡ Some it
       → (it.tid ≡ (row_at content.rows row).tid) × (it.number ≡ last_number (history_of h) row)
   kept_numbers it is =
@@ -205,7 +197,7 @@ module _ (content : CaseContent) (before : RunState) (h : List Entry) (row : ℕ
         range = range;
         board = made.board;
         folder = made.folder;
-        number = λ it is. let numbers = kept_numbers it is in let few = last_most in omega (arith, numbers.1, few);
+        number = λ it is. let numbers = kept_numbers it is in let few = last_most content before h row stands.0 within in omega (arith, numbers.1, few);
         taken = λ it is.
             let numbers = kept_numbers it is in
             ap (λ rows. refusal rows (pieces_of (show_of before.config) content.rows h) (Died it.tid it.number death)) made.folder_rows
@@ -241,7 +233,7 @@ module _ (content : CaseContent) (before : RunState) (h : List Entry) (row : ℕ
       }) in (
         x ∷ h,
         (made_on content before new h x made goes, free_on content.rows h x stands.1 refl),
-        fewer_left content before new h x made goes last_most,
+        fewer_left content before new h x made goes (last_most content before h row made within),
       )
 
 -- ---- the row at the place
@@ -258,6 +250,12 @@ stopped_there content run h row c s =
 pub found_row : (rows : List KeptRow) (row : ℕ) (found k : KeptRow) → found ≡ slice_index_or rows row found
     → slice_get rows row ≡ Some k → found ≡ k
 found_row rows row found k value there = value ∙ index_of_get rows row found k there
+
+pub there_at : (rows : List KeptRow) (row : ℕ) (found : KeptRow) → found ≡ slice_index_or rows row found
+    → row < length rows → slice_get rows row ≡ Some found
+there_at [] row found value within = absurd (omega (arith, within))
+there_at (k ∷ rows) zero found value within = ap Some (sym value)
+there_at (k ∷ rows) (suc row) found value within = there_at rows row found value (omega (arith, within))
 
 -- ---- a death, of a run that is told
 

@@ -1,5 +1,5 @@
 -- A tracee's turn begins: its machine runs on from where the history has left the row, to a stop, a death or a fault.
-use Rattle.std.proofs.Common.{refl, ◌≡◌, ◌<◌, ◌∷◌, [], ℕ, Bool, List, Some}
+use Rattle.std.proofs.Common.{refl, ◌≡◌, ◌<◌, ◌∷◌, [], ℕ, zero, suc, Bool, List, Some}
 use Rattle.std.proofs.Common.{length, inl, inr, ◌∙◌, sym, ap, subst, arith, slice_get}
 use Rattle.trace_record.specs.Content.{Content}
 use Rattle.trace_record.specs.declared.death.Death.{Death}
@@ -12,13 +12,14 @@ use Rattle.stop_history.proofs.States.{state_within}
 use Rattle.stop_table.specs.Entry.{Entry, history_of}
 use Rattle.trace_script.specs.CaseFile.{CaseContent}
 use Rattle.trace_script.specs.Machine.{IsAnswer}
-use Rattle.trace_script.specs.StopTrace.{Position, context_of, next_element, next_position}
+use Rattle.trace_script.specs.StopTrace.{Element, Position, context_of, next_element, next_position}
+use Rattle.trace_script.specs.declared.next.Next.{Next}
 use Rattle.trace_script.specs.declared.next.Next.TheVariants as next
 use Rattle.tracer_workers.specs.Config.{plan_of}
 use Rattle.tracer_workers.specs.Driven.{IsDeathOf, fault_death, restart_after, restart_at}
 use Rattle.tracer_workers.specs.Plan.{Plan}
 use Rattle.tracer_workers.specs.Scheduled.{IsKept, IsKeptAt, IsReady, KeptRow, RunState, Stands}
-use Rattle.tracer_workers.specs.Turn.{HasDied, HasStopped, with_next, with_row}
+use Rattle.tracer_workers.specs.Turn.{HasDied, HasRunOn, HasStopped, IsToRun, with_next, with_row}
 use Rattle.tracer_workers.proofs.AfterClaim.{not_by_claim}
 use Rattle.tracer_workers.proofs.Fitting.{fits_at, next_death, restart_in_range}
 use Rattle.tracer_workers.proofs.FittingCases.{fitting_case}
@@ -132,3 +133,44 @@ module _ (content : CaseContent) (run : RunState) (h : List Entry) (row : ℕ) (
         ready = inl came.1;
         is = is;
       }
+
+-- ---- the same of a run that is told
+
+kept_there : (rows : List KeptRow) (row : ℕ) → row < length rows → (k : KeptRow) × (slice_get rows row ≡ Some k)
+kept_there [] row within = absurd (omega (arith, within))
+kept_there (k ∷ rows) zero within = (k, refl)
+kept_there (k ∷ rows) (suc row) within = kept_there rows row (omega (arith, within))
+
+module _ (content : CaseContent) (run mid : RunState) (h : List Entry) (row : ℕ) (told : Next)
+    (s : IsToRun content run h row) (ran : HasRunOn run mid row told) where
+  abbrev there : (k : KeptRow) × (slice_get run.rows row ≡ Some k)
+  there = kept_there run.rows row (let within = s.within in let long = s.stands.0.long in omega (arith, within, long))
+
+  abbrev element : Element
+  element = next_element there.0.position there.0.how (context_of there.0.content)
+
+  pub ran_board : mid.board ≡ run.board
+  ran_board = let made = ran there.0 there.1 in ap (λ (r : RunState). r.board) made.4
+
+  pub ran_config : mid.config ≡ run.config
+  ran_config = let made = ran there.0 there.1 in ap (λ (r : RunState). r.config) made.4
+
+  pub ran_to_stop : told ≡ next.Stop → (c : Content) × HasStopped content mid h row c
+  ran_to_stop is =
+      let made = ran there.0 there.1 in (
+        made.0,
+        has_stopped content run h row s.stands s.within s.runs there.0 there.1 mid made.0 made.1
+            (subst (λ n. IsAnswer element n there.0.content made.0) is made.2) made.3 made.4,
+      )
+
+  pub ran_to_death : (d : Death) → told ≡ next.Death d → HasDied content mid h row d
+  ran_to_death d is =
+      let made = ran there.0 there.1 in
+      has_died content run h row s.stands s.within s.runs there.0 there.1 mid made.0 made.1 d
+      (subst (λ n. IsAnswer element n there.0.content made.0) is made.2) made.3 made.4
+
+  pub ran_to_fault : (a : ℕ) → told ≡ next.Fault a → HasDied content mid h row fault_death
+  ran_to_fault a is =
+      let made = ran there.0 there.1 in
+      has_faulted content run h row s.stands s.within s.runs there.0 there.1 mid made.0 made.1 a
+      (subst (λ n. IsAnswer element n there.0.content made.0) is made.2) made.3 made.4

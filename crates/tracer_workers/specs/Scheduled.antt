@@ -128,12 +128,6 @@ run_left run = total (λ row. events_left (word_at run.board.words row)) (length
 abbrev pub Moved : CaseContent → RunState → RunState → List Entry → Type 0
 Moved content run new h = (later : List Entry) × Stands content new later × (run_left new < run_left run)
 
--- none came of it, and none could
-pub record StayedBy (content : CaseContent) (run new : RunState) (h : List Entry) (Idle : Type 0) : Type 0 where
-  pub stands : Stands content new h
-  pub board : new.board ≡ run.board
-  pub idle : Idle
-
 -- a row that does not run, or whose death another row of its group holds back
 abbrev pub IsHeldOrIdle : CaseContent → List Entry → ℕ → Type 0
 IsHeldOrIdle content h row =

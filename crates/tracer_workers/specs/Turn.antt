@@ -1,18 +1,26 @@
--- A tracee's turn, once its machine has run on to a stop or a death, and before that is an event.
-use Rattle.std.specs.Prelude.{◌≡◌, ◌<◌, ℕ, Bool, true, false, List, Some, length, slice_get, slice_set}
+-- The turns of a run: a tracee's, once its machine has run on to a stop or a death and before that is an event, a worker's,
+-- and a round of them.
+use Rattle.std.specs.Prelude.{◌≡◌, ◌≢◌, ◌<◌, ℕ, Bool, true, false, List, Some, length, slice_get, slice_set}
+use Rattle.stop_history.specs.declared.limits.TheConstants.{TRACERS}
+use Rattle.stop_history.specs.declared.phase.Phase.TheVariants as phase
 use Rattle.stop_history.specs.declared.state.State.TheVariants as state
+use Rattle.stop_history.specs.Event.{events_of}
 use Rattle.stop_history.specs.Roster.{row_at}
-use Rattle.stop_history.specs.State.{state_after}
+use Rattle.stop_history.specs.State.{is_waitable, last_number, state_after}
+use Rattle.stop_history.specs.Word.{phase_in}
 use Rattle.stop_table.specs.Entry.{Entry, content_after, history_of}
 use Rattle.trace_record.specs.Content.{Content, empty_content}
 use Rattle.trace_record.specs.Death.{IsDeath}
 use Rattle.trace_record.specs.declared.death.Death.{Death}
 use Rattle.trace_script.specs.CaseFile.{CaseContent}
-use Rattle.trace_script.specs.StopTrace.{Position, StopIs, context_of, first_restart, next_position}
+use Rattle.trace_script.specs.Machine.{IsAnswer}
+use Rattle.trace_script.specs.StopTrace.{Position, StopIs, context_of, first_restart, next_element, next_position}
+use Rattle.trace_script.specs.declared.next.Next.{Next}
 use Rattle.tracer_workers.specs.Config.{plan_of}
 use Rattle.tracer_workers.specs.Driven.{IsDeathOf, element_after, position_at, restart_after}
 use Rattle.tracer_workers.specs.Plan.{Plan, opening_of}
-use Rattle.tracer_workers.specs.Scheduled.{IsHeldOrIdle, IsReady, KeptRow, Moved, RunState, Stands}
+use Rattle.tracer_workers.specs.Scheduled.{HasMade, IsHeldOrIdle, IsOver, IsQuiet, IsReady, KeptRow, Moved, RunState, Stands}
+use Rattle.tracer_workers.specs.Scheduled.{is_claimed}
 use Rattle.tracer_workers.specs.declared.config.Config.{Config}
 
 -- a row before its first stop
@@ -40,6 +48,20 @@ with_row run row k = record run { rows = slice_set run.rows row k }
 abbrev pub onward : Plan → List Entry → ℕ → Position
 onward plan h row =
     next_position (position_at plan h row) (restart_after h row) (context_of (content_after plan.rows h row))
+
+-- a running row, whose tracee is to run on
+pub record IsToRun (content : CaseContent) (run : RunState) (h : List Entry) (row : ℕ) : Type 0 where
+  pub stands : Stands content run h
+  pub within : row < length content.rows
+  pub runs : state_after content.rows (history_of h) row ≡ state.Running
+
+-- a row's machine has run on, and what it has told of is kept
+abbrev pub HasRunOn : RunState → RunState → ℕ → Next → Type 0
+HasRunOn run new row told =
+    (k : KeptRow) → slice_get run.rows row ≡ Some k → (content : Content) × (at : Position)
+    × IsAnswer (next_element k.position k.how (context_of k.content)) told k.content content
+    × (at ≡ next_position k.position k.how (context_of k.content))
+    × (new ≡ with_row run row (with_next k content at))
 
 -- a running row has come to its next stop
 pub record HasStopped (content : CaseContent) (run : RunState) (h : List Entry) (row : ℕ) (c : Content) : Type 0 where
@@ -72,3 +94,38 @@ abbrev pub HasTurned : CaseContent → RunState → RunState → List Entry → 
 HasTurned content run new h row true = Moved content run new h
 HasTurned content run new h row false =
     Stands content new h × (new.board ≡ run.board) × IsHeldOrIdle content h row
+
+-- ---- a worker
+
+-- a row whose stop a tracer has claimed, and no other row's is claimed
+pub record HasHeld (content : CaseContent) (run : RunState) (h : List Entry) (row tracer : ℕ) : Type 0 where
+  pub made : HasMade content run h
+  pub within : row < length content.rows
+  pub low : tracer < TRACERS
+  pub held : state_after content.rows (history_of h) row ≡ state.Claimed (last_number (history_of h) row) tracer
+  pub phase : phase_in (events_of row (history_of h)) ≡ phase.Claimed tracer
+  pub others : (other : ℕ) → other ≢ row → is_claimed (phase_in (events_of other (history_of h))) ≡ false
+
+-- what waits in a row is claimed, and the row restarted where it is a stop, or nothing waits
+abbrev pub HasClaimed : CaseContent → RunState → RunState → List Entry → ℕ → Bool → Type 0
+HasClaimed content run new h row true = Moved content run new h
+HasClaimed content run new h row false =
+    (new ≡ run) × (is_waitable (state_after content.rows (history_of h) row) ≡ false)
+
+-- a worker's turn: the same of all rows
+abbrev pub HasWorked : CaseContent → RunState → RunState → List Entry → Bool → Type 0
+HasWorked content run new h true = Moved content run new h
+HasWorked content run new h false = (new ≡ run) × IsQuiet content h
+
+-- ---- a round
+
+-- the turns of the first tracees
+abbrev pub HasSwept : CaseContent → RunState → RunState → List Entry → (rows : ℕ) → Bool → Type 0
+HasSwept content run new h rows true = Moved content run new h
+HasSwept content run new h rows false =
+    Stands content new h × (new.board ≡ run.board) × ((row : ℕ) → row < rows → IsHeldOrIdle content h row)
+
+-- all tracees and a worker have had a turn; where no event came of it, the run is over
+abbrev pub HasGone : CaseContent → RunState → RunState → List Entry → Bool → Type 0
+HasGone content run new h true = Moved content run new h
+HasGone content run new h false = Stands content new h × IsOver content h

@@ -1,0 +1,192 @@
+//! Runs of cases on schedules: their texts, worked out by hand, and each growth refused in turn.
+
+use super::*;
+use refusing_allocator::RefusingAllocator;
+use std::test::Fail;
+use trace_options::CallSet;
+use trace_script::Case;
+
+/// Schedules of two rows and two workers: none, turns of each actor, actors that are none, one actor alone.
+const SCHEDULES: [&[u32]; 4] = [&[], &[2, 2, 1, 0, 2], &[9, 1, 3, 0], &[3; 40]];
+
+/// A root that writes, forks and exits, and its child.
+const FORK: &str = "tracee 100 100 77 0\npage 0x10000\ndata 0x10000 68690a\n\
+                    call write 1 0x10000 3 = 3\nfork 101\nexit 3\nend\n\
+                    tracee 101 101 77 100\nexit 0\nend\n";
+
+const FORK_TEXT: &str = "100 write(1, \"hi\\n\", 3) = 3\n100 fork() = 101\n100 exit(3) = ?\n\
+                         100 +++ exited with 3 +++\n101 exit(0) = ?\n101 +++ exited with 0 +++\n";
+
+/// A leader that exits before its thread.
+const THREAD: &str = "tracee 100 100 77 0\nthread 101\nexit 3\nend\n\
+                      tracee 101 100 77 100\ncall getpid = 100\nexit 0\nend\n";
+
+const THREAD_TEXT: &str = "100 clone(0x10900) = 101\n100 exit(3) = ?\n100 +++ exited with 3 +++\n\
+                           101 getpid() = 100\n101 exit(0) = ?\n101 +++ exited with 0 +++\n";
+
+/// Strings and buffers over two pages, and an address that is not mapped.
+const MEMORY: &str = "tracee 300 300 300 0\npage 0x10000\npage 0x11000\ndata 0x10ffe 6162\n\
+    data 0x10100 0000010000000000020000000000000002000100000000000100000000000000\ndata 0x10000 616263\n\
+    call chdir 0x10ffe = -2\ncall writev 1 0x10100 2 = 3\ncall read 0 0x10000 16 = 5 fill 0x10000 6869090aff\n\
+    call rename 0x10ffe 0x50000 = 0\nend\n";
+
+const MEMORY_TEXT: &str = "300 chdir(\"ab\") = -1 ENOENT\n\
+    300 writev(1, [{iov_base=\"ab\", iov_len=2}, {iov_base=\"c\", iov_len=1}], 2) = 3\n\
+    300 read(0, \"hi\\t\\n\\377\", 16) = 5\n300 rename(\"ab\", 0x50000) = 0\n300 +++ exited with 0 +++\n";
+
+const EXEC: &str =
+    "tracee 400 400 400 0\npage 0x10000\ndata 0x10000 2f7800\nexec 0x10000\npage 0x20000\n\
+                    at 0x20000 0x20ff0\ncall unlink 0x20000 = 0\nexit 0\nend\n";
+
+const EXEC_TEXT: &str =
+    "400 execve(\"/x\", NULL, NULL) = 0\n400 unlink(\"\") = 0\n400 exit(0) = ?\n\
+                         400 +++ exited with 0 +++\n";
+
+/// Whether a case prints a text on each schedule, with and without a filter.
+fn prints(
+    rt: &impl AllocGlobal,
+    file: &str,
+    follow: bool,
+    limit: u32,
+    shown: CallSet,
+    text: &str,
+) -> Result<bool, Fail> {
+    let case = Case::read(rt.alloc(), file.as_bytes())?;
+    for schedule in SCHEDULES {
+        for seccomp in [false, true] {
+            let config = Config {
+                follow,
+                seccomp,
+                workers: 2,
+                limit,
+                shown,
+            };
+            let printed = run_scheduled(rt.alloc(), &case, &config, schedule)?;
+            if printed.as_bytes() != text.as_bytes() {
+                return Ok(false);
+            }
+        }
+    }
+    Ok(true)
+}
+
+/// The same with every call shown, children followed and strings of 32 bytes.
+fn prints_all(rt: &impl AllocGlobal, file: &str, text: &str) -> Result<bool, Fail> {
+    prints(rt, file, true, 32, CallSet::all(), text)
+}
+
+#[test]
+fn a_case_without_rows_prints_nothing(rt: HostRuntime) -> Result<(), Fail> {
+    assert!(rt; prints_all(&rt, "", "")?);
+    Ok(())
+}
+
+#[test]
+fn each_schedule_prints_the_worked_case(rt: HostRuntime) -> Result<(), Fail> {
+    assert!(rt; prints_all(&rt, FORK, FORK_TEXT)?);
+    Ok(())
+}
+
+#[test]
+fn a_child_that_is_not_followed_is_not_printed(rt: HostRuntime) -> Result<(), Fail> {
+    let text =
+        "100 write(1, \"hi\\n\", 3) = 3\n100 fork() = 101\n100 exit(3) = ?\n100 +++ exited with 3 +++\n";
+    assert!(rt; prints(&rt, FORK, false, 32, CallSet::all(), text)?);
+    Ok(())
+}
+
+#[test]
+fn a_string_is_cut_at_the_limit(rt: HostRuntime) -> Result<(), Fail> {
+    let text = "100 write(1, \"hi\"..., 3) = 3\n100 fork() = 101\n100 exit(3) = ?\n\
+                100 +++ exited with 3 +++\n101 exit(0) = ?\n101 +++ exited with 0 +++\n";
+    assert!(rt; prints(&rt, FORK, true, 2, CallSet::all(), text)?);
+    Ok(())
+}
+
+#[test]
+fn calls_that_are_not_shown_are_not_printed(rt: HostRuntime) -> Result<(), Fail> {
+    let mut shown = CallSet::none();
+    // The number of write(2).
+    shown.add(1);
+    let text =
+        "100 write(1, \"hi\\n\", 3) = 3\n100 +++ exited with 3 +++\n101 +++ exited with 0 +++\n";
+    assert!(rt; prints(&rt, FORK, true, 32, shown, text)?);
+    Ok(())
+}
+
+#[test]
+fn a_leader_waits_for_its_thread(rt: HostRuntime) -> Result<(), Fail> {
+    assert!(rt; prints_all(&rt, THREAD, THREAD_TEXT)?);
+    Ok(())
+}
+
+#[test]
+fn a_signal_is_handed_over(rt: HostRuntime) -> Result<(), Fail> {
+    let deadly = "tracee 200 200 200 0\nsignal 15 deadly\nexit 0\nend\n";
+    let killed = "200 --- SIGTERM ---\n200 +++ killed by SIGTERM +++\n";
+    assert!(rt; prints_all(&rt, deadly, killed)?);
+    let handled = "tracee 200 200 200 0\nsignal 15\nexit 0\nend\n";
+    let exited = "200 --- SIGTERM ---\n200 exit(0) = ?\n200 +++ exited with 0 +++\n";
+    assert!(rt; prints_all(&rt, handled, exited)?);
+    Ok(())
+}
+
+#[test]
+fn bytes_are_printed_as_they_were_at_the_stops(rt: HostRuntime) -> Result<(), Fail> {
+    assert!(rt; prints_all(&rt, MEMORY, MEMORY_TEXT)?);
+    Ok(())
+}
+
+#[test]
+fn an_execve_is_printed_by_the_memory_before_it(rt: HostRuntime) -> Result<(), Fail> {
+    assert!(rt; prints_all(&rt, EXEC, EXEC_TEXT)?);
+    Ok(())
+}
+
+/// At least so many growths: the copies of the roster, the words, the folder's rows, the rows, and each row's image.
+const GROWTHS: u64 = 8;
+
+#[test]
+fn a_refused_growth_leaves_no_text(rt: HostRuntime) -> Result<(), Fail> {
+    let config = Config {
+        follow: true,
+        seccomp: false,
+        workers: 2,
+        limit: 32,
+        shown: CallSet::all(),
+    };
+    let mut refusals = 0u64;
+    for granted in 0..200 {
+        let heap = RefusingAllocator::new(rt.alloc(), granted);
+        let Ok(case) = Case::read(&heap, FORK.as_bytes()) else {
+            continue;
+        };
+        match run_scheduled(&heap, &case, &config, &[2, 0]) {
+            Ok(text) => assert!(rt; text.as_bytes() == FORK_TEXT.as_bytes(), "{granted}"),
+            Err(error) => {
+                assert_eq!(rt; error, RunError::NoMemory, "{granted}");
+                assert!(rt; heap.has_refused(), "{granted}");
+                refusals = refusals.wrapping_add(1);
+            }
+        }
+    }
+    assert!(rt; refusals >= GROWTHS, "{refusals}");
+    let heap = RefusingAllocator::new(rt.alloc(), 200);
+    let case = Case::read(&heap, FORK.as_bytes())?;
+    assert!(rt; run_scheduled(&heap, &case, &config, &[]).is_ok());
+    assert!(rt; !heap.has_refused());
+    Ok(())
+}
+
+#[test]
+fn errors_are_displayed_as_the_program_says_them(rt: HostRuntime) -> Result<(), Fail> {
+    let texts = [
+        (RunError::NoMemory, "tracer: no memory"),
+        (RunError::Lost, "tracer: lost stop"),
+        (RunError::Threads, "tracer: cannot start threads"),
+    ];
+    for (error, text) in texts {
+        assert_eq!(rt; format!(in rt.alloc(); "{error}")?.as_str(), text);
+    }
+    Ok(())
+}

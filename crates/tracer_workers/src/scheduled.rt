@@ -1,0 +1,457 @@
+//! Runs a case on a schedule, on one thread.
+//!
+//! An entry of the schedule is an actor: a row's tracee, or a worker after the tracees. A tracee's turn is its run from
+//! a restart to the next stop or the death; a worker's turn is a wait and the restart. A turn is whole, so a board keeps
+//! the cells, and nothing comes between the two halves of a turn.
+
+ghost use Rattle.std.specs.Prelude.{[], ◌≡◌, ◌<◌, ◌≤◌, ◌∷◌, ℕ, List, None, Some, true, false, IfOk, IsOkUnless, OnOk, length};
+ghost use Rattle.std.specs.Prelude.{◌+◌, IsErr, Ok, slice_get};
+ghost use Rattle.record_printer.specs.FolderAnswers.{lost, pieces_text, refusal};
+ghost use Rattle.record_printer.specs.Piece as pieces;
+ghost use Rattle.record_printer.specs.Represents.{Represents as HasCome};
+ghost use Rattle.stop_board.specs.Board.{Represents};
+ghost use Rattle.stop_history.specs.Event as event;
+ghost use Rattle.stop_history.specs.Event.{History};
+ghost use Rattle.stop_history.specs.Sequential.{exit_answer, publish_answer};
+ghost use Rattle.stop_history.specs.State.{last_number};
+ghost use Rattle.stop_history.specs.declared.limits.TheConstants.{LAST_NUMBER, TRACERS};
+ghost use Rattle.stop_table.specs.Entry.{Entry};
+ghost use Rattle.trace_record.specs.Content.{Content};
+ghost use Rattle.trace_record.specs.Death.{IsDeath};
+ghost use Rattle.trace_record.specs.Stop.{IsStop};
+ghost use Rattle.trace_script.specs.CaseFile.{CaseContent};
+ghost use Rattle.trace_script.specs.Machine.{IsAnswer};
+ghost use Rattle.trace_script.specs.StopTrace.{Position, context_of, next_element, next_position};
+ghost use Rattle.tracer_workers.specs.Config.{plain, text_of};
+ghost use Rattle.tracer_workers.specs.HistoryPieces.{stop_piece};
+ghost use Rattle.tracer_workers.specs.Scheduled.{IsOver, KeptRow, Moved, RunState, Stands};
+ghost use Rattle.tracer_workers.specs.Turn.{HasClaimed, HasDied, HasGone, HasHeld, HasRunOn, HasStopped, HasTurned, HasWorked, IsToRun};
+ghost use Rattle.tracer_workers.specs.Turn.{new_row, with_next, with_number};
+ghost use Rattle.tracer_workers.specs.declared.run_error.RunError.TheVariants as run_error;
+
+use crate::config::{Config, policy};
+use crate::laws::the_mode_changes_no_text;
+use crate::run_error::RunError;
+use record_printer::{FoldError, Folder, Piece, Show, Text, death_piece, piece_of};
+use std::alloc::{Allocator, Global};
+use std::marker::Model;
+use stop_board::Board;
+use stop_history::{Got, State};
+use trace_pages::NoMemory;
+use trace_record::{Death, Kind, Resume, StopRecord};
+use trace_script::{Case, Machine, Next};
+
+/// A tracee whose store faults dies by SIGSEGV (signal(7)).
+const FAULT_DEATH: Death = Death::Signaled {
+    signal: 11,
+    core: false,
+};
+
+/// What is kept of a row beside its stop cell: its thread id, the restart that it takes up next, the number and the
+/// record of its last stop, and the machine of its script.
+#[derive(Drop)]
+struct TracedRow<A: Allocator = Global> {
+    tid: u32,
+    how: Resume,
+    number: u32,
+    content: StopRecord<A>,
+    machine: Machine<A>,
+}
+
+impl<A: Allocator> Model for TracedRow<A> {
+    ghost use Rattle.std.specs.Coded.{codes};
+    ghost use Rattle.trace_pages.specs.FlatMemory.{flat_code};
+    ghost use Rattle.tracer_workers.specs.Scheduled.{KeptRow};
+
+    ghost Value = { KeptRow };
+
+    ghost coded = { Prim.hlevel (codes, flat_code) };
+
+    ghost view = { λ t. record {
+      tid = t.tid;
+      how = t.how;
+      number = t.number;
+      content = t.content;
+      position = t.machine;
+    } };
+}
+
+impl<A: Allocator + Copy> TracedRow<A> {
+    /// A row before its first stop.
+    fn new(alloc: A, case: &Case<A>, row: u32, config: &Config) -> Result<TracedRow<A>, NoMemory>
+        requires { row < length case.now.rows }
+        ensures { IfOk result (λ traced. traced ≡ new_row config.now case.now row) }
+    {
+        let tid = case.roster().row(row).tid;
+        let machine = Machine::new(alloc, case, row, config.options(), &config.filter())?;
+        Ok(TracedRow {
+            tid,
+            how: Resume {
+                kind: Kind::Cont,
+                signal: 0,
+            },
+            number: 0,
+            content: StopRecord::empty(alloc, tid),
+            machine,
+        })
+    }
+}
+
+/// A run of a case.
+#[derive(Drop)]
+struct Run<A: Allocator = Global> {
+    alloc: A,
+    config: Config,
+    board: Board<A>,
+    folder: Folder<A>,
+    rows: Vec<TracedRow<A>, A>,
+}
+
+impl<A: Allocator> Model for Run<A> {
+    ghost use Rattle.std.specs.Coded.{codes};
+    ghost use Rattle.trace_pages.specs.FlatMemory.{flat_code};
+    ghost use Rattle.tracer_workers.specs.Scheduled.{RunState};
+
+    ghost Value = { RunState };
+
+    ghost coded = { Prim.hlevel (codes, flat_code) };
+
+    ghost view = { λ r. record { config = r.config; board = r.board; folder = r.folder; rows = r.rows.items } };
+}
+
+/// Adds a piece that no folder refuses.
+fn add<A: Allocator + Copy>(folder: &mut Folder<A>, piece: Piece<A>) -> Result<(), NoMemory>
+    requires { (came : List pieces.Piece) × HasCome folder.old came
+        × (refusal folder.old.rows came piece ≡ None) }
+    ensures came { (came : List pieces.Piece) → HasCome folder.old came
+        → OnOk result (HasCome folder.new (piece ∷ came)) }
+    ensures rows { folder.new.rows ≡ folder.old.rows }
+{
+    match folder.add(piece) {
+        Ok(()) => Ok(()),
+        Err(FoldError::NoMemory) => Err(NoMemory),
+        Err(_) => unreachable!(),
+    }
+}
+
+/// The text of a folder in which nothing is lost.
+fn finish<A: Allocator + Copy>(folder: Folder<A>) -> Result<Text<A>, NoMemory>
+    requires { (came : List pieces.Piece) × HasCome folder came × (lost folder.rows came ≡ None) }
+    ensures { (came : List pieces.Piece) → HasCome folder came
+        → IfOk result (λ text. text ≡ pieces_text folder.rows came) }
+{
+    match folder.finish() {
+        Ok(text) => Ok(text),
+        Err(FoldError::NoMemory) => Err(NoMemory),
+        Err(_) => unreachable!(),
+    }
+}
+
+/// Publishes the stop in the record of a row, and adds its piece.
+fn publish_stop<A: Allocator + Copy>(
+    alloc: A,
+    board: &mut Board<A>,
+    folder: &mut Folder<A>,
+    traced: &mut TracedRow<A>,
+    row: u32,
+    show: &Show,
+) -> Result<(), NoMemory>
+    requires number { traced.old.content.number ≤ LAST_NUMBER }
+    requires stop { IsStop traced.old.content.stop }
+    requires answer { (h : History) × Represents board.old h
+        × (publish_answer board.old.rows h row traced.old.content.stop ≡ Ok (last_number h row + 1)) }
+    requires taken { (came : List pieces.Piece) × HasCome folder.old came
+        × (refusal folder.old.rows came (stop_piece show.now traced.old.content) ≡ None) }
+    ensures made { (h : History) → Represents board.old h →
+        publish_answer board.old.rows h row traced.old.content.stop ≡ Ok (last_number h row + 1) →
+        OnOk result (Represents board.new (event.Publish row (last_number h row + 1) traced.old.content.stop ∷ h)
+        × (traced.new ≡ with_number traced.old (last_number h row + 1))) }
+    ensures came { (came : List pieces.Piece) → HasCome folder.old came →
+        OnOk result (HasCome folder.new (stop_piece show.now traced.old.content ∷ came)) }
+    ensures rows { (board.new.rows ≡ board.old.rows) × (folder.new.rows ≡ folder.old.rows) }
+{
+    let piece = piece_of(alloc, &traced.content, show)?;
+    let Ok(number) = board.publish(row, traced.content.stop) else {
+        unreachable!()
+    };
+    traced.number = number;
+    add(folder, piece)
+}
+
+/// Ends a row and adds the piece of its death, unless another row of its group holds it back; whether it has ended.
+fn end_row<A: Allocator + Copy>(
+    board: &mut Board<A>,
+    folder: &mut Folder<A>,
+    traced: &TracedRow<A>,
+    row: u32,
+    death: Death,
+) -> Result<bool, NoMemory>
+    requires number { traced.now.number ≤ LAST_NUMBER }
+    requires death { IsDeath death }
+    requires taken { (came : List pieces.Piece) × HasCome folder.old came
+        × (refusal folder.old.rows came (pieces.Died traced.now.tid traced.now.number death) ≡ None) }
+    ensures ended { (h : History) → Represents board.old h → IfOk result (λ ended. ended ≡ true →
+        (exit_answer board.old.rows h row ≡ Ok tt) × Represents board.new (event.Exit row death ∷ h)) }
+    ensures came { (came : List pieces.Piece) → HasCome folder.old came → IfOk result (λ ended. ended ≡ true →
+        HasCome folder.new (pieces.Died traced.now.tid traced.now.number death ∷ came)) }
+    ensures held { (h : History) → Represents board.old h → IfOk result (λ ended. ended ≡ false →
+        (IsErr (exit_answer board.old.rows h row)) × (board.new ≡ board.old) × (folder.new ≡ folder.old)) }
+    ensures rows { (board.new.rows ≡ board.old.rows) × (folder.new.rows ≡ folder.old.rows) }
+{
+    if board.exit(row, death).is_err() {
+        return Ok(false);
+    }
+    add(folder, death_piece(traced.tid, traced.number, death))?;
+    Ok(true)
+}
+
+impl<A: Allocator> TracedRow<A> {
+    /// Runs the tracee on, to its next stop or its death.
+    fn run_on(&mut self) -> Next
+        ensures { (content : Content) × (at : Position)
+            × IsAnswer (next_element self.old.position self.old.how (context_of self.old.content)) result
+            self.old.content content
+            × (at ≡ next_position self.old.position self.old.how (context_of self.old.content))
+            × (self.new ≡ with_next self.old content at) }
+    {
+        self.machine.next(self.how, &mut self.content)
+    }
+}
+
+impl<A: Allocator + Copy> Run<A> {
+    /// Runs the tracee of a row on.
+    fn run_on(&mut self, row: u32) -> Next
+        requires { row < length self.old.rows }
+        ensures { HasRunOn self.old self.new row result }
+    {
+        self.rows[row as usize].run_on()
+    }
+
+    /// Publishes the stop to which a row has come.
+    fn publish(&mut self, row: u32) -> Result<(), NoMemory>
+        requires { (content : CaseContent) × (h : List Entry) × (c : Content) × HasStopped content self.old h row c }
+        ensures moved { (content : CaseContent) (h : List Entry) (c : Content) → HasStopped content self.old h row c →
+            OnOk result (Moved content self.old self.new h) }
+        ensures config { self.new.config ≡ self.old.config }
+    {
+        let show = self.config.show();
+        let traced = &mut self.rows[row as usize];
+        publish_stop(
+            self.alloc,
+            &mut self.board,
+            &mut self.folder,
+            traced,
+            row,
+            &show,
+        )?;
+        Ok(())
+    }
+
+    /// Ends a row that has come to its death, unless another row of its group holds it back; whether it has ended.
+    fn exit(&mut self, row: u32, death: Death) -> Result<bool, NoMemory>
+        requires { (content : CaseContent) × (h : List Entry) × HasDied content self.old h row death }
+        ensures turned { (content : CaseContent) (h : List Entry) → HasDied content self.old h row death →
+            IfOk result (λ ended. HasTurned content self.old self.new h row ended) }
+        ensures config { self.new.config ≡ self.old.config }
+    {
+        let traced = &self.rows[row as usize];
+        let ended = end_row(&mut self.board, &mut self.folder, traced, row, death)?;
+        Ok(ended)
+    }
+
+    /// Runs the tracee of a running row to its next stop, or to its death. The death of a leader waits for its threads.
+    fn running_turn(&mut self, row: u32) -> Result<bool, NoMemory>
+        requires { (content : CaseContent) × (h : List Entry) × IsToRun content self.old h row }
+        ensures turned { (content : CaseContent) (h : List Entry) → IsToRun content self.old h row →
+            IfOk result (λ moved. HasTurned content self.old self.new h row moved) }
+        ensures config { self.new.config ≡ self.old.config }
+    {
+        match self.run_on(row) {
+            Next::Stop => {
+                self.publish(row)?;
+                Ok(true)
+            }
+            Next::Death(death) => self.exit(row, death),
+            Next::Fault(_) => self.exit(row, FAULT_DEATH),
+        }
+    }
+
+    /// The turn of a tracee, which does nothing where its row does not run; whether an event came of it.
+    fn tracee_turn(&mut self, row: u32) -> Result<bool, NoMemory>
+        requires { (content : CaseContent) × (h : List Entry) × Stands content self.old h
+            × (row < length content.rows) }
+        ensures turned { (content : CaseContent) (h : List Entry) → Stands content self.old h →
+            row < length content.rows → IfOk result (λ moved. HasTurned content self.old self.new h row moved) }
+        ensures config { self.new.config ≡ self.old.config }
+    {
+        match self.board.state(row) {
+            State::Running => self.running_turn(row),
+            _ => Ok(false),
+        }
+    }
+
+    /// Claims what waits in a row, and restarts the row where it is a stop; whether something waited.
+    fn claim(&mut self, row: u32, tracer: u32) -> bool
+        requires low { tracer < TRACERS }
+        requires stands { (content : CaseContent) × (h : List Entry) × Stands content self.old h
+            × (row < length content.rows) }
+        ensures claimed { (content : CaseContent) (h : List Entry) → Stands content self.old h →
+            row < length content.rows → HasClaimed content self.old self.new h row result }
+        ensures config { self.new.config ≡ self.old.config }
+    {
+        match self.board.claim(row, tracer) {
+            Err(_) => false,
+            Ok(Got::Ended(_, _)) => true,
+            Ok(Got::Stop(_, _)) => {
+                self.restart(row, tracer);
+                true
+            }
+        }
+    }
+
+    /// Restarts a row that a tracer has claimed.
+    fn restart(&mut self, row: u32, tracer: u32)
+        requires { (content : CaseContent) × (h : List Entry) × HasHeld content self.old h row tracer }
+        ensures restarted { (content : CaseContent) (h : List Entry) → HasHeld content self.old h row tracer →
+            Moved content self.old self.new h }
+        ensures config { self.new.config ≡ self.old.config }
+    {
+        let traced = &mut self.rows[row as usize];
+        let how = policy(&traced.content, &self.config);
+        let Ok(()) = self.board.resume(row, tracer, how) else {
+            unreachable!()
+        };
+        traced.how = how;
+    }
+
+    /// The turn of a worker: it claims what waits in the first row in which something does; whether something did.
+    fn worker_turn(&mut self, tracer: u32) -> bool
+        requires low { tracer < TRACERS }
+        requires stands { (content : CaseContent) × (h : List Entry) × Stands content self.old h }
+        ensures worked { (content : CaseContent) (h : List Entry) → Stands content self.old h →
+            HasWorked content self.old self.new h result }
+        ensures config { self.new.config ≡ self.old.config }
+    {
+        for row in 0..self.rows.len() as u32 {
+            if self.claim(row, tracer) {
+                return true;
+            }
+        }
+        false
+    }
+
+    /// The turns of all tracees, and one of worker 0; whether an event came of them.
+    fn round(&mut self) -> Result<bool, NoMemory>
+        requires { (content : CaseContent) × (h : List Entry) × Stands content self.old h }
+        ensures gone { (content : CaseContent) (h : List Entry) → Stands content self.old h →
+            IfOk result (λ moved. HasGone content self.old self.new h moved) }
+        ensures config { self.new.config ≡ self.old.config }
+    {
+        let mut moved = false;
+        for row in 0..self.rows.len() as u32 {
+            moved |= self.tracee_turn(row)?;
+        }
+        moved |= self.worker_turn(0);
+        Ok(moved)
+    }
+
+    /// The turn of an actor: of a row's tracee, or of a worker, which come after the tracees. Others have no turn.
+    fn turn(&mut self, actor: u32) -> Result<(), NoMemory>
+        requires workers { self.old.config.workers ≤ TRACERS }
+        requires stands { (content : CaseContent) × (h : List Entry) × Stands content self.old h }
+        ensures gone { (content : CaseContent) (h : List Entry) → Stands content self.old h →
+            OnOk result ((later : List Entry) × Stands content self.new later) }
+        ensures config { self.new.config ≡ self.old.config }
+    {
+        let rows = self.rows.len() as u32;
+        if actor < rows {
+            let _moved = self.tracee_turn(actor)?;
+        } else if actor - rows < self.config.workers {
+            let _worked = self.worker_turn(actor - rows);
+        }
+        Ok(())
+    }
+
+    /// Rounds, until no event comes of one.
+    fn rounds(&mut self) -> Result<(), NoMemory>
+        requires { (content : CaseContent) × (h : List Entry) × Stands content self.old h }
+        ensures over { (content : CaseContent) (h : List Entry) → Stands content self.old h →
+            OnOk result ((later : List Entry) × Stands content self.new later × IsOver content later) }
+        ensures config { self.new.config ≡ self.old.config }
+    {
+        let mut moved = true;
+        while moved {
+            moved = self.round()?;
+        }
+        Ok(())
+    }
+
+    /// The text of a run that is over.
+    fn finish(self) -> Result<Text<A>, NoMemory>
+        requires { (content : CaseContent) × (h : List Entry) × Stands content self h × IsOver content h }
+        ensures { (content : CaseContent) (h : List Entry) → Stands content self h → IsOver content h →
+            IfOk result (λ text. text ≡ text_of self.config content) }
+    {
+        finish(self.folder)
+    }
+}
+
+/// What is kept of the rows of a case before any stop.
+fn new_rows<A: Allocator + Copy>(
+    alloc: A,
+    case: &Case<A>,
+    config: &Config,
+) -> Result<Vec<TracedRow<A>, A>, NoMemory>
+    ensures long { IfOk result (λ rows. length rows.items ≡ length case.now.rows) }
+    ensures each { IfOk result (λ rows. (row : ℕ) (k : KeptRow) → slice_get rows.items row ≡ Some k →
+        k ≡ new_row config.now case.now row) }
+{
+    let mut rows = Vec::new(alloc);
+    for row in 0..case.roster().len() {
+        rows.push(TracedRow::new(alloc, case, row, config)?)?;
+    }
+    Ok(rows)
+}
+
+/// A run of a case before any event.
+fn new_run<A: Allocator + Copy>(
+    alloc: A,
+    case: &Case<A>,
+    config: &Config,
+) -> Result<Run<A>, NoMemory>
+    ensures stands { IfOk result (λ run. Stands case.now run []) }
+    ensures config { IfOk result (λ run. run.config ≡ config.now) }
+{
+    let board = Board::new(alloc, case.roster())?;
+    let folder = Folder::new(alloc, case.roster())?;
+    let rows = new_rows(alloc, case, config)?;
+    Ok(Run {
+        alloc,
+        config: *config,
+        board,
+        folder,
+        rows,
+    })
+}
+
+/// Runs a case on one thread and prints it, first by the turns of a schedule, then by rounds of turns until each row has
+/// been reaped or will never be born. The text does not depend on the schedule, the number of workers or the filter.
+/// `NoMemory` where a growth is refused; no other error comes.
+pub fn run_scheduled<A: Allocator + Copy>(
+    alloc: A,
+    case: &Case<A>,
+    config: &Config,
+    schedule: &[u32],
+) -> Result<Text<A>, RunError>
+    requires { (1 ≤ config.now.workers) × (config.now.workers ≤ TRACERS) }
+    ensures text { IfOk result (λ text. text ≡ text_of (plain config.now) case.now) }
+    ensures accepted { IsOkUnless result run_error.NoMemory }
+{
+    the_mode_changes_no_text();
+    let mut run = new_run(alloc, case, config)?;
+    for actor in schedule {
+        run.turn(*actor)?;
+    }
+    run.rounds()?;
+    Ok(run.finish()?)
+}

@@ -1,6 +1,6 @@
 -- A worker's turn: a death is reaped, a stop is claimed and its row restarted, or nothing waits.
 use Rattle.std.proofs.Common.{refl, ◌≡◌, ◌<◌, ◌≤◌, ◌∷◌, [], ℕ, Bool, true, false, List, Some, length, inl, inr}
-use Rattle.std.proofs.Common.{Result, Ok, Err, lt-ltb, ◌∙◌, sym, ap, subst, arith, slice_get, if◌then◌else◌}
+use Rattle.std.proofs.Common.{Result, Ok, Err, lt-ltb, eq-eqb, ◌∙◌, sym, ap, subst, arith, slice_get, if◌then◌else◌}
 use Rattle.std.proofs.lemmas.Bool.{cases_eq}
 use Rattle.trace_options.specs.Calls.{Calls}
 use Rattle.trace_options.specs.declared.signal.TheConstants.{LAST_SIGNAL}
@@ -17,8 +17,8 @@ use Rattle.stop_history.specs.declared.state.State.TheVariants as state
 use Rattle.stop_history.specs.declared.got.Got.{Got}
 use Rattle.stop_history.specs.declared.got.Got.TheVariants as got
 use Rattle.stop_history.specs.declared.refused.Refused.{Refused}
-use Rattle.stop_history.specs.Sequential.{claim_answer, claim_by, claim_state, goes_on}
-use Rattle.stop_board.specs.Board.{Represents}
+use Rattle.stop_history.specs.Sequential.{claim_answer, claim_by, claim_state, goes_on, resume_answer, resume_by}
+use Rattle.tracer_workers.specs.Scheduled.{CameTo}
 use Rattle.stop_history.specs.Event as event
 use Rattle.stop_history.specs.Event.{Event, events_of, subject}
 use Rattle.stop_history.specs.Ranges.{IsInRange}
@@ -109,7 +109,7 @@ module _ (content : CaseContent) (run new : RunState) (h : List Entry) (row trac
         fewer_left content run new h x stands.0 goes (last_most content run h row stands.0 within),
       )
 
--- ---- what the board answers to a claim
+-- ---- what the World answers to a claim
 
 waits_as_stop : (at : State) (number status : ℕ) → claim_state at ≡ Ok (got.Stop number status)
     → at ≡ state.Stopped number status
@@ -150,12 +150,12 @@ GotLeaves content run new h row tracer (got.Ended number status) = Moved content
 
 module _ (content : CaseContent) (run new : RunState) (h : List Entry) (row tracer : ℕ)
     (stands : Stands content run h) (within : row < length content.rows) (low : tracer < TRACERS)
-    (result : Result Got Refused) (answer : result ≡ claim_answer run.board.rows (history_of h) row tracer) where
+    (result : Result Got Refused) (answer : result ≡ claim_answer run.world.rows (history_of h) row tracer) where
   told : claim_state (state_after content.rows (history_of h) row) ≡ result
   told =
       let by_state : claim_by tracer (state_after content.rows (history_of h) row)
       ≡ claim_state (state_after content.rows (history_of h) row) = rw (lt-ltb tracer TRACERS low) refl in
-      sym by_state ∙ ap (λ rows. claim_answer rows (history_of h) row tracer) (sym stands.0.board_rows) ∙ sym answer
+      sym by_state ∙ ap (λ rows. claim_answer rows (history_of h) row tracer) (sym stands.0.world_rows) ∙ sym answer
 
   pub claim_finds_none : (refusal : Refused) → result ≡ Err refusal
       → is_waitable (state_after content.rows (history_of h) row) ≡ false
@@ -170,21 +170,25 @@ module _ (content : CaseContent) (run new : RunState) (h : List Entry) (row trac
       (waits_as_death (state_after content.rows (history_of h) row) number status (told ∙ is))
 
   pub claim_gets : new.config ≡ run.config
-      → Represents new.board (goes_on result (event.Claim row (last_number (history_of h) row) tracer) (history_of h))
-      → new.board.rows ≡ run.board.rows → new.folder ≡ run.folder → new.rows ≡ run.rows
+      → CameTo new.world (goes_on result (event.Claim row (last_number (history_of h) row) tracer) (history_of h))
+      → new.world.rows ≡ run.world.rows → new.folder ≡ run.folder → new.rows ≡ run.rows
       → (got : Got) → result ≡ Ok got → GotLeaves content run new h row tracer got
-  claim_gets config board board_rows folder rows got is =
+  claim_gets config world world_rows folder rows got is =
       let p : Claimed content run new h row tracer = record {
         config = config;
-        board = subst (λ r. Represents new.board
-            (goes_on r (event.Claim row (last_number (history_of h) row) tracer) (history_of h))) is board;
-        board_rows = board_rows;
+        world = subst (λ r. CameTo new.world
+            (goes_on r (event.Claim row (last_number (history_of h) row) tracer) (history_of h))) is world;
+        world_rows = world_rows;
         folder = folder;
         rows = rows;
       } in
       got_leaves got is p
 
 -- ---- the restart
+
+resume_by_ok : (tracer : ℕ) (at : State) (number : ℕ) → tracer < TRACERS → at ≡ state.Claimed number tracer
+    → resume_by tracer at ≡ Ok tt
+resume_by_ok tracer at number low is = rw (is, lt-ltb tracer TRACERS low, eq-eqb tracer tracer refl) refl
 
 module _ (content : CaseContent) (run : RunState) (h : List Entry) (row tracer : ℕ)
     (s : HasHeld content run h row tracer) where
@@ -195,6 +199,12 @@ module _ (content : CaseContent) (run : RunState) (h : List Entry) (row tracer :
       let rest : IsAtRest plan h row k = subst (λ q. IsKeptAt q plan h row k) s.phase (s.made.each row k there).kept in
       mode_in_range run.config.seccomp run.config.shown k.content
       (subst (λ (c : Content). IsStop c.stop) (sym rest.content) (last_stop content.rows h s.made.legal row))
+
+  -- and the World takes it
+  pub restart_taken : resume_answer run.world.rows (history_of h) row tracer ≡ Ok tt
+  restart_taken =
+      ap (λ rows. resume_answer rows (history_of h) row tracer) s.made.world_rows
+      ∙ resume_by_ok tracer (state_after content.rows (history_of h) row) (last_number (history_of h) row) s.low s.held
 
   pub restart_moves : (new : RunState) (how : Restart) (k : KeptRow) → slice_get run.rows row ≡ Some k
       → how ≡ policy_of run.config k.content → Resumed content run new h row tracer how → Moved content run new h

@@ -1,5 +1,5 @@
 -- Each entry of a run leaves fewer events.
-use Rattle.std.proofs.Common.{refl, ◌≡◌, ◌≢◌, ◌<◌, ◌≤◌, ◌∷◌, [], ℕ, zero, suc, Bool, true, false, List, Some}
+use Rattle.std.proofs.Common.{◌*◌, ◌-◌, ◌+◌, refl, ◌≡◌, ◌≢◌, ◌<◌, ◌≤◌, ◌∷◌, [], ℕ, zero, suc, Bool, true, false, List, Some}
 use Rattle.std.proofs.Common.{length, inl, inr, ◌∙◌, sym, ap, subst, arith, slice_get, slice_index_or}
 use Rattle.std.proofs.lemmas.Bool.{cases_eq}
 use Rattle.stop_history.specs.declared.roster.Row.{Row}
@@ -7,7 +7,7 @@ use Rattle.stop_history.specs.declared.state.State.TheVariants as state
 use Rattle.stop_history.specs.Event as event
 use Rattle.stop_history.specs.Event.{Event, History, events_of, subject}
 use Rattle.stop_history.specs.History.{Fits}
-use Rattle.stop_history.specs.Standing.{none_taken}
+use Rattle.stop_board.specs.World.{Contents}
 use Rattle.stop_history.specs.State.{claimed_state, is_born, is_waitable, number_in, state_in}
 use Rattle.stop_history.specs.Word.{claimed_phase, opening, phase_in, word_after, word_at, word_in}
 use Rattle.stop_history.proofs.Events.{other_events, own_events}
@@ -15,7 +15,7 @@ use Rattle.stop_history.proofs.States.{claim_is_none, fits_within, state_within}
 use Rattle.stop_table.specs.Entry.{Entry, history_of}
 use Rattle.trace_script.specs.CaseFile.{CaseContent}
 use Rattle.tracer_workers.proofs.AfterClaim.{not_by_claim}
-use Rattle.tracer_workers.specs.Scheduled.{HasMade, RunState, events_left, most_stops, run_left, steps_left, total}
+use Rattle.tracer_workers.specs.Scheduled.{CameTo, HasMade, RunState, events_left, most_stops, run_left, steps_left, total}
 use Rattle.tracer_workers.proofs.Made.{GoesOnBy}
 
 -- ---- one row
@@ -105,33 +105,58 @@ index_of_get [] i other x is = cc
 index_of_get (y ∷ xs) zero other x is = cc
 index_of_get (y ∷ xs) (suc i) other x is = index_of_get xs i other x is
 
+-- a row that its tracee has taken up runs
+taken_left : (born taken : Bool) (es : List Event) → (taken ≡ true → state_in born es ≡ state.Running)
+    → events_left (word_in taken es) ≡ events_left (word_in false es)
+taken_left born true es up =
+    let two = runs_left born es (up refl) in ap (λ n. 3 * (most_stops - number_in es) + n) (sym two)
+taken_left born false es up = refl
+
+-- the history alone says how many events of a row are left
+came_left : (world : Contents) (h : History) (row : ℕ) → CameTo world h → row < length world.rows
+    → events_left (word_at world.words row) ≡ events_left (word_in false (events_of row h))
+came_left world h row came within =
+    let m = came.moment in
+    let at = came.stands.0 in
+    ap events_left (index_of_get world.words row opening (word_after m.taken m.history row) (at.held row within))
+    ∙ taken_left (is_born world.rows m.history row) (m.taken row) (events_of row m.history)
+    (λ taken. sym (state_within world.rows m.history row within) ∙ at.up row taken)
+    ∙ ap (λ g. events_left (word_in false (events_of row g))) came.history
+
+pub same_left : (run new : RunState) (h : History) → CameTo run.world h → CameTo new.world h
+    → new.world.rows ≡ run.world.rows → run_left new ≡ run_left run
+same_left run new h before after rows =
+    let long : length new.world.rows ≡ length run.world.rows = ap length rows in
+    total_same (λ r. events_left (word_at new.world.words r)) (λ r. events_left (word_at run.world.words r))
+    (length new.world.rows)
+    (λ r low. came_left new.world h r after low ∙ sym (came_left run.world h r before (omega (arith, low, long))))
+    ∙ ap (total (λ r. events_left (word_at run.world.words r))) long
+
 pub fewer_left : (content : CaseContent) (run new : RunState) (h : List Entry) (x : Entry) → HasMade content run h
     → GoesOnBy content run new h x
     → number_in (x.event ∷ events_of (subject x.event) (history_of h)) ≤ most_stops
     → run_left new < run_left run
 fewer_left content run new h x made on few =
+    let long : length run.world.rows ≡ length content.rows = ap length made.world_rows in
+    let new_long : length new.world.rows ≡ length content.rows = ap length (on.world_rows ∙ made.world_rows) in
     let before : (row : ℕ) → row < length content.rows
-    → word_at run.board.words row ≡ word_in false (events_of row (history_of h)) =
-    λ row within. index_of_get run.board.words row opening (word_after none_taken (history_of h) row)
-    (made.board.held row (subst (λ (rows : List Row). row < length rows) (sym made.board_rows) within)) in
+    → events_left (word_at run.world.words row) ≡ events_left (word_in false (events_of row (history_of h))) =
+    λ row within. came_left run.world (history_of h) row made.world (omega (arith, within, long)) in
     let after : (row : ℕ) → row < length content.rows
-    → word_at new.board.words row ≡ word_in false (events_of row (x.event ∷ history_of h)) =
-    λ row within. index_of_get new.board.words row opening (word_after none_taken (x.event ∷ history_of h) row)
-    (on.board.held row (subst (λ (rows : List Row). row < length rows) (sym (on.board_rows ∙ made.board_rows)) within)) in
+    → events_left (word_at new.world.words row) ≡ events_left (word_in false (events_of row (x.event ∷ history_of h))) =
+    λ row within. came_left new.world (x.event ∷ history_of h) row on.world (omega (arith, within, new_long)) in
     let row = subject x.event in
     let within = fits_within content.rows (history_of h) x.event on.fits in
-    let here : word_at new.board.words row ≡ word_in false (x.event ∷ events_of row (history_of h)) =
-    after row within ∙ ap (word_in false) (own_events row x.event (history_of h) refl) in
-    let less : events_left (word_at new.board.words row) < events_left (word_at run.board.words row) =
-    subst (λ w. events_left w < events_left (word_at run.board.words row)) (sym here)
-    (subst (λ w. events_left (word_in false (x.event ∷ events_of row (history_of h))) < events_left w) (sym (before row within))
+    let here : events_left (word_at new.world.words row) ≡ events_left (word_in false (x.event ∷ events_of row (history_of h))) =
+    after row within ∙ ap (λ es. events_left (word_in false es)) (own_events row x.event (history_of h) refl) in
+    let less : events_left (word_at new.world.words row) < events_left (word_at run.world.words row) =
+    subst (λ n. n < events_left (word_at run.world.words row)) (sym here)
+    (subst (λ n. events_left (word_in false (x.event ∷ events_of row (history_of h))) < n) (sym (before row within))
     (own_fewer content.rows (history_of h) x.event on.fits few)) in
-    let all = total_less (λ r. events_left (word_at new.board.words r)) (λ r. events_left (word_at run.board.words r))
+    let all = total_less (λ r. events_left (word_at new.world.words r)) (λ r. events_left (word_at run.world.words r))
     (length content.rows) row within less
-    (λ r low apart. ap events_left (after r low ∙ ap (word_in false)
-    (other_events r x.event (history_of h) (λ is. apart (sym is))) ∙ sym (before r low))) in
-    let long : length run.board.rows ≡ length content.rows = ap length made.board_rows in
-    let new_long : length new.board.rows ≡ length content.rows = ap length (on.board_rows ∙ made.board_rows) in
-    subst (λ n. total (λ r. events_left (word_at new.board.words r)) n < run_left run) (sym new_long)
-    (subst (λ n. total (λ r. events_left (word_at new.board.words r)) (length content.rows)
-    < total (λ r. events_left (word_at run.board.words r)) n) (sym long) all)
+    (λ r low apart. after r low ∙ ap (λ es. events_left (word_in false es))
+    (other_events r x.event (history_of h) (λ is. apart (sym is))) ∙ sym (before r low)) in
+    subst (λ n. total (λ r. events_left (word_at new.world.words r)) n < run_left run) (sym new_long)
+    (subst (λ n. total (λ r. events_left (word_at new.world.words r)) (length content.rows)
+    < total (λ r. events_left (word_at run.world.words r)) n) (sym long) all)

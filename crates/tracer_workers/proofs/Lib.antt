@@ -8,6 +8,7 @@ pub mod FittingCases
 pub mod Left
 pub mod Made
 pub mod ModeText
+pub mod OneThread
 pub mod Rounds
 pub mod RowPieces
 pub mod RunEnd

@@ -1,9 +1,9 @@
--- A run goes on by one entry: what is kept of the other rows stays, and what the board, the folder and the row of the
+-- A run goes on by one entry: what is kept of the other rows stays, and what the World, the folder and the row of the
 -- entry came to is its part of the longer history.
 use Rattle.std.proofs.Common.{refl, ◌≡◌, ◌≢◌, ◌∷◌, ℕ, false, List, Some, length, inl, inr, ◌∙◌, sym, ap, subst, slice_get}
 use Rattle.std.proofs.lemmas.Bool.{cases_eq}
 use Rattle.record_printer.specs.Represents.{Represents as HasCome}
-use Rattle.stop_board.specs.Board.{Represents}
+use Rattle.tracer_workers.specs.Scheduled.{CameTo}
 use Rattle.stop_history.specs.declared.phase.Phase.{Phase}
 use Rattle.stop_history.specs.declared.phase.Phase.TheVariants as phase
 use Rattle.stop_history.specs.declared.roster.Row.{Row}
@@ -66,8 +66,8 @@ module _ (plan : Plan) (h later : List Entry) (row : ℕ) (k : KeptRow)
 -- what an entry of a run comes to
 pub record GoesOnBy (content : CaseContent) (run new : RunState) (h : List Entry) (x : Entry) : Type 0 where
   pub config : new.config ≡ run.config
-  pub board : Represents new.board (x.event ∷ history_of h)
-  pub board_rows : new.board.rows ≡ run.board.rows
+  pub world : CameTo new.world (x.event ∷ history_of h)
+  pub world_rows : new.world.rows ≡ run.world.rows
   pub folder : HasCome new.folder (pieces_of (show_of run.config) content.rows (x ∷ h))
   pub folder_rows : new.folder.rows ≡ run.folder.rows
   pub fits : Fits content.rows (history_of h) x.event
@@ -87,8 +87,8 @@ made_with : (content : CaseContent) (run new : RunState) (h : List Entry) (x : E
     → HasMade content (record new { config = run.config }) (x ∷ h)
 made_with content run new h x made on = record {
   known = made.known;
-  board = on.board;
-  board_rows = on.board_rows ∙ made.board_rows;
+  world = on.world;
+  world_rows = on.world_rows ∙ made.world_rows;
   folder = on.folder;
   folder_rows = on.folder_rows ∙ made.folder_rows;
   legal = ((on.fits, on.in_range, on.carried), made.legal);

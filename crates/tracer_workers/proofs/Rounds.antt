@@ -1,11 +1,12 @@
 -- Turns one after the other: events come of them, or none, and then the run is over.
 use Rattle.std.proofs.Common.{refl, ◌≡◌, ◌⊎◌, ◌||◌, ◌<◌, ◌≤◌, ◌+◌, ℕ, Bool, true, false, List, length, ◌∙◌, sym, ap, subst, arith}
-use Rattle.std.proofs.Common.{[], ◌∷◌, ◌++◌, zero, suc, Some, slice_get, inl, inr, Result, Ok, Err, IfOk}
+use Rattle.std.proofs.Common.{[], ◌∷◌, ◌++◌, zero, suc, Some, slice_get, inl, inr, Result, Ok, Err, IfOk, OnOk}
 use Rattle.std.proofs.lemmas.Bool.{cases_eq}
 use Rattle.stop_history.specs.Word.{word_at}
-use Rattle.stop_board.specs.Board.{Represents}
+use Rattle.tracer_workers.specs.Scheduled.{CameTo}
 use Rattle.record_printer.specs.Represents.{Represents as HasCome}
-use Rattle.stop_table.specs.Entry.{Entry}
+use Rattle.stop_board.specs.World.{Contents}
+use Rattle.stop_table.specs.Entry.{Entry, history_of}
 use Rattle.trace_script.specs.CaseFacts.{IsCase}
 use Rattle.trace_script.specs.CaseFile.{CaseContent}
 use Rattle.tracer_workers.specs.Config.{plan_of}
@@ -13,29 +14,51 @@ use Rattle.tracer_workers.specs.Scheduled.{IsHeldOrIdle, IsKept, IsOver, KeptRow
 use Rattle.tracer_workers.specs.Turn.{HasGone, HasSwept, HasTurned, HasWorked, new_row}
 use Rattle.tracer_workers.proofs.RunEnd.{run_over}
 
--- the cells alone say how many events are left
-left_same : (run new : RunState) → new.board ≡ run.board → run_left new ≡ run_left run
-left_same run new same = ap (λ b. total (λ row. events_left (word_at b.words row)) (length b.rows)) same
+-- the World alone says how many events are left
+pub left_same : (run new : RunState) → new.world ≡ run.world → run_left new ≡ run_left run
+left_same run new same = ap (λ w. total (λ row. events_left (word_at w.words row)) (length w.rows)) same
 
 pub moved_on : (content : CaseContent) (run mid new : RunState) (h later : List Entry) → run_left mid ≤ run_left run
     → Moved content mid new later → Moved content run new h
 moved_on content run mid new h later fewer moved =
     let less = moved.2 in (moved.0, moved.1, omega (arith, fewer, less))
 
-pub moved_from : (content : CaseContent) (run mid new : RunState) (h : List Entry) → mid.board ≡ run.board
+pub moved_from : (content : CaseContent) (run mid new : RunState) (h : List Entry) → run_left mid ≡ run_left run
     → Moved content mid new h → Moved content run new h
-moved_from content run mid new h same moved =
-    let left = left_same run mid same in moved_on content run mid new h h (omega (arith, left)) moved
+moved_from content run mid new h left moved = moved_on content run mid new h h (omega (arith, left)) moved
 
 -- a turn tells nothing of what its tracee had done before it in the same turn
 pub turned_from : (content : CaseContent) (run mid new : RunState) (h : List Entry) (row : ℕ) (moved : Bool)
-    → mid.board ≡ run.board → HasTurned content mid new h row moved → HasTurned content run new h row moved
+    → run_left mid ≡ run_left run → HasTurned content mid new h row moved → HasTurned content run new h row moved
 turned_from content run mid new h row true same turned = moved_from content run mid new h same turned
 turned_from content run mid new h row false same turned = (turned.0, turned.1 ∙ same, turned.2)
 
 pub if_ok : {A E : Type 0} {P Q : A → Type 0} (r : Result A E) → ((a : A) → P a → Q a) → IfOk r P → IfOk r Q
 if_ok (Ok a) to is = to a is
 if_ok (Err e) to is = is
+
+pub on_ok : {A E P : Type 0} (r : Result A E) → P → OnOk r P
+on_ok (Ok a) p = p
+on_ok (Err e) p = tt
+
+-- the World may have let a row be taken up, or a tracer look
+pub stands_over : (content : CaseContent) (run : RunState) (world : Contents) (h : List Entry) → Stands content run h
+    → CameTo world (history_of h) → world.rows ≡ run.world.rows → Stands content (record run { world = world }) h
+stands_over content run world h stands came rows =
+    let made = stands.0 in (
+      record {
+        known = made.known;
+        world = came;
+        world_rows = rows ∙ made.world_rows;
+        folder = made.folder;
+        folder_rows = made.folder_rows;
+        legal = made.legal;
+        driven = made.driven;
+        long = made.long;
+        each = made.each;
+      },
+      stands.1,
+    )
 
 -- ---- the turns of the first tracees, and of one more
 
@@ -46,8 +69,7 @@ module _ (content : CaseContent) (run mid new : RunState) (h : List Entry) (rows
   sweep_moved moved true turned =
       let less = moved.2 in moved_on content run mid new h moved.0 (omega (arith, less)) turned
   sweep_moved moved false turned =
-      let less = moved.2 in
-      let left = left_same mid new turned.1 in (moved.0, turned.0, omega (arith, less, left))
+      let less = moved.2 in let left = turned.1 in (moved.0, turned.0, omega (arith, less, left))
 
   pub sweep_stayed : HasSwept content run mid h rows false → (turn : Bool) → HasTurned content mid new h rows turn
       → HasSwept content run new h (rows + 1) turn
@@ -71,7 +93,7 @@ turned_stands content run new h row false turned = (h, turned.0)
 pub worked_stands : (content : CaseContent) (run new : RunState) (h : List Entry) (worked : Bool) → Stands content run h
     → HasWorked content run new h worked → (later : List Entry) × Stands content new later
 worked_stands content run new h true stands done = (done.0, done.1)
-worked_stands content run new h false stands done = (h, subst (λ r. Stands content r h) (sym done.0) stands)
+worked_stands content run new h false stands done = (h, done.0)
 
 pub swept_stands : (content : CaseContent) (run mid : RunState) (h : List Entry) (rows : ℕ) (moved : Bool)
     → HasSwept content run mid h rows moved → (later : List Entry) × Stands content mid later
@@ -92,16 +114,15 @@ pub round_moved : (content : CaseContent) (run mid new : RunState) (h : List Ent
     (worked : Bool) → HasWorked content mid new moved.0 worked → Moved content run new h
 round_moved content run mid new h moved true done =
     let less = moved.2 in moved_on content run mid new h moved.0 (omega (arith, less)) done
-round_moved content run mid new h moved false done = subst (λ r. Moved content run r h) (sym done.0) moved
+round_moved content run mid new h moved false done =
+    let less = moved.2 in let left = done.1 in (moved.0, done.0, omega (arith, less, left))
 
 pub round_stayed : (content : CaseContent) (run mid new : RunState) (h : List Entry)
     → HasSwept content run mid h (length content.rows) false
     → (worked : Bool) → HasWorked content mid new h worked → HasGone content run new h worked
 round_stayed content run mid new h swept true done = moved_from content run mid new h swept.1 done
-round_stayed content run mid new h swept false done = (
-  subst (λ r. Stands content r h) (sym done.0) swept.0,
-  run_over content h swept.0.0.known.roster swept.0.1 done.1 swept.2,
-)
+round_stayed content run mid new h swept false done =
+    (done.0, run_over content h swept.0.0.known.roster swept.0.1 done.2 swept.2)
 
 pub round_on : (content : CaseContent) (run mid new : RunState) (h : List Entry) (moved worked : Bool)
     → ((later : List Entry) → Stands content mid later → HasWorked content mid new later worked)
@@ -153,15 +174,15 @@ get_last (y ∷ xs) x (suc r) k is =
     ]
 
 pub opening_stands : (content : CaseContent) (run : RunState) → IsCase content
-    → Represents run.board [] → run.board.rows ≡ content.rows → HasCome run.folder [] → run.folder.rows ≡ content.rows
+    → CameTo run.world [] → run.world.rows ≡ content.rows → HasCome run.folder [] → run.folder.rows ≡ content.rows
     → length run.rows ≡ length content.rows
     → ((row : ℕ) (k : KeptRow) → slice_get run.rows row ≡ Some k → k ≡ new_row run.config content row)
     → Stands content run []
-opening_stands content run known board board_rows folder folder_rows long each = (
+opening_stands content run known world world_rows folder folder_rows long each = (
   record {
     known = known;
-    board = board;
-    board_rows = board_rows;
+    world = world;
+    world_rows = world_rows;
     folder = folder;
     folder_rows = folder_rows;
     legal = tt;

@@ -10,7 +10,7 @@ use Rattle.trace_record.specs.declared.resume.Resume.{Resume as Restart}
 use Rattle.record_printer.specs.Piece.{Died, Stopped}
 use Rattle.record_printer.specs.Represents.{Represents as HasCome}
 use Rattle.record_printer.specs.StopNote.{stop_note}
-use Rattle.stop_board.specs.Board.{Represents}
+use Rattle.tracer_workers.specs.Scheduled.{CameTo}
 use Rattle.stop_history.specs.declared.limits.TheConstants.{LAST_NUMBER, TRACERS}
 use Rattle.stop_history.specs.declared.state.State.{State}
 use Rattle.stop_history.specs.declared.state.State.TheVariants as state
@@ -71,8 +71,8 @@ publish_by_ok at next number runs is few =
 -- what a tracee's turn has come to, where it is a stop
 pub record Published (content : CaseContent) (run new : RunState) (h : List Entry) (row : ℕ) (c : Content) : Type 0 where
   pub config : new.config ≡ run.config
-  pub board : Represents new.board (event.Publish row (last_number (history_of h) row + 1) c.stop ∷ history_of h)
-  pub board_rows : new.board.rows ≡ run.board.rows
+  pub world : CameTo new.world (event.Publish row (last_number (history_of h) row + 1) c.stop ∷ history_of h)
+  pub world_rows : new.world.rows ≡ run.world.rows
   pub folder : HasCome new.folder
       (Stopped c.tid c.number (stop_note (show_of run.config) c) ∷ pieces_of (show_of run.config) content.rows h)
   pub folder_rows : new.folder.rows ≡ run.folder.rows
@@ -94,8 +94,8 @@ publish_goes content run new h row c made within runs due p =
     let own = own_left content.rows (publish_of row c) h row refl in
     record {
       config = p.config;
-      board = subst (λ n. Represents new.board (event.Publish row n c.stop ∷ history_of h)) (sym next.number) p.board;
-      board_rows = p.board_rows;
+      world = subst (λ n. CameTo new.world (event.Publish row n c.stop ∷ history_of h)) (sym next.number) p.world;
+      world_rows = p.world_rows;
       folder = subst (λ t. HasCome new.folder
           (Stopped t c.number (stop_note (show_of run.config) c) ∷ pieces_of (show_of run.config) content.rows h))
           next.tid p.folder;
@@ -124,8 +124,8 @@ publish_goes content run new h row c made within runs due p =
 
 pub record Ended (content : CaseContent) (run new : RunState) (h : List Entry) (row : ℕ) (d : Death) : Type 0 where
   pub config : new.config ≡ run.config
-  pub board : Represents new.board (event.Exit row d ∷ history_of h)
-  pub board_rows : new.board.rows ≡ run.board.rows
+  pub world : CameTo new.world (event.Exit row d ∷ history_of h)
+  pub world_rows : new.world.rows ≡ run.world.rows
   pub folder : HasCome new.folder
       (Died (row_at content.rows row).tid (last_number (history_of h) row) d
       ∷ pieces_of (show_of run.config) content.rows h)
@@ -154,8 +154,8 @@ exit_goes content run new h row d made within runs free range dies p =
     let own = own_left content.rows (bare (event.Exit row d)) h row refl in
     record {
       config = p.config;
-      board = p.board;
-      board_rows = p.board_rows;
+      world = p.world;
+      world_rows = p.world_rows;
       folder = p.folder;
       folder_rows = p.folder_rows;
       fits = (runs, free);
@@ -202,11 +202,11 @@ stopped_phase born number status tracer (event.Claim row n other ∷ es) is = no
 stopped_phase born number status tracer (event.Resume row n how other ∷ es) is = cc
 stopped_phase born number status tracer (event.Exit row d ∷ es) is = cc
 
--- a claim changes the board alone
+-- a claim changes the World alone
 pub record Claimed (content : CaseContent) (run new : RunState) (h : List Entry) (row tracer : ℕ) : Type 0 where
   pub config : new.config ≡ run.config
-  pub board : Represents new.board (event.Claim row (last_number (history_of h) row) tracer ∷ history_of h)
-  pub board_rows : new.board.rows ≡ run.board.rows
+  pub world : CameTo new.world (event.Claim row (last_number (history_of h) row) tracer ∷ history_of h)
+  pub world_rows : new.world.rows ≡ run.world.rows
   pub folder : new.folder ≡ run.folder
   pub rows : new.rows ≡ run.rows
 
@@ -225,8 +225,8 @@ claim_made content run new h row tracer made fits low p kept =
     let own = own_left content.rows (claim_entry h row tracer) h row refl in
     record {
       config = p.config;
-      board = p.board;
-      board_rows = p.board_rows;
+      world = p.world;
+      world_rows = p.world_rows;
       folder = subst (λ f. HasCome f (pieces_of (show_of run.config) content.rows h)) (sym p.folder) made.folder;
       folder_rows = ap (λ f. f.rows) p.folder;
       fits = fits;
@@ -281,8 +281,8 @@ claim_goes content run new h row tracer number status made within stopped low p 
 pub record Resumed (content : CaseContent) (run new : RunState) (h : List Entry) (row tracer : ℕ) (how : Restart)
     : Type 0 where
   pub config : new.config ≡ run.config
-  pub board : Represents new.board (event.Resume row (last_number (history_of h) row) how tracer ∷ history_of h)
-  pub board_rows : new.board.rows ≡ run.board.rows
+  pub world : CameTo new.world (event.Resume row (last_number (history_of h) row) how tracer ∷ history_of h)
+  pub world_rows : new.world.rows ≡ run.world.rows
   pub folder : new.folder ≡ run.folder
   pub long : length new.rows ≡ length run.rows
   pub others : (other : ℕ) (k : KeptRow) → other ≢ row → slice_get new.rows other ≡ Some k
@@ -308,8 +308,8 @@ resume_goes content run new h row tracer how made within held claimed low range 
     λ k at. subst (λ q. IsKeptAt q plan h row k) claimed (made.each row k at).kept in
     record {
       config = p.config;
-      board = p.board;
-      board_rows = p.board_rows;
+      world = p.world;
+      world_rows = p.world_rows;
       folder = subst (λ f. HasCome f (pieces_of (show_of run.config) content.rows h)) (sym p.folder) made.folder;
       folder_rows = ap (λ f. f.rows) p.folder;
       fits = held;

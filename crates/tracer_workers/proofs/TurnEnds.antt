@@ -11,7 +11,7 @@ use Rattle.record_printer.specs.Piece.{Died, Stopped}
 use Rattle.record_printer.specs.StopNote.{stop_note}
 use Rattle.trace_script.specs.StopTrace.{Position, StopIs}
 use Rattle.record_printer.specs.Represents.{Represents as HasCome}
-use Rattle.stop_board.specs.Board.{Represents}
+use Rattle.tracer_workers.specs.Scheduled.{CameTo}
 use Rattle.stop_history.specs.declared.limits.TheConstants.{LAST_NUMBER}
 use Rattle.stop_history.specs.declared.state.State.TheVariants as state
 use Rattle.stop_history.specs.Event as event
@@ -63,8 +63,8 @@ pub record CanPublish (content : CaseContent) (run : RunState) (h : List Entry) 
   pub within : row < length run.rows
   pub number : c.number ≤ LAST_NUMBER
   pub stop : IsStop c.stop
-  pub board : Represents run.board (history_of h)
-  pub answer : publish_answer run.board.rows (history_of h) row c.stop ≡ Ok (last_number (history_of h) row + 1)
+  pub world : CameTo run.world (history_of h)
+  pub answer : publish_answer run.world.rows (history_of h) row c.stop ≡ Ok (last_number (history_of h) row + 1)
   pub folder : HasCome run.folder (pieces_of (show_of run.config) content.rows h)
   pub taken : refusal run.folder.rows (pieces_of (show_of run.config) content.rows h) (stop_piece (show_of run.config) c)
       ≡ None
@@ -85,8 +85,8 @@ module _ (content : CaseContent) (before : RunState) (h : List Entry) (row : ℕ
         within = omega (arith, within, made.long, long_set before.rows row stopped);
         number = omega (arith, next.few);
         stop = next.stop;
-        board = made.board;
-        answer = ap (λ rows. publish_answer rows (history_of h) row c.stop) made.board_rows
+        world = made.world;
+        answer = ap (λ rows. publish_answer rows (history_of h) row c.stop) made.world_rows
             ∙ publish_by_ok (state_after content.rows (history_of h) row) _ (last_number (history_of h) row) runs next.next
             (omega (arith, next.few, next.number));
         folder = made.folder;
@@ -99,21 +99,21 @@ module _ (content : CaseContent) (before : RunState) (h : List Entry) (row : ℕ
       }
 
   stopped_moves : (new : RunState) → new.config ≡ before.config
-      → Represents new.board (event.Publish row (last_number (history_of h) row + 1) c.stop ∷ history_of h)
-      → new.board.rows ≡ before.board.rows
+      → CameTo new.world (event.Publish row (last_number (history_of h) row + 1) c.stop ∷ history_of h)
+      → new.world.rows ≡ before.world.rows
       → HasCome new.folder (stop_piece (show_of before.config) c ∷ pieces_of (show_of before.config) content.rows h)
       → new.folder.rows ≡ before.folder.rows
       → new.rows ≡ slice_set (slice_set before.rows row stopped) row (with_number stopped (last_number (history_of h) row + 1))
       → Moved content (with_row before row stopped) new h
-  stopped_moves new config board board_rows folder folder_rows rows =
+  stopped_moves new config world world_rows folder folder_rows rows =
       let made = stands.0 in
       let last = with_number stopped (last_number (history_of h) row + 1) in
       let x = publish_of row c in
       let next = stop_due content before h row c made within due in
       let goes = publish_goes content before new h row c made within runs due (record {
         config = config;
-        board = board;
-        board_rows = board_rows;
+        world = world;
+        world_rows = world_rows;
         folder = folder;
         folder_rows = folder_rows;
         long = ap length rows ∙ long_set (slice_set before.rows row stopped) row last ∙ long_set before.rows row stopped;
@@ -143,19 +143,19 @@ can_publish content run h row c s =
 
 pub publish_moves : (content : CaseContent) (run new : RunState) (h : List Entry) (row : ℕ) (c : Content)
     → (s : HasStopped content run h row c) → new.config ≡ run.config
-    → Represents new.board (event.Publish row (last_number (history_of h) row + 1) c.stop ∷ history_of h)
-    → new.board.rows ≡ run.board.rows
+    → CameTo new.world (event.Publish row (last_number (history_of h) row + 1) c.stop ∷ history_of h)
+    → new.world.rows ≡ run.world.rows
     → HasCome new.folder (stop_piece (show_of run.config) c ∷ pieces_of (show_of run.config) content.rows h)
     → new.folder.rows ≡ run.folder.rows
     → new.rows ≡ slice_set run.rows row
     (with_number (with_next s.k c (onward (plan_of s.before.config content) h row)) (last_number (history_of h) row + 1))
     → Moved content run new h
-publish_moves content run new h row c s config board board_rows folder folder_rows rows =
+publish_moves content run new h row c s config world world_rows folder folder_rows rows =
     let k = with_next s.k c (onward (plan_of s.before.config content) h row) in
     let at : RunState → Type 0 = λ r. Moved content r new h in
     subst at (sym s.is)
     (stopped_moves content s.before h row c s.stands s.within s.runs s.due s.k s.there new
-    (config ∙ ap (λ (r : RunState). r.config) s.is) board (board_rows ∙ ap (λ (r : RunState). r.board.rows) s.is)
+    (config ∙ ap (λ (r : RunState). r.config) s.is) world (world_rows ∙ ap (λ (r : RunState). r.world.rows) s.is)
     (subst (λ (r : RunState). HasCome new.folder (stop_piece (show_of r.config) c
     ∷ pieces_of (show_of r.config) content.rows h)) s.is folder)
     (folder_rows ∙ ap (λ (r : RunState). r.folder.rows) s.is)
@@ -167,7 +167,7 @@ publish_moves content run new h row c s config board board_rows folder folder_ro
 pub record CanEnd (content : CaseContent) (run : RunState) (h : List Entry) (row : ℕ) (death : Death) : Type 0 where
   pub within : row < length run.rows
   pub range : IsDeath death
-  pub board : Represents run.board (history_of h)
+  pub world : CameTo run.world (history_of h)
   pub folder : HasCome run.folder (pieces_of (show_of run.config) content.rows h)
   -- of the row that is kept at the place
   pub number : (k : KeptRow) → slice_get run.rows row ≡ Some k → k.number ≤ LAST_NUMBER
@@ -195,7 +195,7 @@ module _ (content : CaseContent) (before : RunState) (h : List Entry) (row : ℕ
       record {
         within = omega (arith, within, made.long, long_set before.rows row dead);
         range = range;
-        board = made.board;
+        world = made.world;
         folder = made.folder;
         number = λ it is. let numbers = kept_numbers it is in let few = last_most content before h row stands.0 within in omega (arith, numbers.1, few);
         taken = λ it is.
@@ -207,13 +207,13 @@ module _ (content : CaseContent) (before : RunState) (h : List Entry) (row : ℕ
 
   death_moves : (new : RunState) → new.config ≡ before.config
       → exit_answer content.rows (history_of h) row ≡ Ok tt
-      → Represents new.board (event.Exit row death ∷ history_of h) → new.board.rows ≡ before.board.rows
+      → CameTo new.world (event.Exit row death ∷ history_of h) → new.world.rows ≡ before.world.rows
       → (it : KeptRow) → slice_get (slice_set before.rows row dead) row ≡ Some it
       → HasCome new.folder (Died it.tid it.number death ∷ pieces_of (show_of before.config) content.rows h)
       → new.folder.rows ≡ before.folder.rows
       → new.rows ≡ slice_set before.rows row dead
       → Moved content (with_row before row dead) new h
-  death_moves new config answer board board_rows it is folder folder_rows rows =
+  death_moves new config answer world world_rows it is folder folder_rows rows =
       let made = stands.0 in
       let x = bare (event.Exit row death) in
       let numbers = kept_numbers it is in
@@ -221,8 +221,8 @@ module _ (content : CaseContent) (before : RunState) (h : List Entry) (row : ℕ
       (not_held (holding_back content.rows (state_after content.rows (history_of h)) row)
       (state_after content.rows (history_of h) row) runs answer) range due (record {
         config = config;
-        board = board;
-        board_rows = board_rows;
+        world = world;
+        world_rows = world_rows;
         folder = subst (λ (p : ℕ × ℕ). HasCome new.folder (Died p.0 p.1 death
             ∷ pieces_of (show_of before.config) content.rows h)) (λ i. (numbers.0 i, numbers.1 i)) folder;
         folder_rows = folder_rows;
@@ -277,20 +277,20 @@ can_end content run h row death s =
 
 pub end_moves : (content : CaseContent) (run new : RunState) (h : List Entry) (row : ℕ) (death : Death)
     → (s : HasDied content run h row death) → new.config ≡ run.config
-    → exit_answer run.board.rows (history_of h) row ≡ Ok tt
-    → Represents new.board (event.Exit row death ∷ history_of h) → new.board.rows ≡ run.board.rows
+    → exit_answer run.world.rows (history_of h) row ≡ Ok tt
+    → CameTo new.world (event.Exit row death ∷ history_of h) → new.world.rows ≡ run.world.rows
     → HasCome new.folder (Died (died_row s).tid (died_row s).number death ∷ pieces_of (show_of run.config) content.rows h)
     → new.folder.rows ≡ run.folder.rows
     → new.rows ≡ run.rows
     → Moved content run new h
-end_moves content run new h row death s config answer board board_rows folder folder_rows rows =
+end_moves content run new h row death s config answer world world_rows folder folder_rows rows =
     let k = died_row s in
     subst (λ r. Moved content r new h) (sym s.is)
     (death_moves content s.before h row death s.stands s.within s.runs s.due s.range s.k s.there s.new_content s.at new
     (config ∙ ap (λ (r : RunState). r.config) s.is)
-    (ap (λ rows. exit_answer rows (history_of h) row) (sym (ap (λ (r : RunState). r.board.rows) s.is ∙ s.stands.0.board_rows))
-    ∙ answer) board
-    (board_rows ∙ ap (λ (r : RunState). r.board.rows) s.is) k
+    (ap (λ rows. exit_answer rows (history_of h) row) (sym (ap (λ (r : RunState). r.world.rows) s.is ∙ s.stands.0.world_rows))
+    ∙ answer) world
+    (world_rows ∙ ap (λ (r : RunState). r.world.rows) s.is) k
     (ap (λ (r : RunState). slice_get r.rows row) (sym s.is) ∙ died_there content run h row death s)
     (subst (λ (r : RunState). HasCome new.folder (Died k.tid k.number death ∷ pieces_of (show_of r.config) content.rows h)) s.is
     folder)
@@ -312,8 +312,8 @@ held_stays_at content before h row stands within runs k there new_content at rea
     let dead = with_next k new_content at in (
       record {
         known = made.known;
-        board = made.board;
-        board_rows = made.board_rows;
+        world = made.world;
+        world_rows = made.world_rows;
         folder = made.folder;
         folder_rows = made.folder_rows;
         legal = made.legal;
@@ -342,10 +342,10 @@ held_stays content run h row death s =
     (held_stays_at content s.before h row s.stands s.within s.runs s.k s.there s.new_content s.at s.ready)
 
 pub held_back : (content : CaseContent) (run : RunState) (h : List Entry) (row : ℕ) (death : Death)
-    → (s : HasDied content run h row death) → IsErr (exit_answer run.board.rows (history_of h) row)
+    → (s : HasDied content run h row death) → IsErr (exit_answer run.world.rows (history_of h) row)
     → IsHeldOrIdle content h row
 held_back content run h row death s answer =
-    let same : run.board.rows ≡ content.rows = ap (λ (r : RunState). r.board.rows) s.is ∙ s.stands.0.board_rows in
+    let same : run.world.rows ≡ content.rows = ap (λ (r : RunState). r.world.rows) s.is ∙ s.stands.0.world_rows in
     let refused : IsErr (exit_answer content.rows (history_of h) row) =
     subst (λ rows. IsErr (exit_answer rows (history_of h) row)) same answer in
     inr (held_of (holding_back content.rows (state_after content.rows (history_of h)) row)

@@ -149,8 +149,8 @@ module _ (content : CaseContent) (run mid : RunState) (h : List Entry) (row : �
   abbrev element : Element
   element = next_element there.0.position there.0.how (context_of there.0.content)
 
-  pub ran_board : mid.board ≡ run.board
-  ran_board = let made = ran there.0 there.1 in ap (λ (r : RunState). r.board) made.4
+  pub ran_world : mid.world ≡ run.world
+  ran_world = let made = ran there.0 there.1 in ap (λ (r : RunState). r.world) made.4
 
   pub ran_config : mid.config ≡ run.config
   ran_config = let made = ran there.0 there.1 in ap (λ (r : RunState). r.config) made.4

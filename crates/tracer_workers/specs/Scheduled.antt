@@ -1,11 +1,12 @@
 -- A run of a case on a schedule: what is kept of it, and the history that it has made (strace(1), `-f`).
 use Rattle.std.specs.Prelude.{◌≡◌, ◌≢◌, ◌⊎◌, ◌<◌, ◌+◌, ◌-◌, ◌*◌, ℕ, zero, suc, Bool, true, false, List, Some, length, slice_get}
 use Rattle.record_printer.specs.Represents.{Folded, Represents as HasCome}
-use Rattle.stop_board.specs.Board.{Held, Represents}
+use Rattle.stop_board.specs.World.{Contents, Moment, StandsAt}
 use Rattle.stop_history.specs.declared.phase.Phase.{Phase}
 use Rattle.stop_history.specs.declared.phase.Phase.TheVariants as phase
 use Rattle.stop_history.specs.declared.state.State.TheVariants as state
-use Rattle.stop_history.specs.Event.{events_of}
+use Rattle.stop_history.specs.declared.limits.TheConstants.{TRACERS}
+use Rattle.stop_history.specs.Event.{History, events_of}
 use Rattle.stop_history.specs.History.{holding_back}
 use Rattle.stop_history.specs.Roster.{row_at}
 use Rattle.stop_history.specs.State.{is_waitable, last_number, state_after}
@@ -34,7 +35,7 @@ pub record KeptRow : Type 0 where
 
 pub record RunState : Type 0 where
   pub config : Config
-  pub board : Held
+  pub world : Contents
   pub folder : Folded
   pub rows : List KeptRow
 
@@ -75,11 +76,18 @@ abbrev pub is_claimed : Phase → Bool
 is_claimed (phase.Claimed tracer) = true
 is_claimed other = false
 
+-- a World of all tracers, which has come to a history
+pub record CameTo (world : Contents) (h : History) : Type 0 where
+  pub moment : Moment
+  pub stands : StandsAt world moment
+  pub history : moment.history ≡ h
+  pub tracers : world.tracers ≡ TRACERS
+
 -- the run has made this history of the case
 pub record HasMade (content : CaseContent) (run : RunState) (h : List Entry) : Type 0 where
   pub known : IsCase content
-  pub board : Represents run.board (history_of h)
-  pub board_rows : run.board.rows ≡ content.rows
+  pub world : CameTo run.world (history_of h)
+  pub world_rows : run.world.rows ≡ content.rows
   pub folder : HasCome run.folder (pieces_of (show_of run.config) content.rows h)
   pub folder_rows : run.folder.rows ≡ content.rows
   pub legal : AreLegal content.rows h
@@ -120,7 +128,7 @@ total of zero = 0
 total of (suc n) = total of n + of n
 
 abbrev pub run_left : RunState → ℕ
-run_left run = total (λ row. events_left (word_at run.board.words row)) (length run.board.rows)
+run_left run = total (λ row. events_left (word_at run.world.words row)) (length run.world.rows)
 
 -- ---- what a turn does
 

@@ -20,7 +20,7 @@ use Rattle.tracer_workers.specs.Config.{plan_of}
 use Rattle.tracer_workers.specs.Driven.{IsDeathOf, element_after, position_at, restart_after}
 use Rattle.tracer_workers.specs.Plan.{Plan, opening_of}
 use Rattle.tracer_workers.specs.Scheduled.{HasMade, IsHeldOrIdle, IsOver, IsQuiet, IsReady, KeptRow, Moved, RunState, Stands}
-use Rattle.tracer_workers.specs.Scheduled.{is_claimed}
+use Rattle.tracer_workers.specs.Scheduled.{is_claimed, run_left}
 use Rattle.tracer_workers.specs.declared.config.Config.{Config}
 
 -- a row before its first stop
@@ -93,7 +93,7 @@ pub record HasDied (content : CaseContent) (run : RunState) (h : List Entry) (ro
 abbrev pub HasTurned : CaseContent → RunState → RunState → List Entry → ℕ → Bool → Type 0
 HasTurned content run new h row true = Moved content run new h
 HasTurned content run new h row false =
-    Stands content new h × (new.board ≡ run.board) × IsHeldOrIdle content h row
+    Stands content new h × (run_left new ≡ run_left run) × IsHeldOrIdle content h row
 
 -- ---- a worker
 
@@ -110,12 +110,13 @@ pub record HasHeld (content : CaseContent) (run : RunState) (h : List Entry) (ro
 abbrev pub HasClaimed : CaseContent → RunState → RunState → List Entry → ℕ → Bool → Type 0
 HasClaimed content run new h row true = Moved content run new h
 HasClaimed content run new h row false =
-    (new ≡ run) × (is_waitable (state_after content.rows (history_of h) row) ≡ false)
+    Stands content new h × (run_left new ≡ run_left run)
+    × (is_waitable (state_after content.rows (history_of h) row) ≡ false)
 
 -- a worker's turn: the same of all rows
 abbrev pub HasWorked : CaseContent → RunState → RunState → List Entry → Bool → Type 0
 HasWorked content run new h true = Moved content run new h
-HasWorked content run new h false = (new ≡ run) × IsQuiet content h
+HasWorked content run new h false = Stands content new h × (run_left new ≡ run_left run) × IsQuiet content h
 
 -- ---- a round
 
@@ -123,7 +124,7 @@ HasWorked content run new h false = (new ≡ run) × IsQuiet content h
 abbrev pub HasSwept : CaseContent → RunState → RunState → List Entry → (rows : ℕ) → Bool → Type 0
 HasSwept content run new h rows true = Moved content run new h
 HasSwept content run new h rows false =
-    Stands content new h × (new.board ≡ run.board) × ((row : ℕ) → row < rows → IsHeldOrIdle content h row)
+    Stands content new h × (run_left new ≡ run_left run) × ((row : ℕ) → row < rows → IsHeldOrIdle content h row)
 
 -- all tracees and a worker have had a turn; where no event came of it, the run is over
 abbrev pub HasGone : CaseContent → RunState → RunState → List Entry → Bool → Type 0

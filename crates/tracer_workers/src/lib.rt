@@ -3,6 +3,7 @@
 
 mod config;
 mod laws;
+mod one_thread;
 mod run_error;
 mod scheduled;
 

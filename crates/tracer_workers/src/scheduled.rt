@@ -1,15 +1,13 @@
 //! Runs a case on a schedule, on one thread.
 //!
 //! An entry of the schedule is an actor: a row's tracee, or a worker after the tracees. A tracee's turn is its run from
-//! a restart to the next stop or the death; a worker's turn is a wait and the restart. A turn is whole, so a board keeps
-//! the cells, and nothing comes between the two halves of a turn.
+//! a restart to the next stop or the death; a worker's turn is a wait and the restart.
 
 ghost use Rattle.std.specs.Prelude.{[], ◌≡◌, ◌<◌, ◌≤◌, ◌∷◌, ℕ, List, None, Some, true, false, IfOk, IsOkUnless, OnOk, length};
 ghost use Rattle.std.specs.Prelude.{◌+◌, IsErr, Ok, slice_get};
 ghost use Rattle.record_printer.specs.FolderAnswers.{lost, pieces_text, refusal};
 ghost use Rattle.record_printer.specs.Piece as pieces;
 ghost use Rattle.record_printer.specs.Represents.{Represents as HasCome};
-ghost use Rattle.stop_board.specs.Board.{Represents};
 ghost use Rattle.stop_history.specs.Event as event;
 ghost use Rattle.stop_history.specs.Event.{History};
 ghost use Rattle.stop_history.specs.Sequential.{exit_answer, publish_answer};
@@ -24,19 +22,20 @@ ghost use Rattle.trace_script.specs.Machine.{IsAnswer};
 ghost use Rattle.trace_script.specs.StopTrace.{Position, context_of, next_element, next_position};
 ghost use Rattle.tracer_workers.specs.Config.{plain, text_of};
 ghost use Rattle.tracer_workers.specs.HistoryPieces.{stop_piece};
-ghost use Rattle.tracer_workers.specs.Scheduled.{IsOver, KeptRow, Moved, RunState, Stands};
+ghost use Rattle.tracer_workers.specs.Scheduled.{CameTo, IsOver, KeptRow, Moved, RunState, Stands};
 ghost use Rattle.tracer_workers.specs.Turn.{HasClaimed, HasDied, HasGone, HasHeld, HasRunOn, HasStopped, HasTurned, HasWorked, IsToRun};
 ghost use Rattle.tracer_workers.specs.Turn.{new_row, with_next, with_number};
 ghost use Rattle.tracer_workers.specs.declared.run_error.RunError.TheVariants as run_error;
 
 use crate::config::{Config, policy};
 use crate::laws::the_mode_changes_no_text;
+use crate::one_thread;
 use crate::run_error::RunError;
 use record_printer::{FoldError, Folder, Piece, Show, Text, death_piece, piece_of};
 use std::alloc::{Allocator, Global};
 use std::marker::Model;
-use stop_board::Board;
-use stop_history::{Got, State};
+use stop_board::World;
+use stop_history::{Got, State, TRACERS};
 use trace_pages::NoMemory;
 use trace_record::{Death, Kind, Resume, StopRecord};
 use trace_script::{Case, Machine, Next};
@@ -102,7 +101,7 @@ impl<A: Allocator + Copy> TracedRow<A> {
 struct Run<A: Allocator = Global> {
     alloc: A,
     config: Config,
-    board: Board<A>,
+    world: World<A>,
     folder: Folder<A>,
     rows: Vec<TracedRow<A>, A>,
 }
@@ -116,7 +115,7 @@ impl<A: Allocator> Model for Run<A> {
 
     ghost coded = { Prim.hlevel (codes, flat_code) };
 
-    ghost view = { λ r. record { config = r.config; board = r.board; folder = r.folder; rows = r.rows.items } };
+    ghost view = { λ r. record { config = r.config; world = r.world; folder = r.folder; rows = r.rows.items } };
 }
 
 /// Adds a piece that no folder refuses.
@@ -150,7 +149,7 @@ fn finish<A: Allocator + Copy>(folder: Folder<A>) -> Result<Text<A>, NoMemory>
 /// Publishes the stop in the record of a row, and adds its piece.
 fn publish_stop<A: Allocator + Copy>(
     alloc: A,
-    board: &mut Board<A>,
+    world: &mut World<A>,
     folder: &mut Folder<A>,
     traced: &mut TracedRow<A>,
     row: u32,
@@ -158,29 +157,26 @@ fn publish_stop<A: Allocator + Copy>(
 ) -> Result<(), NoMemory>
     requires number { traced.old.content.number ≤ LAST_NUMBER }
     requires stop { IsStop traced.old.content.stop }
-    requires answer { (h : History) × Represents board.old h
-        × (publish_answer board.old.rows h row traced.old.content.stop ≡ Ok (last_number h row + 1)) }
+    requires answer { (h : History) × CameTo world.old h
+        × (publish_answer world.old.rows h row traced.old.content.stop ≡ Ok (last_number h row + 1)) }
     requires taken { (came : List pieces.Piece) × HasCome folder.old came
         × (refusal folder.old.rows came (stop_piece show.now traced.old.content) ≡ None) }
-    ensures made { (h : History) → Represents board.old h →
-        publish_answer board.old.rows h row traced.old.content.stop ≡ Ok (last_number h row + 1) →
-        OnOk result (Represents board.new (event.Publish row (last_number h row + 1) traced.old.content.stop ∷ h)
+    ensures made { (h : History) → CameTo world.old h →
+        publish_answer world.old.rows h row traced.old.content.stop ≡ Ok (last_number h row + 1) →
+        OnOk result (CameTo world.new (event.Publish row (last_number h row + 1) traced.old.content.stop ∷ h)
         × (traced.new ≡ with_number traced.old (last_number h row + 1))) }
     ensures came { (came : List pieces.Piece) → HasCome folder.old came →
         OnOk result (HasCome folder.new (stop_piece show.now traced.old.content ∷ came)) }
-    ensures rows { (board.new.rows ≡ board.old.rows) × (folder.new.rows ≡ folder.old.rows) }
+    ensures rows { (world.new.rows ≡ world.old.rows) × (folder.new.rows ≡ folder.old.rows) }
 {
     let piece = piece_of(alloc, &traced.content, show)?;
-    let Ok(number) = board.publish(row, traced.content.stop) else {
-        unreachable!()
-    };
-    traced.number = number;
+    traced.number = one_thread::publish(world, row, traced.content.stop);
     add(folder, piece)
 }
 
 /// Ends a row and adds the piece of its death, unless another row of its group holds it back; whether it has ended.
 fn end_row<A: Allocator + Copy>(
-    board: &mut Board<A>,
+    world: &mut World<A>,
     folder: &mut Folder<A>,
     traced: &TracedRow<A>,
     row: u32,
@@ -190,15 +186,15 @@ fn end_row<A: Allocator + Copy>(
     requires death { IsDeath death }
     requires taken { (came : List pieces.Piece) × HasCome folder.old came
         × (refusal folder.old.rows came (pieces.Died traced.now.tid traced.now.number death) ≡ None) }
-    ensures ended { (h : History) → Represents board.old h → IfOk result (λ ended. ended ≡ true →
-        (exit_answer board.old.rows h row ≡ Ok tt) × Represents board.new (event.Exit row death ∷ h)) }
+    ensures ended { (h : History) → CameTo world.old h → IfOk result (λ ended. ended ≡ true →
+        (exit_answer world.old.rows h row ≡ Ok tt) × CameTo world.new (event.Exit row death ∷ h)) }
     ensures came { (came : List pieces.Piece) → HasCome folder.old came → IfOk result (λ ended. ended ≡ true →
         HasCome folder.new (pieces.Died traced.now.tid traced.now.number death ∷ came)) }
-    ensures held { (h : History) → Represents board.old h → IfOk result (λ ended. ended ≡ false →
-        (IsErr (exit_answer board.old.rows h row)) × (board.new ≡ board.old) × (folder.new ≡ folder.old)) }
-    ensures rows { (board.new.rows ≡ board.old.rows) × (folder.new.rows ≡ folder.old.rows) }
+    ensures held { (h : History) → CameTo world.old h → IfOk result (λ ended. ended ≡ false →
+        (IsErr (exit_answer world.old.rows h row)) × (CameTo world.new h) × (folder.new ≡ folder.old)) }
+    ensures rows { (world.new.rows ≡ world.old.rows) × (folder.new.rows ≡ folder.old.rows) }
 {
-    if board.exit(row, death).is_err() {
+    if !one_thread::exit(world, row, death) {
         return Ok(false);
     }
     add(folder, death_piece(traced.tid, traced.number, death))?;
@@ -238,7 +234,7 @@ impl<A: Allocator + Copy> Run<A> {
         let traced = &mut self.rows[row as usize];
         publish_stop(
             self.alloc,
-            &mut self.board,
+            &mut self.world,
             &mut self.folder,
             traced,
             row,
@@ -255,7 +251,7 @@ impl<A: Allocator + Copy> Run<A> {
         ensures config { self.new.config ≡ self.old.config }
     {
         let traced = &self.rows[row as usize];
-        let ended = end_row(&mut self.board, &mut self.folder, traced, row, death)?;
+        let ended = end_row(&mut self.world, &mut self.folder, traced, row, death)?;
         Ok(ended)
     }
 
@@ -284,14 +280,14 @@ impl<A: Allocator + Copy> Run<A> {
             row < length content.rows → IfOk result (λ moved. HasTurned content self.old self.new h row moved) }
         ensures config { self.new.config ≡ self.old.config }
     {
-        match self.board.state(row) {
+        match one_thread::state(&self.world, row) {
             State::Running => self.running_turn(row),
             _ => Ok(false),
         }
     }
 
     /// Claims what waits in a row, and restarts the row where it is a stop; whether something waited.
-    fn claim(&mut self, row: u32, tracer: u32) -> bool
+    fn claim(&mut self, row: u32, tracer: u8) -> bool
         requires low { tracer < TRACERS }
         requires stands { (content : CaseContent) × (h : List Entry) × Stands content self.old h
             × (row < length content.rows) }
@@ -299,7 +295,7 @@ impl<A: Allocator + Copy> Run<A> {
             row < length content.rows → HasClaimed content self.old self.new h row result }
         ensures config { self.new.config ≡ self.old.config }
     {
-        match self.board.claim(row, tracer) {
+        match one_thread::claim(&mut self.world, row, tracer) {
             Err(_) => false,
             Ok(Got::Ended(_, _)) => true,
             Ok(Got::Stop(_, _)) => {
@@ -310,7 +306,7 @@ impl<A: Allocator + Copy> Run<A> {
     }
 
     /// Restarts a row that a tracer has claimed.
-    fn restart(&mut self, row: u32, tracer: u32)
+    fn restart(&mut self, row: u32, tracer: u8)
         requires { (content : CaseContent) × (h : List Entry) × HasHeld content self.old h row tracer }
         ensures restarted { (content : CaseContent) (h : List Entry) → HasHeld content self.old h row tracer →
             Moved content self.old self.new h }
@@ -318,14 +314,12 @@ impl<A: Allocator + Copy> Run<A> {
     {
         let traced = &mut self.rows[row as usize];
         let how = policy(&traced.content, &self.config);
-        let Ok(()) = self.board.resume(row, tracer, how) else {
-            unreachable!()
-        };
+        one_thread::resume(&mut self.world, row, tracer, how);
         traced.how = how;
     }
 
     /// The turn of a worker: it claims what waits in the first row in which something does; whether something did.
-    fn worker_turn(&mut self, tracer: u32) -> bool
+    fn worker_turn(&mut self, tracer: u8) -> bool
         requires low { tracer < TRACERS }
         requires stands { (content : CaseContent) × (h : List Entry) × Stands content self.old h }
         ensures worked { (content : CaseContent) (h : List Entry) → Stands content self.old h →
@@ -367,7 +361,7 @@ impl<A: Allocator + Copy> Run<A> {
         if actor < rows {
             let _moved = self.tracee_turn(actor)?;
         } else if actor - rows < self.config.workers {
-            let _worked = self.worker_turn(actor - rows);
+            let _worked = self.worker_turn((actor - rows) as u8);
         }
         Ok(())
     }
@@ -422,13 +416,13 @@ fn new_run<A: Allocator + Copy>(
     ensures stands { IfOk result (λ run. Stands case.now run []) }
     ensures config { IfOk result (λ run. run.config ≡ config.now) }
 {
-    let board = Board::new(alloc, case.roster())?;
+    let world = World::new(alloc, case.roster(), TRACERS)?;
     let folder = Folder::new(alloc, case.roster())?;
     let rows = new_rows(alloc, case, config)?;
     Ok(Run {
         alloc,
         config: *config,
-        board,
+        world,
         folder,
         rows,
     })

@@ -3,7 +3,7 @@ use Rattle.std.proofs.Common.{◌≡◌, ◌≤◌, ◌+◌, ◌∷◌, ◌∙�
 use Rattle.record_printer.specs.FolderAnswers.{refusal}
 use Rattle.record_printer.specs.declared.show.Show.{Show}
 use Rattle.record_printer.specs.Represents.{Represents as HasCome}
-use Rattle.stop_board.specs.Board.{Represents}
+use Rattle.tracer_workers.specs.Scheduled.{CameTo}
 use Rattle.stop_history.specs.Event as event
 use Rattle.stop_history.specs.Sequential.{publish_answer}
 use Rattle.stop_history.specs.State.{last_number}
@@ -40,8 +40,8 @@ publish_stop-requires-clause-answer g c =
     (stopped_there c.requires.0 _ c.requires.1 c.args.row c.requires.2 s) in
     let can = can_publish c.requires.0 _ c.requires.1 c.args.row c.requires.2 s in (
       history_of c.requires.1,
-      can.board,
-      subst (λ (k : KeptRow). publish_answer c.self.inside.board.rows (history_of c.requires.1) c.args.row k.content.stop
+      can.world,
+      subst (λ (k : KeptRow). publish_answer c.self.inside.world.rows (history_of c.requires.1) c.args.row k.content.stop
           ≡ Ok (last_number (history_of c.requires.1) c.args.row + 1)) (sym is) can.answer,
     )
 
@@ -65,12 +65,12 @@ returns-clause-moved g c =
     (stopped_there content _ h c.args.row stop s) in
     let can = can_publish content _ h c.args.row stop s in
     let number = last_number (history_of h) c.args.row + 1 in
-    let made = c.in_ok-publish_stop.ensures.made (history_of h) can.board
-    (subst (λ (k : KeptRow). publish_answer c.self.inside.board.rows (history_of h) c.args.row k.content.stop ≡ Ok number)
+    let made = c.in_ok-publish_stop.ensures.made (history_of h) can.world
+    (subst (λ (k : KeptRow). publish_answer c.self.inside.world.rows (history_of h) c.args.row k.content.stop ≡ Ok number)
     (sym is) can.answer) in
     let came = c.in_ok-publish_stop.ensures.came (pieces_of (show_of c.self.inside.config) content.rows h) can.folder in
     publish_moves content _ _ h c.args.row stop s refl
-    (subst (λ (k : KeptRow). Represents c.publish_stop.new.board
+    (subst (λ (k : KeptRow). CameTo c.publish_stop.new.world
     (event.Publish c.args.row number k.content.stop ∷ history_of h)) is made.0)
     c.in_ok-publish_stop.ensures.rows.0
     (subst (λ (p : Show × KeptRow). HasCome c.publish_stop.new.folder

@@ -1,15 +1,11 @@
 -- The restart is the policy's for the record that is kept of the row.
 use Rattle.std.proofs.Common.{◌≡◌, ◌∙◌, refl, sym, ap, subst, arith, slice_set}
-use Rattle.stop_board.specs.Board.{Represents}
-use Rattle.stop_history.specs.Event as event
-use Rattle.stop_history.specs.Sequential.{goes_on}
-use Rattle.stop_history.specs.State.{last_number}
 use Rattle.stop_table.specs.Entry.{history_of}
 use Rattle.trace_record.specs.Resume.{IsResume}
 use Rattle.tracer_workers.specs.Config.{policy_of}
 use Rattle.tracer_workers.specs.Scheduled.{KeptRow, RunState}
 use Rattle.tracer_workers.specs.Turn.{HasHeld}
-use Rattle.tracer_workers.proofs.Claims.{restart_moves, restart_range}
+use Rattle.tracer_workers.proofs.Claims.{restart_moves, restart_range, restart_taken}
 use Rattle.tracer_workers.proofs.TurnEnds.{get_set_other, get_set_same, long_set, there_at}
 use Rattle.tracer_workers.proofs.scheduled.Run.restart.Goals as goal
 
@@ -20,9 +16,16 @@ resume-requires g c =
     let long = s.made.long in
     let there = there_at c.self.inside.rows.items c.args.row c.index_mut-traced.result.now c.index_mut-traced.ensures.value
     (omega (arith, within, long)) in
-    subst IsResume
-    (sym (c.policy-how.ensures ∙ ap (λ (k : KeptRow). policy_of c.self.inside.config k.content) c.traced.view_is))
-    (restart_range c.requires.0 _ c.requires.1 c.args.row c.args.tracer s c.index_mut-traced.result.now there)
+    record {
+      answer = (
+        history_of c.requires.1,
+        s.made.world,
+        restart_taken c.requires.0 _ c.requires.1 c.args.row c.args.tracer s,
+      );
+      how = subst IsResume
+          (sym (c.policy-how.ensures ∙ ap (λ (k : KeptRow). policy_of c.self.inside.config k.content) c.traced.view_is))
+          (restart_range c.requires.0 _ c.requires.1 c.args.row c.args.tracer s c.index_mut-traced.result.now there);
+    }
 
 pub returns-clause-restarted : goal.returns-clause-restarted
 returns-clause-restarted g c =
@@ -42,13 +45,13 @@ returns-clause-restarted g c =
     } in
     let run : RunState = record {
       config = c.self.inside.config;
-      board = c.self.inside.board;
+      world = c.self.inside.world;
       folder = c.self.inside.folder;
       rows = items;
     } in
     let new : RunState = record {
       config = c.self.inside.config;
-      board = c.resume.new.self;
+      world = c.resume.new.world;
       folder = c.self.inside.folder;
       rows = slice_set items c.args.row last;
     } in
@@ -56,10 +59,8 @@ returns-clause-restarted g c =
     c.policy-how.ensures ∙ ap (λ (k : KeptRow). policy_of c.self.inside.config k.content) c.traced.view_is in
     restart_moves content run h c.args.row c.args.tracer s new how old there due (record {
       config = refl;
-      board = subst (λ r. Represents c.resume.new.self
-          (goes_on r (event.Resume c.args.row (last_number (history_of h) c.args.row) how c.args.tracer) (history_of h)))
-          c.in-Ok.is (c.resume.ensures.stands (history_of h) s.made.board);
-      board_rows = c.resume.ensures.rows;
+      world = c.resume.ensures.stands (history_of h) s.made.world (restart_taken content run h c.args.row c.args.tracer s);
+      world_rows = c.resume.ensures.rows;
       folder = refl;
       long = long_set items c.args.row last;
       others = λ other k apart at. sym (get_set_other items c.args.row other last apart) ∙ at;

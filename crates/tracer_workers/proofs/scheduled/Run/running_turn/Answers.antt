@@ -1,7 +1,7 @@
 -- The tracee runs on to a stop, which is published, or to its end.
 use Rattle.std.proofs.Common.{◌∙◌}
-use Rattle.tracer_workers.proofs.Rounds.{if_ok, moved_from, turned_from}
-use Rattle.tracer_workers.proofs.TurnStarts.{ran_board, ran_config, ran_to_death, ran_to_fault, ran_to_stop}
+use Rattle.tracer_workers.proofs.Rounds.{if_ok, left_same, moved_from, turned_from}
+use Rattle.tracer_workers.proofs.TurnStarts.{ran_world, ran_config, ran_to_death, ran_to_fault, ran_to_stop}
 use Rattle.tracer_workers.proofs.scheduled.Run.running_turn.Goals as goal
 
 pub publish-requires : goal.publish-requires
@@ -36,7 +36,8 @@ pub returns-in_ok-publish-in-Stop-clause-turned : goal.returns-in_ok-publish-in-
 returns-in_ok-publish-in-Stop-clause-turned g c content h s =
     let to = ran_to_stop content c.args.self.now c.run_on.new.self h c.args.row c.run_on.result s c.run_on.ensures c.in-Stop.is in
     moved_from content c.args.self.now c.run_on.new.self c.publish.new.self h
-    (ran_board content c.args.self.now c.run_on.new.self h c.args.row c.run_on.result s c.run_on.ensures)
+    (left_same c.args.self.now c.run_on.new.self
+    (ran_world content c.args.self.now c.run_on.new.self h c.args.row c.run_on.result s c.run_on.ensures))
     (c.in_ok-publish-in-Stop.ensures.moved content h to.0 to.1)
 
 pub returns-in_ok-publish-in-Stop-clause-config : goal.returns-in_ok-publish-in-Stop-clause-config
@@ -50,7 +51,8 @@ returns-in-Death-clause-turned g c content h s =
     if_ok c.exit.result
     (λ moved turned.
     turned_from content c.args.self.now c.run_on.new.self c.exit.new.self h c.args.row moved
-    (ran_board content c.args.self.now c.run_on.new.self h c.args.row c.run_on.result s c.run_on.ensures) turned)
+    (left_same c.args.self.now c.run_on.new.self
+    (ran_world content c.args.self.now c.run_on.new.self h c.args.row c.run_on.result s c.run_on.ensures)) turned)
     (c.exit.ensures.turned content h
     (ran_to_death content c.args.self.now c.run_on.new.self h c.args.row c.run_on.result s c.run_on.ensures c.in-Death.death
     c.in-Death.is))
@@ -66,7 +68,8 @@ returns-in-Fault-clause-turned g c content h s =
     if_ok c.exit-in-Fault.result
     (λ moved turned.
     turned_from content c.args.self.now c.run_on.new.self c.exit-in-Fault.new.self h c.args.row moved
-    (ran_board content c.args.self.now c.run_on.new.self h c.args.row c.run_on.result s c.run_on.ensures) turned)
+    (left_same c.args.self.now c.run_on.new.self
+    (ran_world content c.args.self.now c.run_on.new.self h c.args.row c.run_on.result s c.run_on.ensures)) turned)
     (c.exit-in-Fault.ensures.turned content h
     (ran_to_fault content c.args.self.now c.run_on.new.self h c.args.row c.run_on.result s c.run_on.ensures
     c.in-Fault.field-0 c.in-Fault.is))

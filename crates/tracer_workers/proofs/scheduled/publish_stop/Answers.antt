@@ -1,0 +1,10 @@
+-- The World publishes the stop, and its number is kept.
+use Rattle.std.proofs.Common.{refl}
+use Rattle.tracer_workers.proofs.Rounds.{on_ok}
+use Rattle.tracer_workers.proofs.scheduled.publish_stop.Goals as goal
+
+pub returns-clause-made : goal.returns-clause-made
+returns-clause-made g c =
+    rw (← c.traced.view_is, ← c.traced-inside.view_is) (λ h came answer.
+    let number = c.publish-traced-inside-inside.ensures.number h came answer in
+    on_ok c.add.result (c.publish-traced-inside-inside.ensures.stands h came answer, rw number refl))

@@ -3,10 +3,8 @@
 
 mod board;
 mod case;
-mod cells;
 mod machine;
 mod memory;
 mod pieces;
 mod replay;
-mod waits;
 mod world;

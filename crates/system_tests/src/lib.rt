@@ -7,8 +7,6 @@ mod board;
 #[cfg(test)]
 mod case;
 #[cfg(test)]
-mod cells;
-#[cfg(test)]
 mod definitions;
 #[cfg(test)]
 mod expected_words;
@@ -34,8 +32,6 @@ mod roster;
 mod rows;
 #[cfg(test)]
 mod views;
-#[cfg(test)]
-mod waits;
 #[cfg(test)]
 mod word;
 #[cfg(test)]

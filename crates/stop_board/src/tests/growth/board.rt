@@ -1,10 +1,10 @@
 //! Each growth of a roster and of a board refused in turn.
 
-use crate::rows::{ROOT, THREAD, roots};
+use crate::tests::rows::{ROOT, THREAD, roots};
+use crate::{Board, NoMemory, Roster, RosterError, Row, State};
 use refusing_allocator::RefusingAllocator;
 use std::alloc::Allocator;
 use std::test::Fail;
-use stop_board::{Board, NoMemory, Roster, RosterError, Row, State};
 
 const ROWS: [Row; 2] = [ROOT, THREAD];
 

@@ -1,8 +1,8 @@
 //! The one-thread stop board, on lives worked out by hand from ptrace(2) and waitid(2), up to its greatest sizes.
 
-use crate::rows::{ROOT, THREAD, family, roots};
+use crate::tests::rows::{ROOT, THREAD, family, roots};
+use crate::{Board, Got, Refused, Roster, State};
 use std::test::Fail;
-use stop_board::{Board, Got, Refused, Roster, State};
 use trace_record::{Death, Kind, Resume, Stop};
 
 const SYSCALL: Resume = Resume {
@@ -143,11 +143,11 @@ fn a_row_stops_100000_times(rt: HostRuntime) -> Result<(), Fail> {
 
 #[test]
 fn the_laws_are_there() {
-    stop_board::a_stop_is_claimed_once();
-    stop_board::births_are_counted();
-    stop_board::children_are_born_in_order();
-    stop_board::older_histories_are_legal();
-    stop_board::rows_are_placed();
-    stop_board::settled_rows_stay_settled();
+    crate::a_stop_is_claimed_once();
+    crate::births_are_counted();
+    crate::children_are_born_in_order();
+    crate::older_histories_are_legal();
+    crate::rows_are_placed();
+    crate::settled_rows_stay_settled();
     stop_history::limits_are_fixed();
 }

@@ -1,9 +1,9 @@
 //! Each growth of a World and of a run refused in turn.
 
-use crate::rows::ROOT;
+use crate::tests::rows::ROOT;
+use crate::{Action, NoMemory, Reply, Roster, World};
 use refusing_allocator::RefusingAllocator;
 use std::alloc::Allocator;
-use stop_board::{Action, NoMemory, Reply, Roster, World};
 use trace_record::{Kind, Resume, Stop};
 
 const TURNS: [(u32, Action); 2] = [(0, Action::TakeUp), (0, Action::Publish(Stop::Start))];

@@ -3,7 +3,7 @@
 ghost use Rattle.std.specs.Prelude.{◌<◌, ◌≤◌};
 ghost use Rattle.stop_history.specs.declared.limits.TheConstants.{LAST_NUMBER, MOST_ROWS};
 
-use crate::expected_words::{OPENING, dead, stopped_at_fork, stopped_at_start};
+use crate::tests::expected_words::{OPENING, dead, stopped_at_fork, stopped_at_start};
 use stop_history::{
     Phase, Refused, Word, claimed, died, published, restart_in, restarted, taken_up,
 };

@@ -1,6 +1,6 @@
 //! Words that the tests expect. That their statuses are of the right kind is proved where they are written.
 
-use stop_board::{Phase, Word};
+use crate::{Phase, Word};
 
 /// The word of a row before any event: 0.
 pub(crate) const OPENING: Word = Word {

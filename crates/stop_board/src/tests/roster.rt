@@ -1,8 +1,8 @@
 //! Rosters that are accepted, and each fault at its place.
 
-use crate::rows::{ROOT, THREAD, roots, row};
+use crate::tests::rows::{ROOT, THREAD, roots, row};
+use crate::{Roster, RosterError, fault_after, place_of};
 use std::test::Fail;
-use stop_board::{Roster, RosterError, fault_after, place_of};
 
 #[test]
 fn a_roster_gives_its_rows_back(rt: HostRuntime) -> Result<(), Fail> {

@@ -2,7 +2,7 @@
 use Rattle.std.proofs.Common.{arith}
 use Rattle.trace_record.specs.declared.death.Death.TheVariants as death
 use Rattle.stop_history.proofs.Words.{death_reported}
-use Rattle.system_tests.proofs.expected_words.dead.Goals as goal
+use Rattle.stop_board.proofs.tests.expected_words.dead_before_any_stop.Goals as goal
 
 pub invariant_of-result : goal.invariant_of-result
 invariant_of-result c =

@@ -1,8 +1,8 @@
 //! One thread that plays every actor of a World, by answers worked out by hand.
 
-use crate::rows::{CHILD, ROOT};
+use crate::tests::rows::{CHILD, ROOT};
+use crate::{Action, Got, Refused, Reply, Roster, State, TRACERS, World};
 use std::test::Fail;
-use stop_board::{Action, Got, Refused, Reply, Roster, State, TRACERS, World};
 use trace_record::{Death, Kind, Resume, Stop};
 
 const SYSCALL: Resume = Resume {

@@ -1,6 +1,6 @@
 //! What the rows of a roster are to each other, and rosters that grow row by row.
 
-use crate::rows::{ROOT, THREAD, roots, row};
+use crate::tests::rows::{ROOT, THREAD, roots, row};
 use std::test::Fail;
 use stop_history::{Roster, RosterError, Row, is_leader, parent_place, rank};
 

@@ -1,8 +1,8 @@
 //! The packed word, by values worked out by hand from its table of bits.
 
-use crate::expected_words::{OPENING, dead, stopped_at_start};
+use crate::tests::expected_words::{OPENING, dead, stopped_at_start};
+use crate::{Phase, Word};
 use std::test::Fail;
-use stop_board::{Phase, Word};
 use trace_record::{Kind, Resume};
 
 /// Stop 1, claimed by tracer 2.

@@ -2,7 +2,7 @@
 use Rattle.std.proofs.Common.{arith}
 use Rattle.trace_record.specs.declared.stop.Stop.TheVariants as stop
 use Rattle.stop_history.proofs.Words.{stop_reported}
-use Rattle.system_tests.proofs.expected_words.stopped_at_fork.Goals as goal
+use Rattle.stop_board.proofs.tests.expected_words.stopped_at_fork.Goals as goal
 
 pub invariant_of-result : goal.invariant_of-result
 invariant_of-result c =

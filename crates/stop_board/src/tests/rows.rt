@@ -1,7 +1,7 @@
 //! Rows that the tests make rosters of: a root, its thread and its forked children.
 
+use crate::Row;
 use std::alloc::{AllocError, Allocator};
-use stop_board::Row;
 
 /// A process of one thread, of process group 77.
 pub(crate) const ROOT: Row = Row {

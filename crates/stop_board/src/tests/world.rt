@@ -4,11 +4,13 @@ ghost use Rattle.std.specs.Prelude.{All, IfOk};
 ghost use Rattle.stop_board.specs.Action.{IsAction};
 ghost use Rattle.trace_record.specs.Resume.{IsResume};
 
-use crate::expected_words::{OPENING, dead_before_any_stop, stopped_at_fork, stopped_at_start};
-use crate::rows::{CHILD, ROOT, roots};
+use crate::tests::expected_words::{
+    OPENING, dead_before_any_stop, stopped_at_fork, stopped_at_start,
+};
+use crate::tests::rows::{CHILD, ROOT, roots};
+use crate::{Action, Phase, Refused, Reply, Roster, Row, State, Word, World};
 use std::alloc::{AllocError, Allocator};
 use std::test::Fail;
-use stop_board::{Action, Phase, Refused, Reply, Roster, Row, State, Word, World};
 use trace_record::{Death, Kind, Resume, Stop};
 
 const SYSCALL: Resume = Resume {

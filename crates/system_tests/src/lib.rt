@@ -16,5 +16,3 @@ mod program;
 mod readme;
 #[cfg(test)]
 mod replay;
-#[cfg(test)]
-mod views;

@@ -9,7 +9,8 @@ PREFIX ?= /usr/local
 OUT = bench/out
 # A program that reads a case file (bench/read_case.rattle), in a copy of the libraries that it needs.
 READER = $(OUT)/reader
-LIBRARIES = trace_status trace_regs trace_options trace_pages trace_record stop_history stop_board text_lines trace_script
+LIBRARIES = trace_status trace_regs trace_options trace_pages trace_record stop_history stop_board text_lines trace_script \
+	refusing_allocator
 # Takes the name and the status from a line of rt's report.
 ENDED = s/^case=\(.*\) run=ended status=\([0-9]*\) .*/\1: status \2/
 

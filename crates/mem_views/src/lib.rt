@@ -17,3 +17,6 @@ pub use end::End;
 pub use iovecs::{IOV_MAX, Iovecs, Item};
 pub use laws::{numbers_are_fixed, pieces_join_to_the_bytes};
 pub use views::Views;
+
+#[cfg(test)]
+mod tests;

@@ -20,3 +20,6 @@ pub use stop_history::{
     settled_rows_stay_settled, words_are_in_range, words_are_one_to_one,
 };
 pub use world::{Action, Reply, World};
+
+#[cfg(test)]
+mod tests;

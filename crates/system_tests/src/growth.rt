@@ -1,12 +1,8 @@
 //! Each growth of a call refused in turn: the call answers that it is out of memory then and only then, and what it
 //! was called on is as it was.
 
-mod board;
 mod case;
-mod cells;
 mod machine;
 mod memory;
 mod pieces;
 mod replay;
-mod waits;
-mod world;

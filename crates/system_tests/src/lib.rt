@@ -1,19 +1,9 @@
-//! Tests that cross crates, and those that refuse each growth of a call in turn. They are in one crate at the top,
-//! because tests cost a crate a second proof.
+//! Tests of memory at its greatest size, of a piece's growths, of case files and machines, and of the program. They are
+//! in one crate at the top, because tests cost a crate a second proof, for which its must-fail edits wait.
 #![tactic(auto)]
 
 #[cfg(test)]
-mod board;
-#[cfg(test)]
 mod case;
-#[cfg(test)]
-mod cells;
-#[cfg(test)]
-mod definitions;
-#[cfg(test)]
-mod expected_words;
-#[cfg(test)]
-mod families;
 #[cfg(test)]
 mod growth;
 #[cfg(test)]
@@ -21,24 +11,8 @@ mod machine;
 #[cfg(test)]
 mod memory;
 #[cfg(test)]
-mod one_thread;
-#[cfg(test)]
 mod program;
 #[cfg(test)]
 mod readme;
 #[cfg(test)]
 mod replay;
-#[cfg(test)]
-mod roster;
-#[cfg(test)]
-mod rows;
-#[cfg(test)]
-mod views;
-#[cfg(test)]
-mod waits;
-#[cfg(test)]
-mod word;
-#[cfg(test)]
-mod word_steps;
-#[cfg(test)]
-mod world;

@@ -1,3 +1,4 @@
+mod Handles
 mod Keeping
 mod Places
 mod Points

@@ -23,3 +23,6 @@ mod settle;
 
 pub use calls::Calls;
 pub use id::Id;
+
+#[cfg(test)]
+mod tests;

@@ -1,0 +1,76 @@
+//! What the rows of a roster are to each other, and rosters that grow row by row.
+
+use crate::tests::rows::{ROOT, THREAD, roots, row};
+use std::test::Fail;
+use stop_history::{Roster, RosterError, Row, is_leader, parent_place, rank};
+
+/// A root with two threads, a forked child of the first of them, and another root.
+fn family() -> [Row; 5] {
+    [
+        ROOT,
+        THREAD,
+        row(102, 102, 77, 101),
+        row(200, 200, 78, 0),
+        row(103, 100, 77, 100),
+    ]
+}
+
+#[test]
+fn each_row_has_its_parent_its_rank_and_its_leader(rt: HostRuntime) {
+    let rows = family();
+    for (at, parent, place, leads) in [
+        (0usize, None, 0usize, true),
+        (1, Some(0usize), 0, false),
+        (2, Some(1), 0, true),
+        (3, None, 1, true),
+        (4, Some(0), 1, false),
+    ] {
+        if at < rows.len() {
+            assert_eq!(rt; parent_place(&rows, at), parent, "{at}");
+            assert_eq!(rt; rank(&rows, at), place, "{at}");
+            assert_eq!(rt; is_leader(rows[at]), leads, "{at}");
+        }
+    }
+}
+
+#[test]
+fn a_roster_grows_row_by_row(rt: HostRuntime) -> Result<(), Fail> {
+    let mut roster = Roster::empty(rt.alloc());
+    assert_eq!(rt; roster.len(), 0);
+    for row in family() {
+        roster.push(row)?;
+    }
+    assert_eq!(rt; roster.len(), 5);
+    assert_eq!(rt; roster.rows(), family().as_slice());
+    Ok(())
+}
+
+#[test]
+fn a_refused_row_leaves_the_roster_as_it_was(rt: HostRuntime) -> Result<(), Fail> {
+    let mut roster = Roster::empty(rt.alloc());
+    roster.push(ROOT)?;
+    for (row, fault) in [
+        (row(0, 100, 77, 100), RosterError::Number(1)),
+        (ROOT, RosterError::Twice(1)),
+        (row(101, 101, 77, 102), RosterError::ParentLater(1)),
+        (row(101, 100, 78, 100), RosterError::GroupMismatch(1)),
+    ] {
+        assert_eq!(rt; roster.push(row), Err(fault), "{row:?}");
+        assert_eq!(rt; roster.rows(), [ROOT].as_slice());
+    }
+    Ok(())
+}
+
+#[test]
+fn a_65th_row_has_its_own_fault_first(rt: HostRuntime) -> Result<(), Fail> {
+    let mut rows = roots(rt.alloc(), 64)?;
+    let mut roster = Roster::new(rt.alloc(), rows.as_slice())?;
+    assert_eq!(rt; roster.push(row(1, 1, 77, 0)), Err(RosterError::Twice(64)));
+    assert_eq!(rt; roster.push(row(65, 65, 77, 0)), Err(RosterError::TooMany));
+    assert_eq!(rt; roster.len(), 64);
+    // All at once there are too many before any row is looked at.
+    rows.push(row(1, 1, 77, 0))?;
+    let all = Roster::new(rt.alloc(), rows.as_slice());
+    assert!(rt; matches!(all, Err(RosterError::TooMany)));
+    Ok(())
+}

@@ -1,9 +1,0 @@
--- The word is in range: its status is a first stop's.
-use Rattle.std.proofs.Common.{arith}
-use Rattle.trace_record.specs.declared.stop.Stop.TheVariants as stop
-use Rattle.stop_history.proofs.Words.{stop_reported}
-use Rattle.system_tests.proofs.expected_words.stopped_at_start.Goals as goal
-
-pub invariant_of-result : goal.invariant_of-result
-invariant_of-result c =
-    record { of_phase = stop_reported stop.Start tt; few = omega arith; last = omega arith; fresh = λ is. cc }

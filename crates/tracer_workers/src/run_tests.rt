@@ -42,48 +42,59 @@ const EXEC_TEXT: &str =
     "400 execve(\"/x\", NULL, NULL) = 0\n400 unlink(\"\") = 0\n400 exit(0) = ?\n\
                          400 +++ exited with 0 +++\n";
 
-/// Whether a case prints a text on each schedule, with and without a filter.
-fn prints(
+/// Every call shown, children followed, and strings of at most 32 bytes.
+fn all() -> Config {
+    Config {
+        follow: true,
+        seccomp: false,
+        workers: 2,
+        limit: 32,
+        shown: CallSet::all(),
+    }
+}
+
+/// Whether a case prints a text on a schedule, with and without a filter.
+fn prints_on(
     rt: &impl AllocGlobal,
-    file: &str,
-    follow: bool,
-    limit: u32,
-    shown: CallSet,
+    case: &Case,
+    config: &Config,
+    schedule: &[u32],
     text: &str,
 ) -> Result<bool, Fail> {
-    let case = Case::read(rt.alloc(), file.as_bytes())?;
-    for schedule in SCHEDULES {
-        for seccomp in [false, true] {
-            let config = Config {
-                follow,
-                seccomp,
-                workers: 2,
-                limit,
-                shown,
-            };
-            let printed = run_scheduled(rt.alloc(), &case, &config, schedule)?;
-            if printed.as_bytes() != text.as_bytes() {
-                return Ok(false);
-            }
+    for seccomp in [false, true] {
+        let config = Config {
+            seccomp,
+            workers: 2,
+            ..*config
+        };
+        let printed = run_scheduled(rt.alloc(), case, &config, schedule)?;
+        if printed.as_bytes() != text.as_bytes() {
+            return Ok(false);
         }
     }
     Ok(true)
 }
 
-/// The same with every call shown, children followed and strings of 32 bytes.
-fn prints_all(rt: &impl AllocGlobal, file: &str, text: &str) -> Result<bool, Fail> {
-    prints(rt, file, true, 32, CallSet::all(), text)
+/// Whether a case prints a text on each of the schedules.
+fn prints(rt: &impl AllocGlobal, file: &str, config: &Config, text: &str) -> Result<bool, Fail> {
+    let case = Case::read(rt.alloc(), file.as_bytes())?;
+    for schedule in SCHEDULES {
+        if !prints_on(rt, &case, config, schedule, text)? {
+            return Ok(false);
+        }
+    }
+    Ok(true)
 }
 
 #[test]
 fn a_case_without_rows_prints_nothing(rt: HostRuntime) -> Result<(), Fail> {
-    assert!(rt; prints_all(&rt, "", "")?);
+    assert!(rt; prints(&rt, "", &all(), "")?);
     Ok(())
 }
 
 #[test]
 fn each_schedule_prints_the_worked_case(rt: HostRuntime) -> Result<(), Fail> {
-    assert!(rt; prints_all(&rt, FORK, FORK_TEXT)?);
+    assert!(rt; prints(&rt, FORK, &all(), FORK_TEXT)?);
     Ok(())
 }
 
@@ -91,7 +102,11 @@ fn each_schedule_prints_the_worked_case(rt: HostRuntime) -> Result<(), Fail> {
 fn a_child_that_is_not_followed_is_not_printed(rt: HostRuntime) -> Result<(), Fail> {
     let text =
         "100 write(1, \"hi\\n\", 3) = 3\n100 fork() = 101\n100 exit(3) = ?\n100 +++ exited with 3 +++\n";
-    assert!(rt; prints(&rt, FORK, false, 32, CallSet::all(), text)?);
+    let config = Config {
+        follow: false,
+        ..all()
+    };
+    assert!(rt; prints(&rt, FORK, &config, text)?);
     Ok(())
 }
 
@@ -99,7 +114,8 @@ fn a_child_that_is_not_followed_is_not_printed(rt: HostRuntime) -> Result<(), Fa
 fn a_string_is_cut_at_the_limit(rt: HostRuntime) -> Result<(), Fail> {
     let text = "100 write(1, \"hi\"..., 3) = 3\n100 fork() = 101\n100 exit(3) = ?\n\
                 100 +++ exited with 3 +++\n101 exit(0) = ?\n101 +++ exited with 0 +++\n";
-    assert!(rt; prints(&rt, FORK, true, 2, CallSet::all(), text)?);
+    let config = Config { limit: 2, ..all() };
+    assert!(rt; prints(&rt, FORK, &config, text)?);
     Ok(())
 }
 
@@ -110,13 +126,14 @@ fn calls_that_are_not_shown_are_not_printed(rt: HostRuntime) -> Result<(), Fail>
     shown.add(1);
     let text =
         "100 write(1, \"hi\\n\", 3) = 3\n100 +++ exited with 3 +++\n101 +++ exited with 0 +++\n";
-    assert!(rt; prints(&rt, FORK, true, 32, shown, text)?);
+    let config = Config { shown, ..all() };
+    assert!(rt; prints(&rt, FORK, &config, text)?);
     Ok(())
 }
 
 #[test]
 fn a_leader_waits_for_its_thread(rt: HostRuntime) -> Result<(), Fail> {
-    assert!(rt; prints_all(&rt, THREAD, THREAD_TEXT)?);
+    assert!(rt; prints(&rt, THREAD, &all(), THREAD_TEXT)?);
     Ok(())
 }
 
@@ -124,22 +141,45 @@ fn a_leader_waits_for_its_thread(rt: HostRuntime) -> Result<(), Fail> {
 fn a_signal_is_handed_over(rt: HostRuntime) -> Result<(), Fail> {
     let deadly = "tracee 200 200 200 0\nsignal 15 deadly\nexit 0\nend\n";
     let killed = "200 --- SIGTERM ---\n200 +++ killed by SIGTERM +++\n";
-    assert!(rt; prints_all(&rt, deadly, killed)?);
+    assert!(rt; prints(&rt, deadly, &all(), killed)?);
     let handled = "tracee 200 200 200 0\nsignal 15\nexit 0\nend\n";
     let exited = "200 --- SIGTERM ---\n200 exit(0) = ?\n200 +++ exited with 0 +++\n";
-    assert!(rt; prints_all(&rt, handled, exited)?);
+    assert!(rt; prints(&rt, handled, &all(), exited)?);
     Ok(())
 }
 
 #[test]
 fn bytes_are_printed_as_they_were_at_the_stops(rt: HostRuntime) -> Result<(), Fail> {
-    assert!(rt; prints_all(&rt, MEMORY, MEMORY_TEXT)?);
+    assert!(rt; prints(&rt, MEMORY, &all(), MEMORY_TEXT)?);
     Ok(())
 }
 
 #[test]
 fn an_execve_is_printed_by_the_memory_before_it(rt: HostRuntime) -> Result<(), Fail> {
-    assert!(rt; prints_all(&rt, EXEC, EXEC_TEXT)?);
+    assert!(rt; prints(&rt, EXEC, &all(), EXEC_TEXT)?);
+    Ok(())
+}
+
+/// The next of a sequence of numbers that look random, whose higher bits are used.
+fn next(number: u32) -> u32 {
+    number.wrapping_mul(1_664_525).wrapping_add(1_013_904_223)
+}
+
+#[test]
+fn schedules_by_chance_print_the_same(rt: HostRuntime) -> Result<(), Fail> {
+    let mut number = 1u32;
+    for (file, text) in [(FORK, FORK_TEXT), (THREAD, THREAD_TEXT), (EXEC, EXEC_TEXT)] {
+        let case = Case::read(rt.alloc(), file.as_bytes())?;
+        for _ in 0..20 {
+            let mut schedule = [0u32; 40];
+            for entry in schedule.iter_mut() {
+                number = next(number);
+                // Two rows, two workers and two numbers of no actor.
+                *entry = (number >> 16) % 6;
+            }
+            assert!(rt; prints_on(&rt, &case, &all(), &schedule, text)?);
+        }
+    }
     Ok(())
 }
 
@@ -149,11 +189,8 @@ const GROWTHS: u64 = 8;
 #[test]
 fn a_refused_growth_leaves_no_text(rt: HostRuntime) -> Result<(), Fail> {
     let config = Config {
-        follow: true,
-        seccomp: false,
         workers: 2,
-        limit: 32,
-        shown: CallSet::all(),
+        ..all()
     };
     let mut refusals = 0u64;
     for granted in 0..200 {

@@ -14,7 +14,7 @@ LIBRARIES = trace_status trace_regs trace_options trace_pages trace_record stop_
 # Takes the name and the status from a line of rt's report.
 ENDED = s/^case=\(.*\) run=ended status=\([0-9]*\) .*/\1: status \2/
 
-.PHONY: all kit demo examples refused-code check test bench bench-case bench-cells bench-pages bench-fold tools install clean
+.PHONY: all kit demo examples refused-code check test bench bench-case bench-cells bench-pages bench-fold bench-run tools install clean
 
 all: kit
 	@echo "make: proving the program and what it stands on, over what earlier runs kept (the first time: ten minutes)"
@@ -90,6 +90,7 @@ bench: tools all
 	@$(MAKE) --no-print-directory bench-cells
 	@$(MAKE) --no-print-directory bench-pages
 	@$(MAKE) --no-print-directory bench-fold
+	@$(MAKE) --no-print-directory bench-run
 
 # The program that is timed is a crate of the repository for as long as it is built.
 bench-case: tools kit
@@ -144,6 +145,21 @@ bench-fold: tools kit
 	  && echo "time_fold: record_printer stop_history trace_options trace_record anyhow" >> crates.txt \
 	  && (cd crates/time_fold && $(RT) run -- order 1000 > /dev/null) && cp crates/time_fold/out/time_fold $(OUT)/time_fold
 	@$(PYTHON) bench/fold.py --memory 2 $(OUT)/time_fold $(OUT)/plain_fold
+
+# The same for the run of a case to its text.
+bench-run: tools kit
+	@echo "bench-run: timing the run of a case and a plain Rust program in turn on one case of 16 MB (some minutes)"
+	@mkdir -p $(OUT)
+	@$(RUSTC) -O --edition 2024 -o $(OUT)/generate_case bench/generate_case.rs
+	@$(RUSTC) -O --edition 2024 -o $(OUT)/plain_run bench/plain_run.rs
+	@$(OUT)/generate_case > $(OUT)/case.txt
+	@cp crates.txt $(OUT)/crates_before; trap 'cp $(OUT)/crates_before crates.txt; rm -rf crates/run_case' EXIT INT TERM; \
+	mkdir -p crates/run_case/src crates/run_case/specs crates/run_case/proofs \
+	  && cp bench/run_case.rattle crates/run_case/src/main.rt \
+	  && touch crates/run_case/specs/Lib.antt crates/run_case/proofs/Lib.antt \
+	  && echo "run_case: tracer_workers trace_script trace_options" >> crates.txt \
+	  && (cd crates/run_case && $(RT) run < /dev/null > /dev/null) && cp crates/run_case/out/run_case $(OUT)/run_case
+	@$(PYTHON) bench/compare.py $(OUT)/run_case $(OUT)/plain_run $(OUT)/case.txt
 
 tools:
 	@for command in $(RUSTC) $(PYTHON); do \

@@ -9,15 +9,15 @@ use std::hint::black_box;
 use std::io::{self, Read, Write};
 use std::process::ExitCode;
 
-const MOST_BYTES: usize = 16_777_216;
+pub const MOST_BYTES: usize = 16_777_216;
 const MOST_ROWS: usize = 64;
 const MOST_STEPS: usize = 65_536;
 const MOST_PAGES: usize = 256;
-const PAGE_SIZE: usize = 4096;
+pub const PAGE_SIZE: usize = 4096;
 const LAST_ID: u32 = 4_194_303;
 
 #[derive(Clone, Copy, Debug)]
-enum Cause {
+pub enum Cause {
     UnknownWord,
     BadNumber,
     BadHex,
@@ -223,26 +223,26 @@ fn number_in(base: u8, digits: &[u8]) -> Option<u64> {
 }
 
 #[derive(Clone, Copy)]
-struct Row {
-    tid: u32,
-    tgid: u32,
-    pgid: u32,
+pub struct Row {
+    pub tid: u32,
+    pub tgid: u32,
+    pub pgid: u32,
     /// The place of the parent, if there is one, and the row's rank among its children.
-    parent: Option<u8>,
-    rank: u8,
-    children: u8,
+    pub parent: Option<u8>,
+    pub rank: u8,
+    pub children: u8,
 }
 
 /// A program as it is loaded. Its pages are in the order of their addresses.
 #[derive(Default)]
-struct Image {
-    pages: Vec<(u64, Box<[u8; PAGE_SIZE]>)>,
-    rip: u64,
-    rsp: u64,
+pub struct Image {
+    pub pages: Vec<(u64, Box<[u8; PAGE_SIZE]>)>,
+    pub rip: u64,
+    pub rsp: u64,
 }
 
 impl Image {
-    fn place(&self, page: u64) -> Result<usize, usize> {
+    pub fn place(&self, page: u64) -> Result<usize, usize> {
         self.pages.binary_search_by_key(&page, |(address, _)| *address)
     }
 
@@ -267,7 +267,7 @@ impl Image {
     }
 
     /// Stores bytes whose addresses are mapped.
-    fn store(&mut self, address: u64, bytes: &[u8]) {
+    pub fn store(&mut self, address: u64, bytes: &[u8]) {
         let mut at = address;
         let mut left = bytes;
         while !left.is_empty() {
@@ -283,20 +283,20 @@ impl Image {
 }
 
 /// What a call writes: its bytes are a part of the case's buffer.
-struct Fill {
-    address: u64,
-    start: u32,
-    length: u32,
+pub struct Fill {
+    pub address: u64,
+    pub start: u32,
+    pub length: u32,
 }
 
-struct Call {
-    nr: u32,
-    args: [u64; 6],
-    answer: u64,
-    fill: Option<Fill>,
+pub struct Call {
+    pub nr: u32,
+    pub args: [u64; 6],
+    pub answer: u64,
+    pub fill: Option<Fill>,
 }
 
-enum Step {
+pub enum Step {
     Call(Call),
     Fork(u32),
     Thread(u32),
@@ -306,11 +306,11 @@ enum Step {
 }
 
 #[derive(Default)]
-struct Script {
-    image: Image,
-    steps: Vec<Step>,
+pub struct Script {
+    pub image: Image,
+    pub steps: Vec<Step>,
     /// The place of the last exec.
-    exec: Option<usize>,
+    pub exec: Option<usize>,
 }
 
 impl Script {
@@ -355,11 +355,11 @@ enum LateStep {
     Exec,
 }
 
-struct Case {
-    rows: Vec<Row>,
-    scripts: Vec<Script>,
+pub struct Case {
+    pub rows: Vec<Row>,
+    pub scripts: Vec<Script>,
     /// The bytes of all fills.
-    bytes: Vec<u8>,
+    pub bytes: Vec<u8>,
 }
 
 struct Reading {
@@ -649,7 +649,7 @@ fn call_number(name: &[u8]) -> Option<u32> {
     })
 }
 
-fn read(text: &[u8]) -> Result<Case, (u32, Cause)> {
+pub fn read(text: &[u8]) -> Result<Case, (u32, Cause)> {
     if text.len() > MOST_BYTES {
         return Err((1, TooMany));
     }

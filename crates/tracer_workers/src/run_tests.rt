@@ -6,8 +6,16 @@ use std::test::Fail;
 use trace_options::CallSet;
 use trace_script::Case;
 
-/// Schedules of two rows and two workers: none, turns of each actor, actors that are none, one actor alone.
-const SCHEDULES: [&[u32]; 4] = [&[], &[2, 2, 1, 0, 2], &[9, 1, 3, 0], &[3; 40]];
+/// Schedules of two rows and two workers: none, turns of each actor, actors that are none, one actor alone, and long ones.
+const SCHEDULES: [&[u32]; 7] = [
+    &[],
+    &[2, 2, 1, 0, 2],
+    &[9, 1, 3, 0],
+    &[3; 40],
+    &[0; 300],
+    &[2; 300],
+    &[u32::MAX, 0, 2],
+];
 
 /// A root that writes, forks and exits, and its child.
 const FORK: &str = "tracee 100 100 77 0\npage 0x10000\ndata 0x10000 68690a\n\
@@ -53,7 +61,7 @@ fn all() -> Config {
     }
 }
 
-/// Whether a case prints a text on a schedule, with and without a filter.
+/// Whether a case prints a text on a schedule, with and without a filter, by one worker, by two, and by 16.
 fn prints_on(
     rt: &impl AllocGlobal,
     case: &Case,
@@ -62,14 +70,26 @@ fn prints_on(
     text: &str,
 ) -> Result<bool, Fail> {
     for seccomp in [false, true] {
-        let config = Config {
-            seccomp,
-            workers: 2,
-            ..*config
+        let config = Config { seccomp, ..*config };
+        let one = Config {
+            workers: 1,
+            ..config
         };
-        let printed = run_scheduled(rt.alloc(), case, &config, schedule)?;
-        if printed.as_bytes() != text.as_bytes() {
-            return Ok(false);
+        let two = Config {
+            workers: 2,
+            ..config
+        };
+        let most = Config {
+            workers: 16,
+            ..config
+        };
+        let alone = run_scheduled(rt.alloc(), case, &one, schedule)?;
+        let shared = run_scheduled(rt.alloc(), case, &two, schedule)?;
+        let crowded = run_scheduled(rt.alloc(), case, &most, schedule)?;
+        for printed in [&alone, &shared, &crowded] {
+            if printed.as_bytes() != text.as_bytes() {
+                return Ok(false);
+            }
         }
     }
     Ok(true)
@@ -157,6 +177,40 @@ fn bytes_are_printed_as_they_were_at_the_stops(rt: HostRuntime) -> Result<(), Fa
 #[test]
 fn an_execve_is_printed_by_the_memory_before_it(rt: HostRuntime) -> Result<(), Fail> {
     assert!(rt; prints(&rt, EXEC, &all(), EXEC_TEXT)?);
+    Ok(())
+}
+
+#[test]
+fn a_row_has_many_stops(rt: HostRuntime) -> Result<(), Fail> {
+    let mut file = String::new(rt.alloc());
+    let mut text = String::new(rt.alloc());
+    file.push_str("tracee 100 100 77 0\n")?;
+    for _ in 0..300 {
+        file.push_str("call getpid = 100\n")?;
+        text.push_str("100 getpid() = 100\n")?;
+    }
+    file.push_str("end\n")?;
+    text.push_str("100 +++ exited with 0 +++\n")?;
+    assert!(rt; prints(&rt, file.as_str(), &all(), text.as_str())?);
+    Ok(())
+}
+
+#[test]
+fn there_are_64_rows(rt: HostRuntime) -> Result<(), Fail> {
+    let mut file = String::new(rt.alloc());
+    let mut text = String::new(rt.alloc());
+    file.push_str("tracee 100 100 77 0\n")?;
+    for child in 101..164 {
+        file.push_str(format!(in rt.alloc(); "fork {child}\n")?.as_str())?;
+        text.push_str(format!(in rt.alloc(); "100 fork() = {child}\n")?.as_str())?;
+    }
+    file.push_str("end\n")?;
+    text.push_str("100 +++ exited with 0 +++\n")?;
+    for child in 101..164 {
+        file.push_str(format!(in rt.alloc(); "tracee {child} {child} 77 100\nend\n")?.as_str())?;
+        text.push_str(format!(in rt.alloc(); "{child} +++ exited with 0 +++\n")?.as_str())?;
+    }
+    assert!(rt; prints(&rt, file.as_str(), &all(), text.as_str())?);
     Ok(())
 }
 

@@ -10,8 +10,8 @@ use Rattle.stop_table.specs.Entry.{Entry, history_of}
 use Rattle.trace_script.specs.CaseFacts.{IsCase}
 use Rattle.trace_script.specs.CaseFile.{CaseContent}
 use Rattle.tracer_workers.specs.Config.{plan_of}
-use Rattle.tracer_workers.specs.Scheduled.{IsHeldOrIdle, IsKept, IsOver, KeptRow, Moved, RunState, Stands, events_left, run_left, total}
-use Rattle.tracer_workers.specs.Turn.{HasGone, HasSwept, HasTurned, HasWorked, new_row}
+use Rattle.tracer_workers.specs.Scheduled.{IsKept, IsOver, KeptRow, Moved, RunState, Stands, events_left, run_left, total}
+use Rattle.tracer_workers.specs.Turn.{HasClaimed, HasGone, HasRunOut, HasTurned, HasWorked, HaveRunOut, IsResting, new_row}
 use Rattle.tracer_workers.proofs.RunEnd.{run_over}
 
 -- the World alone says how many events are left
@@ -60,29 +60,7 @@ stands_over content run world h stands came rows =
       stands.1,
     )
 
--- ---- the turns of the first tracees, and of one more
-
-module _ (content : CaseContent) (run mid new : RunState) (h : List Entry) (rows : ℕ) where
-  -- where an event has come of one of them
-  pub sweep_moved : (moved : Moved content run mid h) (turn : Bool) → HasTurned content mid new moved.0 rows turn
-      → Moved content run new h
-  sweep_moved moved true turned =
-      let less = moved.2 in moved_on content run mid new h moved.0 (omega (arith, less)) turned
-  sweep_moved moved false turned =
-      let less = moved.2 in let left = turned.1 in (moved.0, turned.0, omega (arith, less, left))
-
-  pub sweep_stayed : HasSwept content run mid h rows false → (turn : Bool) → HasTurned content mid new h rows turn
-      → HasSwept content run new h (rows + 1) turn
-  sweep_stayed swept true turned = moved_from content run mid new h swept.1 turned
-  sweep_stayed swept false turned = (
-    turned.0,
-    turned.1 ∙ swept.1,
-    λ row less.
-        elim (cases_eq row rows) [
-          | inl same ↦ subst (IsHeldOrIdle content h) (sym same) turned.2
-          | inr other ↦ swept.2 row (omega (arith, less, other))
-        ],
-  )
+-- ---- a turn of a row's tracee, and then a worker's in that row
 
 -- in either case a run still stands
 pub turned_stands : (content : CaseContent) (run new : RunState) (h : List Entry) (row : ℕ) (moved : Bool)
@@ -95,42 +73,87 @@ pub worked_stands : (content : CaseContent) (run new : RunState) (h : List Entry
 worked_stands content run new h true stands done = (done.0, done.1)
 worked_stands content run new h false stands done = (h, done.0)
 
-pub swept_stands : (content : CaseContent) (run mid : RunState) (h : List Entry) (rows : ℕ) (moved : Bool)
-    → HasSwept content run mid h rows moved → (later : List Entry) × Stands content mid later
-swept_stands content run mid h rows true swept = (swept.0, swept.1)
-swept_stands content run mid h rows false swept = (h, swept.0)
+pub pair_on : (content : CaseContent) (run mid new : RunState) (h : List Entry) (row : ℕ) (turned claimed : Bool)
+    → HasTurned content run mid h row turned
+    → ((later : List Entry) → Stands content mid later → HasClaimed content mid new later row claimed)
+    → HasRunOut content run new h row (turned || claimed)
+pair_on content run mid new h row true true turned got =
+    let less = turned.2 in moved_on content run mid new h turned.0 (omega (arith, less)) (got turned.0 turned.1)
+pair_on content run mid new h row true false turned got =
+    let less = turned.2 in
+    let stays = got turned.0 turned.1 in
+    let left = stays.1 in (turned.0, stays.0, omega (arith, less, left))
+pair_on content run mid new h row false true turned got = moved_from content run mid new h turned.1 (got h turned.0)
+pair_on content run mid new h row false false turned got =
+    let stays = got h turned.0 in (stays.0, stays.1 ∙ turned.1, (turned.2, stays.2))
 
-pub sweep_on : (content : CaseContent) (run mid new : RunState) (h : List Entry) (rows : ℕ) (moved turn : Bool)
-    → ((later : List Entry) → Stands content mid later → HasTurned content mid new later rows turn)
-    → HasSwept content run mid h rows moved → HasSwept content run new h (rows + 1) (moved || turn)
-sweep_on content run mid new h rows true turn turned swept =
-    sweep_moved content run mid new h rows swept turn (turned swept.0 swept.1)
-sweep_on content run mid new h rows false turn turned swept =
-    sweep_stayed content run mid new h rows swept turn (turned h swept.0)
+-- ---- as far as a row goes
 
--- ---- the worker's turn after them
+-- by the last pair of turns: whether an event came of it, and of one before it
+abbrev pub IsRunning : CaseContent → RunState → RunState → List Entry → (moved : Bool) → Type 0
+IsRunning content run new h true = Moved content run new h
+IsRunning content run new h false = Stands content new h × (run_left new ≡ run_left run)
 
-pub round_moved : (content : CaseContent) (run mid new : RunState) (h : List Entry) (moved : Moved content run mid h)
-    (worked : Bool) → HasWorked content mid new moved.0 worked → Moved content run new h
-round_moved content run mid new h moved true done =
-    let less = moved.2 in moved_on content run mid new h moved.0 (omega (arith, less)) done
-round_moved content run mid new h moved false done =
-    let less = moved.2 in let left = done.1 in (moved.0, done.0, omega (arith, less, left))
+pub running_stands : (content : CaseContent) (run new : RunState) (h : List Entry) (moved : Bool)
+    → IsRunning content run new h moved → (later : List Entry) × Stands content new later
+running_stands content run new h true running = (running.0, running.1)
+running_stands content run new h false running = (h, running.0)
 
-pub round_stayed : (content : CaseContent) (run mid new : RunState) (h : List Entry)
-    → HasSwept content run mid h (length content.rows) false
-    → (worked : Bool) → HasWorked content mid new h worked → HasGone content run new h worked
-round_stayed content run mid new h swept true done = moved_from content run mid new h swept.1 done
-round_stayed content run mid new h swept false done =
-    (done.0, run_over content h swept.0.0.known.roster swept.0.1 done.2 swept.2)
+-- an event came of the pair
+pub runs_on : (content : CaseContent) (run mid new : RunState) (h : List Entry) (row : ℕ) (moved : Bool)
+    → ((later : List Entry) → Stands content mid later → HasRunOut content mid new later row true)
+    → IsRunning content run mid h moved → Moved content run new h
+runs_on content run mid new h row true pair running =
+    let less = running.2 in moved_on content run mid new h running.0 (omega (arith, less)) (pair running.0 running.1)
+runs_on content run mid new h row false pair running = moved_from content run mid new h running.1 (pair h running.0)
 
-pub round_on : (content : CaseContent) (run mid new : RunState) (h : List Entry) (moved worked : Bool)
-    → ((later : List Entry) → Stands content mid later → HasWorked content mid new later worked)
-    → HasSwept content run mid h (length content.rows) moved → HasGone content run new h (moved || worked)
-round_on content run mid new h true worked done swept =
-    round_moved content run mid new h swept worked (done swept.0 swept.1)
-round_on content run mid new h false worked done swept =
-    round_stayed content run mid new h swept worked (done h swept.0)
+-- none came of it
+pub runs_out : (content : CaseContent) (run mid new : RunState) (h : List Entry) (row : ℕ) (moved : Bool)
+    → ((later : List Entry) → Stands content mid later → HasRunOut content mid new later row false)
+    → IsRunning content run mid h moved → HasRunOut content run new h row moved
+runs_out content run mid new h row true pair running =
+    let less = running.2 in
+    let stays = pair running.0 running.1 in
+    let left = stays.1 in (running.0, stays.0, omega (arith, less, left))
+runs_out content run mid new h row false pair running =
+    let stays = pair h running.0 in (stays.0, stays.1 ∙ running.1, stays.2)
+
+-- ---- the first rows, and one more
+
+pub rows_stand : (content : CaseContent) (run new : RunState) (h : List Entry) (rows : ℕ) (moved : Bool)
+    → HaveRunOut content run new h rows moved → (later : List Entry) × Stands content new later
+rows_stand content run new h rows true have = (have.0, have.1)
+rows_stand content run new h rows false have = (h, have.0)
+
+pub rows_on : (content : CaseContent) (run mid new : RunState) (h : List Entry) (rows : ℕ) (moved out : Bool)
+    → ((later : List Entry) → Stands content mid later → HasRunOut content mid new later rows out)
+    → HaveRunOut content run mid h rows moved → HaveRunOut content run new h (rows + 1) (moved || out)
+rows_on content run mid new h rows true true last have =
+    let less = have.2 in moved_on content run mid new h have.0 (omega (arith, less)) (last have.0 have.1)
+rows_on content run mid new h rows true false last have =
+    let less = have.2 in
+    let stays = last have.0 have.1 in
+    let left = stays.1 in (have.0, stays.0, omega (arith, less, left))
+rows_on content run mid new h rows false true last have = moved_from content run mid new h have.1 (last h have.0)
+rows_on content run mid new h rows false false last have =
+    let stays = last h have.0 in (
+      stays.0,
+      stays.1 ∙ have.1,
+      λ row less.
+          elim (cases_eq row rows) [
+            | inl same ↦ subst (IsResting content h) (sym same) stays.2
+            | inr other ↦ have.2 row (omega (arith, less, other))
+          ],
+    )
+
+pub all_rows : (content : CaseContent) (run new : RunState) (h : List Entry) (moved : Bool)
+    → HaveRunOut content run new h (length content.rows) moved → HasGone content run new h moved
+all_rows content run new h true have = have
+all_rows content run new h false have = (
+  have.0,
+  run_over content h have.0.0.known.roster have.0.1 (λ row within. (have.2 row within).1)
+      (λ row within. (have.2 row within).0),
+)
 
 -- ---- rounds
 

@@ -120,13 +120,24 @@ HasWorked content run new h false = Stands content new h × (run_left new ≡ ru
 
 -- ---- a round
 
--- the turns of the first tracees
-abbrev pub HasSwept : CaseContent → RunState → RunState → List Entry → (rows : ℕ) → Bool → Type 0
-HasSwept content run new h rows true = Moved content run new h
-HasSwept content run new h rows false =
-    Stands content new h × (run_left new ≡ run_left run) × ((row : ℕ) → row < rows → IsHeldOrIdle content h row)
+-- no event could come of a row: it does not run or is held back, and nothing waits in it
+abbrev pub IsResting : CaseContent → List Entry → ℕ → Type 0
+IsResting content h row =
+    IsHeldOrIdle content h row × (is_waitable (state_after content.rows (history_of h) row) ≡ false)
 
--- all tracees and a worker have had a turn; where no event came of it, the run is over
+-- a row has run as far as it goes, by turns of its tracee and of a worker
+abbrev pub HasRunOut : CaseContent → RunState → RunState → List Entry → ℕ → Bool → Type 0
+HasRunOut content run new h row true = Moved content run new h
+HasRunOut content run new h row false =
+    Stands content new h × (run_left new ≡ run_left run) × IsResting content h row
+
+-- the same of the first rows
+abbrev pub HaveRunOut : CaseContent → RunState → RunState → List Entry → (rows : ℕ) → Bool → Type 0
+HaveRunOut content run new h rows true = Moved content run new h
+HaveRunOut content run new h rows false =
+    Stands content new h × (run_left new ≡ run_left run) × ((row : ℕ) → row < rows → IsResting content h row)
+
+-- the same of all rows: where no event came of them, the run is over
 abbrev pub HasGone : CaseContent → RunState → RunState → List Entry → Bool → Type 0
 HasGone content run new h true = Moved content run new h
 HasGone content run new h false = Stands content new h × IsOver content h

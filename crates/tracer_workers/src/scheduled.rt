@@ -4,7 +4,7 @@
 //! a restart to the next stop or the death; a worker's turn is a wait and the restart.
 
 ghost use Rattle.std.specs.Prelude.{[], ◌≡◌, ◌<◌, ◌≤◌, ◌∷◌, ℕ, List, None, Some, true, false, IfOk, IsOkUnless, OnOk, length};
-ghost use Rattle.std.specs.Prelude.{◌+◌, IsErr, Ok, slice_get};
+ghost use Rattle.std.specs.Prelude.{◌+◌, Bool, IsErr, Ok, slice_get};
 ghost use Rattle.record_printer.specs.FolderAnswers.{lost, pieces_text, refusal};
 ghost use Rattle.record_printer.specs.Piece as pieces;
 ghost use Rattle.record_printer.specs.Represents.{Represents as HasCome};
@@ -23,7 +23,7 @@ ghost use Rattle.trace_script.specs.StopTrace.{Position, context_of, next_elemen
 ghost use Rattle.tracer_workers.specs.Config.{plain, text_of};
 ghost use Rattle.tracer_workers.specs.HistoryPieces.{stop_piece};
 ghost use Rattle.tracer_workers.specs.Scheduled.{CameTo, IsOver, KeptRow, Moved, RunState, Stands};
-ghost use Rattle.tracer_workers.specs.Turn.{HasClaimed, HasDied, HasGone, HasHeld, HasRunOn, HasStopped, HasTurned, HasWorked, IsToRun};
+ghost use Rattle.tracer_workers.specs.Turn.{HasClaimed, HasDied, HasGone, HasHeld, HasRunOn, HasRunOut, HasStopped, HasTurned, HasWorked, IsToRun};
 ghost use Rattle.tracer_workers.specs.Turn.{new_row, with_next, with_number};
 ghost use Rattle.tracer_workers.specs.declared.run_error.RunError.TheVariants as run_error;
 
@@ -334,7 +334,35 @@ impl<A: Allocator + Copy> Run<A> {
         false
     }
 
-    /// The turns of all tracees, and one of worker 0; whether an event came of them.
+    /// Turns of a row's tracee and of worker 0 in that row, until no event comes of them; whether one did.
+    fn run_out(&mut self, row: u32) -> Result<bool, NoMemory>
+        requires { (content : CaseContent) × (h : List Entry) × Stands content self.old h
+            × (row < length content.rows) }
+        ensures gone { (content : CaseContent) (h : List Entry) → Stands content self.old h →
+            row < length content.rows → IfOk result (λ moved. HasRunOut content self.old self.new h row moved) }
+        ensures config { self.new.config ≡ self.old.config }
+    {
+        let mut moved = false;
+        'pairs: while self.pair(row)? {
+            moved = true;
+        }
+        Ok(moved)
+    }
+
+    /// A turn of a row's tracee and then one of worker 0 in that row; whether an event came of them.
+    fn pair(&mut self, row: u32) -> Result<bool, NoMemory>
+        requires { (content : CaseContent) × (h : List Entry) × Stands content self.old h
+            × (row < length content.rows) }
+        ensures gone { (content : CaseContent) (h : List Entry) → Stands content self.old h →
+            row < length content.rows → IfOk result (λ moved. HasRunOut content self.old self.new h row moved) }
+        ensures config { self.new.config ≡ self.old.config }
+    {
+        let turned = self.tracee_turn(row)?;
+        let claimed = self.claim(row, 0);
+        Ok(turned | claimed)
+    }
+
+    /// Runs out each row in turn; whether an event came of one.
     fn round(&mut self) -> Result<bool, NoMemory>
         requires { (content : CaseContent) × (h : List Entry) × Stands content self.old h }
         ensures gone { (content : CaseContent) (h : List Entry) → Stands content self.old h →
@@ -343,9 +371,8 @@ impl<A: Allocator + Copy> Run<A> {
     {
         let mut moved = false;
         for row in 0..self.rows.len() as u32 {
-            moved |= self.tracee_turn(row)?;
+            moved |= self.run_out(row)?;
         }
-        moved |= self.worker_turn(0);
         Ok(moved)
     }
 
@@ -353,6 +380,14 @@ impl<A: Allocator + Copy> Run<A> {
     fn turn(&mut self, actor: u32) -> Result<(), NoMemory>
         requires workers { self.old.config.workers ≤ TRACERS }
         requires stands { (content : CaseContent) × (h : List Entry) × Stands content self.old h }
+        ensures tracee { (content : CaseContent) (h : List Entry) → Stands content self.old h →
+            actor < length content.rows →
+            OnOk result ((moved : Bool) × HasTurned content self.old self.new h actor moved) }
+        ensures worker { (content : CaseContent) (h : List Entry) → Stands content self.old h →
+            length content.rows ≤ actor → actor < length content.rows + self.old.config.workers →
+            OnOk result ((found : Bool) × HasWorked content self.old self.new h found) }
+        ensures nobody { (content : CaseContent) (h : List Entry) → Stands content self.old h →
+            length content.rows + self.old.config.workers ≤ actor → OnOk result (self.new ≡ self.old) }
         ensures gone { (content : CaseContent) (h : List Entry) → Stands content self.old h →
             OnOk result ((later : List Entry) × Stands content self.new later) }
         ensures config { self.new.config ≡ self.old.config }

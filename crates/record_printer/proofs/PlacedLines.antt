@@ -33,7 +33,7 @@ and_false : (b : Bool) → (b && false) ≡ false
 and_false true = refl
 and_false false = refl
 
--- a stop that is no syscall-exit-stop leaves what stands before it
+-- a stop other than a syscall-exit-stop changes nothing before it
 same_entered : (x : Note) (notes : List Note) (note : Note) (rest : Bool) → is_exit note ≡ false
     → is_entered (notes ++ note ∷ []) ≡ rest
     → is_entered (x ∷ (notes ++ note ∷ [])) ≡ ((is_enter x && not (list_any is_exit notes)) || rest)

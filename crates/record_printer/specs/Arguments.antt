@@ -99,7 +99,7 @@ abbrev pub is_array : ℕ → FlatMemory → ℕ → ℕ → Bool
 is_array limit memory address count =
     nat_le count IOV_MAX && not (list_any is_broken (iovec_items memory address (min limit count)))
 
--- the first entries of an array, with dots after them where it has more; nothing where it is no array
+-- the first entries of an array, with dots after them where it has more; None where the array cannot be shown
 abbrev pub array : ℕ → FlatMemory → Option ℕ → ℕ → ℕ → Option (List ℕ)
 array limit memory left address count =
     if is_array limit memory address count then Some (array_text limit memory left address count) else None

@@ -34,7 +34,7 @@ due (Some ending) last = ending.number
 abbrev pub missing_in : Stops → Option Ending → ℕ → Option ℕ
 missing_in stops ending last = find (λ n. not (is_some (stops n))) (range_with_len 1 (due ending last))
 
--- the notes of so many stops from a number on, in the order of their numbers
+-- the notes of `count` stops, the first of number `first`, in the order of their numbers
 abbrev pub notes_from : Stops → (first count : ℕ) → List Note
 notes_from stops first count = flat_map (λ n. option_to_list (stops n)) (range_with_len first count)
 

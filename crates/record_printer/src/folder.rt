@@ -61,7 +61,7 @@ impl<A: Allocator + Copy> Folder<A> {
 
     /// Adds a piece, or answers why not and leaves the folder as it was, the first reason first: `Stranger` for a piece
     /// of no row, for a stop of number 0, and where the number of a stop is above that of its row's death, `Twice` for a
-    /// stop of a number that there is, and for a second death, then `NoMemory`. `Lost` is no reason.
+    /// stop whose number was added already and for a second death, then `NoMemory`. It never answers `Lost`.
     pub fn add(&mut self, piece: Piece<A>) -> Result<(), FoldError>
         ensures refused { (came : List pieces.Piece) → Represents self.old came → (error : FoldError)
             → refusal self.old.rows came piece ≡ Some error → result ≡ Err error }
@@ -182,7 +182,7 @@ fn add_piece<A: Allocator + Copy>(
     }
 }
 
-/// So many rows of which nothing has come.
+/// `count` rows to which no piece was added.
 fn new_rows<A: Allocator + Copy>(alloc: A, count: usize) -> Result<Vec<KeptRow<A>, A>, NoMemory>
     ensures length { IfOk result (λ kept. length kept.items ≡ count) }
     ensures new { IfOk result (λ kept. (row : ℕ) → kept_at kept.items row ≡ new_row) }

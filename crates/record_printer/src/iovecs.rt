@@ -12,7 +12,7 @@ use std::alloc::Allocator;
 use trace_pages::NoMemory;
 
 /// Writes the first entries of an array whose bytes go into a call, with dots after them where it has more, or its
-/// address where it is no array.
+/// address where the array cannot be shown.
 pub fn write_array<A: Allocator, B: Allocator>(
     text: &mut Vec<u8, A>,
     views: &Views<'_, B>,
@@ -31,7 +31,7 @@ pub fn write_array<A: Allocator, B: Allocator>(
 }
 
 /// The first entries of an array whose bytes came out of a call, which share its result in order, with dots after them
-/// where it has more, or None where it is no array.
+/// where it has more, or None where the array cannot be shown.
 pub fn array<A: Allocator, B: Allocator>(
     alloc: A,
     views: &Views<'_, B>,

@@ -11,7 +11,7 @@ use Rattle.trace_script.specs.CaseFacts.{IsCase}
 use Rattle.trace_script.specs.CaseFile.{CaseContent}
 use Rattle.tracer_workers.specs.Config.{plan_of}
 use Rattle.tracer_workers.specs.Scheduled.{IsKept, IsOver, KeptRow, Moved, RunState, Stands, events_left, run_left, total}
-use Rattle.tracer_workers.specs.Turn.{HasClaimed, HasGone, HasRunOut, HasTurned, HasWorked, HaveRunOut, IsResting, new_row}
+use Rattle.tracer_workers.specs.Turn.{HasClaimed, HasGone, HasRunOut, HasTurned, HaveRunOut, IsResting, new_row}
 use Rattle.tracer_workers.proofs.RunEnd.{run_over}
 
 -- the World alone says how many events are left
@@ -67,11 +67,6 @@ pub turned_stands : (content : CaseContent) (run new : RunState) (h : List Entry
     → HasTurned content run new h row moved → (later : List Entry) × Stands content new later
 turned_stands content run new h row true turned = (turned.0, turned.1)
 turned_stands content run new h row false turned = (h, turned.0)
-
-pub worked_stands : (content : CaseContent) (run new : RunState) (h : List Entry) (worked : Bool) → Stands content run h
-    → HasWorked content run new h worked → (later : List Entry) × Stands content new later
-worked_stands content run new h true stands done = (done.0, done.1)
-worked_stands content run new h false stands done = (h, done.0)
 
 pub pair_on : (content : CaseContent) (run mid new : RunState) (h : List Entry) (row : ℕ) (turned claimed : Bool)
     → HasTurned content run mid h row turned
@@ -176,11 +171,6 @@ pub gone_on : (content : CaseContent) (run new : RunState) (h : List Entry) (mov
     → HasGone content run new h moved → (later : List Entry) × AreGone content new moved later
 gone_on content run new h true gone = (gone.0, gone.1)
 gone_on content run new h false gone = (h, gone)
-
-pub gone_fewer : (content : CaseContent) (run new : RunState) (h : List Entry) (moved : Bool)
-    → HasGone content run new h moved → rounds_left new moved < rounds_left run true
-gone_fewer content run new h true gone = let less = gone.2 in omega (arith, less)
-gone_fewer content run new h false gone = omega arith
 
 -- ---- before any event
 

@@ -100,7 +100,7 @@ const FORKS: [Made; 9] = [
     Made(100, 7, Stop::Enter, Call(60, [3, 0, 0], 0, "")),
 ];
 
-/// The same behind a filter that stops write alone.
+/// The same stops where a filter stops write alone.
 const FILTERED: [Made; 5] = [
     Made(100, 1, Stop::Start, NONE),
     Made(100, 2, Stop::Seccomp(0), WRITE),

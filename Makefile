@@ -7,14 +7,11 @@ RUSTC ?= rustc
 PYTHON ?= python3
 PREFIX ?= /usr/local
 OUT = bench/out
-# A program that reads a case file (bench/read_case.rattle), in a copy of the libraries that it needs.
-READER = $(OUT)/reader
-LIBRARIES = trace_status trace_regs trace_options trace_pages trace_record stop_history stop_board text_lines trace_script \
-	refusing_allocator
 # Takes the name and the status from a line of rt's report.
 ENDED = s/^case=\(.*\) run=ended status=\([0-9]*\) .*/\1: status \2/
 
-.PHONY: all kit demo examples refused-code check test bench bench-case bench-cells bench-pages bench-fold bench-run tools install clean
+.PHONY: all kit demo examples man-page refused-code check test bench bench-case bench-cells bench-pages bench-fold bench-run \
+	tools install clean
 
 all: kit
 	@echo "make: proving the program and what it stands on, over what earlier runs kept (the first time: ten minutes)"
@@ -30,35 +27,37 @@ kit:
 		echo "make: proved with $(KIT), but $(RT) is $$($(RT) --version): a proof may fail"
 
 demo: kit
-	@echo "demo: running the program on two files of examples/replay, without the proofs (one minute)"
-	@for file in first refused; do \
-		echo; echo "tracer replay < examples/replay/$$file, which is"; sed 's/^/    /' examples/replay/$$file; \
-		echo "answers"; (cd crates/tracer && $(RT) try -- replay < ../../examples/replay/$$file 2>&1); \
+	@echo "demo: running the program on five files of examples/, without the proofs (two minutes)"
+	@for file in replay/first replay/refused run/fork.case run/signal.case run/shown.case; do \
+		words="$$(dirname $$file) $$(cat examples/$$file.args 2> /dev/null | tr '\n' ' ')"; words="$${words% }"; \
+		echo; echo "tracer $$words < examples/$$file, which is"; sed 's/^/    /' examples/$$file; \
+		echo "answers"; (cd crates/tracer && $(RT) try -- $$words < ../../examples/$$file 2>&1); \
 	done || true
 
-examples:
-	@echo "examples: running the program on each file of examples/, without waiting for the proofs (half a minute)"
-	@for file in first thread; do echo "examples/replay/$$file:"; cat examples/replay/$$file; echo "prints:"; cat examples/replay/$$file.stdout; done
-	@found="$$(cd crates/tracer && $(RT) try --cases ../../examples/replay -- replay 2>&1)" \
+# Runs a command of the program on each file of the folder of its name, with the words of the file's .args.
+define run_examples
+	@found="$$(cd crates/tracer && $(RT) try --cases ../../examples/$(1) -- $(1) 2>&1)" \
 	  || { echo "$$found"; echo "examples: FAILED: a file printed another text than the one beside it" >&2; exit 1; }; \
 	echo "$$found" | sed -n -e '$(ENDED)' -e '/^== /,/: status /{p;b' -e '}' -e '/: status /p' \
-	  | diff -u examples/statuses - \
-	  || { echo "examples: FAILED: a status or a message is not that of examples/statuses (- wanted, + found)" >&2; exit 1; }
-	@echo "examples: each file printed the text that stands beside it, and ended with its status in examples/statuses"
-	@rm -rf $(READER)
-	@mkdir -p $(READER)/crates/read_case/src $(READER)/crates/read_case/specs $(READER)/crates/read_case/proofs
-	@for crate in $(LIBRARIES); do mkdir -p $(READER)/crates/$$crate \
-		&& cp -R crates/$$crate/src crates/$$crate/specs crates/$$crate/proofs $(READER)/crates/$$crate/ || exit 1; done
-	@cp bench/read_case.rattle $(READER)/crates/read_case/src/main.rt
-	@touch $(READER)/crates/read_case/specs/Lib.antt $(READER)/crates/read_case/proofs/Lib.antt
-	@for crate in $(LIBRARIES); do grep "^$$crate:" crates.txt || exit 1; done > $(READER)/crates.txt
-	@echo "read_case: trace_script stop_board" >> $(READER)/crates.txt
-	@found="$$(cd $(READER)/crates/read_case && $(RT) try --cases ../../../../../examples/run 2>&1)" \
-	  || { echo "$$found"; echo "examples: FAILED: a case file was not read" >&2; exit 1; }; \
-	echo "$$found" | sed -n -e '$(ENDED)' -e '/: status /p' | diff -u examples/cases - \
-	  || { echo "examples: FAILED: a case file was not read (- wanted, + found)" >&2; exit 1; }
-	@rm -rf $(READER)
-	@echo "examples: each case file of examples/run was read"
+	  | diff -u examples/statuses-$(1) - \
+	  || { echo "examples: FAILED: a status or a message is not that of examples/statuses-$(1) (- wanted, + found)" >&2; exit 1; }
+	@echo "examples: each file of examples/$(1) printed the text beside it, and ended as examples/statuses-$(1) says"
+endef
+
+examples: kit
+	@echo "examples: running the program on each file of examples/, without waiting for the proofs (a minute)"
+	@for file in replay/thread run/fork.case; do echo "examples/$$file:"; cat examples/$$file; \
+		echo "prints:"; cat examples/$$file.stdout; done
+	$(call run_examples,replay)
+	$(call run_examples,run)
+
+man-page: kit
+	@echo "man-page: comparing man/tracer.1 with the program's help, and running its examples (half a minute)"
+	@rm -rf $(OUT)/man_page && $(PYTHON) tools/man_page.py inputs man/tracer.1 $(OUT)/man_page
+	@(cd crates/tracer && $(RT) try --cases ../../$(OUT)/man_page) > $(OUT)/man_page.txt 2>&1 \
+	  || { cat $(OUT)/man_page.txt; echo "man-page: FAILED: an example printed another text than the page says" >&2; exit 1; }
+	@$(PYTHON) tools/man_page.py compare man/tracer.1 $(OUT)/man_page.txt
+	@echo "man-page: the page has the options of the help, and its examples print what it says"
 
 refused-code:
 	@echo "refused-code: compiling programs that must not compile, and one that must (a minute)"
@@ -69,6 +68,7 @@ check: kit
 	@echo "check: proving every crate from nothing, then the must-fail edits, tests and programs (docs/STATUS.md has the time)"
 	@$(RT) ci
 	@$(MAKE) --no-print-directory examples
+	@$(MAKE) --no-print-directory man-page
 	@$(MAKE) --no-print-directory refused-code
 
 test: kit
@@ -92,19 +92,24 @@ bench: tools all
 	@$(MAKE) --no-print-directory bench-fold
 	@$(MAKE) --no-print-directory bench-run
 
-# The program that is timed is a crate of the repository for as long as it is built.
+# Builds a program of bench/, which is a crate of the repository for as long as that takes: the crate's name, its source,
+# the libraries that it uses, and the words or the input that it is run with.
+define build_timed
+	@cp crates.txt $(OUT)/crates_before; trap 'cp $(OUT)/crates_before crates.txt; rm -rf crates/$(1)' EXIT INT TERM; \
+	mkdir -p crates/$(1)/src crates/$(1)/specs crates/$(1)/proofs \
+	  && cp bench/$(2).rattle crates/$(1)/src/main.rt \
+	  && touch crates/$(1)/specs/Lib.antt crates/$(1)/proofs/Lib.antt \
+	  && echo "$(1): $(3)" >> crates.txt \
+	  && (cd crates/$(1) && $(RT) run $(4) > /dev/null) && cp crates/$(1)/out/$(1) $(OUT)/$(1)
+endef
+
 bench-case: tools kit
 	@echo "bench-case: timing the reader of cases and a plain Rust program in turn on one case of 16 MB (a minute)"
 	@mkdir -p $(OUT)
 	@$(RUSTC) -O --edition 2024 -o $(OUT)/generate_case bench/generate_case.rs
 	@$(RUSTC) -O --edition 2024 -o $(OUT)/plain_case bench/plain_case.rs
 	@$(OUT)/generate_case > $(OUT)/case.txt
-	@cp crates.txt $(OUT)/crates_before; trap 'cp $(OUT)/crates_before crates.txt; rm -rf crates/read_case' EXIT INT TERM; \
-	mkdir -p crates/read_case/src crates/read_case/specs crates/read_case/proofs \
-	  && cp bench/read_case.rattle crates/read_case/src/main.rt \
-	  && touch crates/read_case/specs/Lib.antt crates/read_case/proofs/Lib.antt \
-	  && echo "read_case: trace_script stop_board" >> crates.txt \
-	  && (cd crates/read_case && $(RT) run < /dev/null > /dev/null) && cp crates/read_case/out/read_case $(OUT)/read_case
+	$(call build_timed,read_case,read_case,trace_script stop_board,< /dev/null)
 	@$(PYTHON) bench/compare.py --memory 4 $(OUT)/read_case $(OUT)/plain_case $(OUT)/case.txt
 
 # The same for the rounds over the cells that threads share.
@@ -112,12 +117,7 @@ bench-cells: tools kit
 	@echo "bench-cells: timing rounds over the stop cells, a plain compare-exchange and a lock in turn (some minutes)"
 	@mkdir -p $(OUT)
 	@$(RUSTC) -O --edition 2024 -o $(OUT)/plain_cells bench/plain_cells.rs
-	@cp crates.txt $(OUT)/crates_before; trap 'cp $(OUT)/crates_before crates.txt; rm -rf crates/time_cells' EXIT INT TERM; \
-	mkdir -p crates/time_cells/src crates/time_cells/specs crates/time_cells/proofs \
-	  && cp bench/cells.rattle crates/time_cells/src/main.rt \
-	  && touch crates/time_cells/specs/Lib.antt crates/time_cells/proofs/Lib.antt \
-	  && echo "time_cells: stop_table stop_history trace_record trace_pages" >> crates.txt \
-	  && (cd crates/time_cells && $(RT) run -- own 1000 > /dev/null) && cp crates/time_cells/out/time_cells $(OUT)/time_cells
+	$(call build_timed,time_cells,cells,stop_table stop_history trace_record trace_pages,-- own 1000)
 	@$(PYTHON) bench/cells.py $(OUT)/time_cells $(OUT)/plain_cells
 
 # The same for a memory of 256 pages.
@@ -125,12 +125,7 @@ bench-pages: tools kit
 	@echo "bench-pages: timing a memory of 256 pages and a plain Rust program in turn (a minute)"
 	@mkdir -p $(OUT)
 	@$(RUSTC) -O --edition 2024 -o $(OUT)/plain_pages bench/plain_pages.rs
-	@cp crates.txt $(OUT)/crates_before; trap 'cp $(OUT)/crates_before crates.txt; rm -rf crates/time_pages' EXIT INT TERM; \
-	mkdir -p crates/time_pages/src crates/time_pages/specs crates/time_pages/proofs \
-	  && cp bench/pages.rattle crates/time_pages/src/main.rt \
-	  && touch crates/time_pages/specs/Lib.antt crates/time_pages/proofs/Lib.antt \
-	  && echo "time_pages: trace_pages" >> crates.txt \
-	  && (cd crates/time_pages && $(RT) run -- map 256 > /dev/null) && cp crates/time_pages/out/time_pages $(OUT)/time_pages
+	$(call build_timed,time_pages,pages,trace_pages,-- map 256)
 	@$(PYTHON) bench/pages.py $(OUT)/time_pages $(OUT)/plain_pages
 
 # The same for a folder of a million pieces.
@@ -138,28 +133,16 @@ bench-fold: tools kit
 	@echo "bench-fold: timing a folder and a plain Rust program in turn (a minute)"
 	@mkdir -p $(OUT)
 	@$(RUSTC) -O --edition 2024 -o $(OUT)/plain_fold bench/plain_fold.rs
-	@cp crates.txt $(OUT)/crates_before; trap 'cp $(OUT)/crates_before crates.txt; rm -rf crates/time_fold' EXIT INT TERM; \
-	mkdir -p crates/time_fold/src crates/time_fold/specs crates/time_fold/proofs \
-	  && cp bench/fold.rattle crates/time_fold/src/main.rt \
-	  && touch crates/time_fold/specs/Lib.antt crates/time_fold/proofs/Lib.antt \
-	  && echo "time_fold: record_printer stop_history trace_options trace_record anyhow" >> crates.txt \
-	  && (cd crates/time_fold && $(RT) run -- order 1000 > /dev/null) && cp crates/time_fold/out/time_fold $(OUT)/time_fold
+	$(call build_timed,time_fold,fold,record_printer stop_history trace_options trace_record anyhow,-- order 1000)
 	@$(PYTHON) bench/fold.py --memory 2 $(OUT)/time_fold $(OUT)/plain_fold
 
-# The same for the run of a case to its text.
-bench-run: tools kit
-	@echo "bench-run: timing the run of a case and a plain Rust program in turn on one case of 16 MB (some minutes)"
+bench-run: tools all
+	@echo "bench-run: timing bin/tracer run -f and a plain Rust program in turn on one case of 16 MB (a minute)"
 	@mkdir -p $(OUT)
 	@$(RUSTC) -O --edition 2024 -o $(OUT)/generate_case bench/generate_case.rs
 	@$(RUSTC) -O --edition 2024 -o $(OUT)/plain_run bench/plain_run.rs
 	@$(OUT)/generate_case > $(OUT)/case.txt
-	@cp crates.txt $(OUT)/crates_before; trap 'cp $(OUT)/crates_before crates.txt; rm -rf crates/run_case' EXIT INT TERM; \
-	mkdir -p crates/run_case/src crates/run_case/specs crates/run_case/proofs \
-	  && cp bench/run_case.rattle crates/run_case/src/main.rt \
-	  && touch crates/run_case/specs/Lib.antt crates/run_case/proofs/Lib.antt \
-	  && echo "run_case: tracer_workers trace_script trace_options" >> crates.txt \
-	  && (cd crates/run_case && $(RT) run < /dev/null > /dev/null) && cp crates/run_case/out/run_case $(OUT)/run_case
-	@$(PYTHON) bench/compare.py $(OUT)/run_case $(OUT)/plain_run $(OUT)/case.txt
+	@$(PYTHON) bench/compare.py "bin/tracer run -f" $(OUT)/plain_run $(OUT)/case.txt
 
 tools:
 	@for command in $(RUSTC) $(PYTHON); do \
@@ -167,9 +150,10 @@ tools:
 	done
 
 install: all
-	@echo "install: copying bin/tracer to $(DESTDIR)$(PREFIX)/bin"
-	@install -d $(DESTDIR)$(PREFIX)/bin
+	@echo "install: copying bin/tracer and its manual page to $(DESTDIR)$(PREFIX)"
+	@install -d $(DESTDIR)$(PREFIX)/bin $(DESTDIR)$(PREFIX)/share/man/man1
 	@install -m 755 bin/tracer $(DESTDIR)$(PREFIX)/bin/tracer
+	@install -m 644 man/tracer.1 $(DESTDIR)$(PREFIX)/share/man/man1/tracer.1
 
 clean:
 	@echo "clean: removing what was built and what earlier checks kept; the next check starts from nothing"

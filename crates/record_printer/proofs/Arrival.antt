@@ -26,7 +26,7 @@ in_tail piece x pieces there = (suc there.0, omega (arith, there.1), there.2)
 
 -- ---- a stop that is found has come, and one that has come is found
 
-stop_came : (tid : ℕ) (pieces : List Piece) (number : ℕ) (note : Note) → stop_of tid pieces number ≡ Some note
+pub stop_came : (tid : ℕ) (pieces : List Piece) (number : ℕ) (note : Note) → stop_of tid pieces number ≡ Some note
     → Contains pieces (Stopped tid number note)
 stop_came tid [] number note found = absurd (some_none (sym found))
 stop_came tid (Stopped t n other ∷ pieces) number note found =
@@ -67,7 +67,7 @@ held_refused (Some row) ending held number there taken =
     ]
 
 -- a stop that is not refused has no other of its number before it
-stop_one : (rows : List Row) (tid : ℕ) (pieces : List Piece) (number : ℕ) (note : Note) → AreTaken rows pieces
+pub stop_one : (rows : List Row) (tid : ℕ) (pieces : List Piece) (number : ℕ) (note : Note) → AreTaken rows pieces
     → Contains pieces (Stopped tid number note) → stop_of tid pieces number ≡ Some note
 stop_one rows tid [] number note taken (k, within, is) = absurd (omega (arith, within))
 stop_one rows tid (piece ∷ pieces) number note taken (zero, within, is) =
@@ -90,7 +90,7 @@ stop_one rows tid (Died t n death ∷ pieces) number note taken (suc k, within, 
 the_ending : (a b : Ending) → Some a ≡ Some b → a ≡ b
 the_ending a b e = cc
 
-ending_came : (tid : ℕ) (pieces : List Piece) (ending : Ending) → ending_of tid pieces ≡ Some ending
+pub ending_came : (tid : ℕ) (pieces : List Piece) (ending : Ending) → ending_of tid pieces ≡ Some ending
     → Contains pieces (Died tid ending.number ending.death)
 ending_came tid [] ending found = absurd (some_none (sym found))
 ending_came tid (Stopped t n note ∷ pieces) ending found =
@@ -127,7 +127,7 @@ dead_refused (Some row) ending last number there taken =
       | inr known ↦ some_none (rw (known, there) at taken)
     ]
 
-ending_one : (rows : List Row) (tid : ℕ) (pieces : List Piece) (number : ℕ) (death : Death) → AreTaken rows pieces
+pub ending_one : (rows : List Row) (tid : ℕ) (pieces : List Piece) (number : ℕ) (death : Death) → AreTaken rows pieces
     → Contains pieces (Died tid number death)
     → ending_of tid pieces ≡ Some (record { number = number; death = death })
 ending_one rows tid [] number death taken (k, within, is) = absurd (omega (arith, within))
@@ -150,7 +150,7 @@ last_still tid (Stopped t n note) pieces =
     elim (cases_Bool (eqb t tid)) [ inl here ↦ rw here (omega arith) | inr there ↦ rw there (omega arith) ]
 last_still tid (Died t n death) pieces = omega arith
 
-last_least : (tid : ℕ) (pieces : List Piece) (number : ℕ) (note : Note) → Contains pieces (Stopped tid number note)
+pub last_least : (tid : ℕ) (pieces : List Piece) (number : ℕ) (note : Note) → Contains pieces (Stopped tid number note)
     → number ≤ last_of tid pieces
 last_least tid [] number note (k, within, is) = absurd (omega (arith, within))
 last_least tid (piece ∷ pieces) number note (zero, within, is) = rw (is, eq-eqb tid tid refl) (omega arith)

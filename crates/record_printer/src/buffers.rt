@@ -5,6 +5,7 @@ ghost use Rattle.record_printer.specs.Arguments.{buffer, or_address, string};
 
 use crate::numbers::write_address;
 use crate::quote::{write_quoted, write_shortened};
+use crate::room::LINE_ROOM;
 use mem_views::{End, Views};
 use std::alloc::Allocator;
 use trace_pages::NoMemory;
@@ -40,7 +41,7 @@ pub fn buffer<A: Allocator, B: Allocator>(
     let cut = views.bytes(addr, u64::from(limit).min(len));
     match cut.end() {
         End::Full => {
-            let mut text = Vec::new(alloc);
+            let mut text = Vec::with_capacity(alloc, LINE_ROOM)?;
             write_shortened(&mut text, cut, u64::from(limit) < len)?;
             Ok(Some(text))
         }

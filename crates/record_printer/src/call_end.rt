@@ -8,6 +8,7 @@ use crate::arguments::{argument_word, bytes_out};
 use crate::calls::{kinds_of, out_place};
 use crate::note::CallEnd;
 use crate::numbers::write_result;
+use crate::room::REST_ROOM;
 use crate::show::Show;
 use std::alloc::Allocator;
 use trace_pages::NoMemory;
@@ -22,7 +23,7 @@ pub fn call_end<A: Allocator + Copy, B: Allocator>(
     ensures { IfOk result (λ end. end_of end ≡ call_end show.now stop.now) }
 {
     let out = out_bytes(alloc, stop, show.limit)?;
-    let mut text = Vec::new(alloc);
+    let mut text = Vec::with_capacity(alloc, REST_ROOM)?;
     write_result(&mut text, &stop.regs)?;
     Ok(CallEnd {
         number: stop.regs.nr(),

@@ -10,6 +10,7 @@ use crate::calls::{kinds_of, out_place, write_name};
 use crate::iovecs::write_separator;
 use crate::note::CallStart;
 use crate::numbers::{write_address, write_decimal};
+use crate::room::{LINE_ROOM, REST_ROOM};
 use crate::show::Show;
 use std::alloc::Allocator;
 use trace_options::ArgumentKind;
@@ -48,11 +49,11 @@ fn printed_start<A: Allocator + Copy, B: Allocator>(
     ensures { IfOk result (λ start. start_of start ≡ printed_start limit stop.now kinds.now) }
 {
     let place = out_place(kinds);
-    let mut before = Vec::new(alloc);
+    let mut before = Vec::with_capacity(alloc, LINE_ROOM)?;
     write_head(&mut before, stop)?;
     write_before(&mut before, stop, limit, kinds, place)?;
     let out = out_address(alloc, stop, place)?;
-    let mut after = Vec::new(alloc);
+    let mut after = Vec::with_capacity(alloc, REST_ROOM)?;
     write_after(&mut after, stop, limit, kinds, place)?;
     after.extend_from_slice(b") = ".as_slice())?;
     Ok(CallStart {
@@ -130,7 +131,7 @@ fn out_address<A: Allocator, B: Allocator>(
 {
     match place {
         Some(place) => {
-            let mut text = Vec::new(alloc);
+            let mut text = Vec::with_capacity(alloc, REST_ROOM)?;
             write_address(&mut text, argument_word(stop, place))?;
             Ok(Some(text))
         }

@@ -34,6 +34,8 @@ use trace_pages::NoMemory;
 pub struct Folder<A: Allocator = Global> {
     rows: Vec<Row, A>,
     kept: Vec<KeptRow<A>, A>,
+    /// The row of the last piece, which is often that of the next one.
+    near: usize,
 }
 
 impl<A: Allocator> Model for Folder<A> {
@@ -56,7 +58,11 @@ impl<A: Allocator + Copy> Folder<A> {
     {
         let rows = Vec::from_slice(alloc, roster.rows())?;
         let kept = new_rows(alloc, rows.len())?;
-        Ok(Folder { rows, kept })
+        Ok(Folder {
+            rows,
+            kept,
+            near: 0,
+        })
     }
 
     /// Adds a piece, or answers why not and leaves the folder as it was, the first reason first: `Stranger` for a piece
@@ -72,7 +78,12 @@ impl<A: Allocator + Copy> Folder<A> {
         ensures rows { self.new.rows ≡ self.old.rows }
         ensures err { OnErr result (self.new ≡ self.old) }
     {
-        add_piece(self.rows.as_slice(), self.kept.as_mut_slice(), piece)
+        add_piece(
+            self.rows.as_slice(),
+            self.kept.as_mut_slice(),
+            &mut self.near,
+            piece,
+        )
     }
 
     /// The text of the pieces that were added: `Lost` with the first row in the roster's order that must be whole and
@@ -137,21 +148,38 @@ fn join_texts<A: Allocator + Copy>(
         → lost rows.now came ≡ None → IfOk result (λ text. text.items ≡ pieces_text rows.now came) }
 {
     let alloc = *kept.allocator();
+    let len = texts_len(kept.as_slice());
     let mut text = Vec::new(alloc);
     for place in 0..rows.len() {
         let row = mem::replace(&mut kept[place], KeptRow::new(alloc));
-        text = join(text, row.into_text(rows[place].tid)?)?;
+        text = join(text, row.into_text(rows[place].tid)?, len)?;
     }
     Ok(text)
 }
 
-/// Two texts, one after the other. The memory of the second is kept where the first has none.
-fn join<A: Allocator>(mut text: Vec<u8, A>, mut more: Vec<u8, A>) -> Result<Vec<u8, A>, NoMemory>
+/// About how long the texts of these rows are together.
+fn texts_len<A: Allocator>(kept: &[KeptRow<A>]) -> usize {
+    let mut len = 0usize;
+    for row in kept {
+        len = len.saturating_add(row.text_len());
+    }
+    len
+}
+
+/// Two texts, one after the other, with room for this many bytes. The memory of the second is kept where the first has
+/// none.
+fn join<A: Allocator>(
+    mut text: Vec<u8, A>,
+    mut more: Vec<u8, A>,
+    len: usize,
+) -> Result<Vec<u8, A>, NoMemory>
     ensures { IfOk result (λ joined. joined.items ≡ text.items ++ more.items) }
 {
     if text.is_empty() {
         return Ok(more);
     }
+    // The room is made once, so that a long text is not moved as it grows.
+    text.reserve(len.saturating_sub(text.len()))?;
     text.append(&mut more)?;
     Ok(text)
 }
@@ -160,6 +188,7 @@ fn join<A: Allocator>(mut text: Vec<u8, A>, mut more: Vec<u8, A>) -> Result<Vec<
 fn add_piece<A: Allocator + Copy>(
     rows: &[Row],
     kept: &mut [KeptRow<A>],
+    near: &mut usize,
     piece: Piece<A>,
 ) -> Result<(), FoldError>
     requires roster { IsRoster rows.now }
@@ -173,12 +202,25 @@ fn add_piece<A: Allocator + Copy>(
     ensures err { OnErr result (kept.new ≡ kept.old) }
 {
     let (tid, number, given) = piece.into_parts();
-    let Some(row) = place_of(rows, tid) else {
+    let Some(row) = place_near(rows, tid, *near) else {
         return Err(FoldError::Stranger);
     };
+    *near = row;
     match given {
         Given::Stop(note) => add_stop(rows, kept, row, number, note),
         Given::Death(death) => kept[row].add_death(number, death),
+    }
+}
+
+/// The place of the row of a thread id. It looks at one place first.
+fn place_near(rows: &[Row], tid: u32, near: usize) -> Option<usize>
+    requires { IsRoster rows.now }
+    ensures place { result ≡ row_of rows.now tid }
+    ensures within { IfSome result (λ place. place < length rows.now) }
+{
+    match rows.get(near) {
+        Some(row) if row.tid == tid => Some(near),
+        _ => place_of(rows, tid),
     }
 }
 

@@ -7,6 +7,7 @@ ghost use Rattle.record_printer.specs.Arguments.{left_after, more_entries, or_ad
 
 use crate::buffers::write_buffer;
 use crate::numbers::{write_address, write_decimal};
+use crate::room::LINE_ROOM;
 use mem_views::{IOV_MAX, Iovecs, Item, Views};
 use std::alloc::Allocator;
 use trace_pages::NoMemory;
@@ -46,7 +47,7 @@ pub fn array<A: Allocator, B: Allocator>(
     if !is_array(views, limit, addr, count) {
         return Ok(None);
     }
-    let mut text = Vec::new(alloc);
+    let mut text = Vec::with_capacity(alloc, LINE_ROOM)?;
     write_in_brackets(&mut text, views, limit, Some(result_len), addr, count)?;
     Ok(Some(text))
 }

@@ -214,6 +214,11 @@ impl<A: Allocator> KeptRow<A> {
         }
     }
 
+    /// About how long the text of the row is.
+    pub fn text_len(&self) -> usize {
+        self.fold.text_len()
+    }
+
     /// The text of a row that lacks no stop, if it has died; one that has not has none.
     pub fn into_text(self, tid: u32) -> Result<Vec<u8, A>, NoMemory>
         ensures { (stops : Stops) → Follows self stops

@@ -15,6 +15,7 @@ use trace_pages::NoMemory;
 use trace_record::{Stop, StopRecord};
 
 /// What is noted of a stop.
+#[inline(always)]
 pub fn stop_note<A: Allocator + Copy, B: Allocator>(
     alloc: A,
     stop: &StopRecord<B>,

@@ -9,6 +9,12 @@ ghost use Rattle.std.specs.Prelude.{option_map};
 use crate::note::{CallEnd, CallStart, Note};
 use std::alloc::Allocator;
 
+/// Room for a part of a line that may be long. Few are longer, and those grow.
+pub const LINE_ROOM: usize = 128;
+
+/// Room for a part of a line that is short, as an address or a result.
+pub const REST_ROOM: usize = 24;
+
 /// Room for the text of a row, and for the lines that follow that of its pending call.
 #[derive(Clone, Copy)]
 pub struct Room {

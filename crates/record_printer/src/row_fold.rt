@@ -12,7 +12,7 @@ ghost use Rattle.record_printer.specs.RowFold.{empty_fold, ended, fold_after, fo
 
 use crate::death::write_death;
 use crate::note::{CallEnd, CallStart, Note};
-use crate::room::{Room, with_start};
+use crate::room::{LINE_ROOM, Room, with_start};
 use std::alloc::{Allocator, Global};
 use trace_pages::NoMemory;
 use trace_record::Death;
@@ -96,6 +96,12 @@ impl<A: Allocator> RowFold<A> {
         self.text.append(&mut self.behind)?;
         write_death(&mut self.text, tid, death)?;
         Ok(self.text)
+    }
+
+    /// About how long the text is once the thread has died.
+    pub fn text_len(&self) -> usize {
+        let lines = self.text.len().saturating_add(self.behind.len());
+        lines.saturating_add(LINE_ROOM)
     }
 
     /// The text of a row that has none.

@@ -14,6 +14,7 @@ use trace_record::StopRecord;
 
 /// The piece of a stop: the thread id and the number of its record, and what is printed of it. It fails where memory
 /// runs out.
+#[inline(always)]
 pub fn piece_of<A: Allocator + Copy, B: Allocator>(
     alloc: A,
     stop: &StopRecord<B>,

@@ -103,6 +103,7 @@ impl<A: Allocator> World<A> {
     /// One atomic step of an actor, by its number. Refusals are those of `Action`; `NoRow` too where no actor has the
     /// number. What is refused, looked at or missed changes no word. A tracer has seen the word that it looked at or
     /// that made it miss, and the one that its own claim or resume put there.
+    #[inline(always)]
     pub fn step(&mut self, actor: u32, action: Action) -> Reply
         requires { IsAction action }
         ensures reply { (m : Moment) → StandsAt self.old m
@@ -156,6 +157,7 @@ impl<A: Allocator + Copy> World<A> {
 }
 
 /// The actor of a number, if there is one.
+#[inline(always)]
 fn actor_of(rows: &[Row], tracers: u32, number: u32) -> Option<Actor>
     requires few { length rows.now ≤ MOST_ROWS }
     requires tracers { tracers ≤ TRACERS }
@@ -172,6 +174,7 @@ fn actor_of(rows: &[Row], tracers: u32, number: u32) -> Option<Actor>
 }
 
 /// A step of an actor, if there is one of its number.
+#[inline(always)]
 fn step_of(
     rows: &[Row],
     words: &mut [Word],
@@ -201,6 +204,7 @@ fn step_of(
 }
 
 /// Notes that a tracer has seen the word that a row has now.
+#[inline(always)]
 fn note(rows: &[Row], words: &[Word], seen: &mut [Word], tracer: u32, row: Option<u32>)
     requires words { length words.now ≡ length rows.now }
     requires few { length rows.now ≤ MOST_ROWS }

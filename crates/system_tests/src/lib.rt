@@ -16,3 +16,5 @@ mod program;
 mod readme;
 #[cfg(test)]
 mod replay;
+#[cfg(test)]
+mod run;

@@ -28,9 +28,9 @@ impl Read for Source<'_> {
 
 /// A stream that takes a byte at a time, and no more than there is room for.
 #[derive(Drop)]
-struct Sink {
-    taken: Vec<u8>,
-    room: usize,
+pub(crate) struct Sink {
+    pub(crate) taken: Vec<u8>,
+    pub(crate) room: usize,
 }
 
 impl Write for Sink {
@@ -51,7 +51,7 @@ impl Write for Sink {
 }
 
 /// A stream with room for this many bytes.
-fn narrow(rt: &impl AllocGlobal, room: usize) -> Sink {
+pub(crate) fn narrow(rt: &impl AllocGlobal, room: usize) -> Sink {
     Sink {
         taken: Vec::new(rt.alloc()),
         room,
@@ -60,14 +60,17 @@ fn narrow(rt: &impl AllocGlobal, room: usize) -> Sink {
 
 /// How a run ended, and what it wrote.
 #[derive(Debug, Drop)]
-struct Ended {
-    status: u8,
-    output: Vec<u8>,
-    errors: Vec<u8>,
+pub(crate) struct Ended {
+    pub(crate) status: u8,
+    pub(crate) output: Vec<u8>,
+    pub(crate) errors: Vec<u8>,
 }
 
 /// A command line of these words, after the program's name.
-fn command_line(rt: &impl AllocGlobal, words: &[&str]) -> Result<Vec<String>, AllocError> {
+pub(crate) fn command_line(
+    rt: &impl AllocGlobal,
+    words: &[&str],
+) -> Result<Vec<String>, AllocError> {
     let alloc = rt.alloc();
     let mut all = Vec::new(alloc);
     all.push(String::from_str(alloc, "tracer")?)?;
@@ -78,7 +81,7 @@ fn command_line(rt: &impl AllocGlobal, words: &[&str]) -> Result<Vec<String>, Al
 }
 
 /// Runs the program on words, without its name, and on what standard input has.
-fn run_with<H: Files + AllocGlobal, R: Read>(
+pub(crate) fn run_with<H: Files + AllocGlobal, R: Read>(
     rt: &H,
     words: &[&str],
     input: &mut R,
@@ -95,28 +98,36 @@ fn run_with<H: Files + AllocGlobal, R: Read>(
 }
 
 /// Whether a text has another one in it.
-fn has_text(bytes: &[u8], part: &str) -> bool {
+pub(crate) fn has_text(bytes: &[u8], part: &str) -> bool {
     str::from_utf8(bytes).is_ok_and(|text| text.contains(part))
 }
 
 const FILE: &[u8] = b"row 100 100 77 0\nstate 100\n";
 
-const CANNOT_READ: &[u8] = b"tracer: cannot read\n";
+pub(crate) const CANNOT_READ: &[u8] = b"tracer: cannot read\n";
 
-const CANNOT_WRITE: &[u8] = b"tracer: cannot write\n";
+pub(crate) const CANNOT_WRITE: &[u8] = b"tracer: cannot write\n";
 
 const NO_MEMORY: &[u8] = b"tracer: no memory\n";
 
 /// What each usage and each help says.
 const USAGE: &str = "Usage: tracer";
 
-/// What each help says at its end: an example, the exit statuses, where the format is described.
-const HELP: [&str; 6] = [
+/// What the program's help says at its end: examples, the exit statuses, where the formats are described.
+const HELP: [&str; 7] = [
+    "tracer run -f examples/run/fork.case",
     "tracer replay examples/replay/first",
     "0  done",
     "1  the file is refused",
-    "2  the command line is wrong",
+    "2  the command line is wrong, or -e names an unknown call",
     "3  out of memory, or something cannot be read or written",
+    "docs/FORMATS.md",
+];
+
+/// What the help of `tracer replay` says.
+const REPLAY_HELP: [&str; 3] = [
+    "Usage: tracer replay [FILE]",
+    "tracer replay examples/replay/first",
     "docs/FORMATS.md",
 ];
 
@@ -224,7 +235,7 @@ fn a_refused_file_prints_its_line_and_cause_alone(rt: HostRuntime) -> Result<(),
 #[test]
 fn a_wrong_command_line_is_answered_by_the_usage(rt: HostRuntime) -> Result<(), Fail> {
     for words in [
-        ["run"].as_slice(),
+        ["trace"].as_slice(),
         &["replay", "--fast"],
         &["replay", "one", "two"],
         &[],
@@ -239,8 +250,8 @@ fn a_wrong_command_line_is_answered_by_the_usage(rt: HostRuntime) -> Result<(), 
 
 #[test]
 fn a_command_that_is_not_there_is_named(rt: HostRuntime) -> Result<(), Fail> {
-    let ended = run_with(&rt, &["run"], &mut FILE)?;
-    let expected = "error: unrecognized subcommand 'run'\n\n\
+    let ended = run_with(&rt, &["trace"], &mut FILE)?;
+    let expected = "error: unrecognized subcommand 'trace'\n\n\
         Usage: tracer <COMMAND>\n\n\
         For more information, try '--help'.\n";
     assert_eq!(rt; ended.errors.as_slice(), expected.as_bytes());
@@ -249,19 +260,22 @@ fn a_command_that_is_not_there_is_named(rt: HostRuntime) -> Result<(), Fail> {
 
 #[test]
 fn help_is_no_failure(rt: HostRuntime) -> Result<(), Fail> {
-    for words in [
-        ["--help"].as_slice(),
-        &["-h"],
-        &["help"],
-        &["replay", "--help"],
-        &["replay", "-h"],
-        &["help", "replay"],
+    for (words, parts) in [
+        (["--help"].as_slice(), HELP.as_slice()),
+        (&["-h"], &HELP),
+        (&["help"], &HELP),
+        (&["replay", "--help"], &REPLAY_HELP),
+        (&["replay", "-h"], &REPLAY_HELP),
+        (&["help", "replay"], &REPLAY_HELP),
     ] {
         let ended = run_with(&rt, words, &mut FILE)?;
         assert_eq!(rt; ended.status, 0, "{words:?}");
         assert!(rt; has_text(ended.output.as_slice(), USAGE), "{words:?}");
-        for part in HELP {
-            assert!(rt; has_text(ended.output.as_slice(), part), "{words:?}");
+        for part in parts {
+            assert!(rt;
+                has_text(ended.output.as_slice(), part),
+                "{words:?}, {part}"
+            );
         }
         assert_eq!(rt; ended.errors.as_slice(), [].as_slice(), "{words:?}");
     }
@@ -321,7 +335,7 @@ fn what_cannot_be_written_is_reported(rt: HostRuntime) -> Result<(), Fail> {
 fn a_failed_write_to_standard_error_changes_no_status(rt: HostRuntime) -> Result<(), Fail> {
     for (word, file, status) in [
         ("replay", b"row\n".as_slice(), 1),
-        ("run", FILE, 2),
+        ("trace", FILE, 2),
         ("replay", b"row 1 1 1 0\nstate 1\n", 3),
     ] {
         for room in [0, 3] {

@@ -1,5 +1,6 @@
+-- Other crates cite the module that is `pub`. The others prove what this crate ensures.
 mod Handles
-mod Keeping
+pub mod Keeping
 mod Places
 mod Points
 mod Rests

@@ -33,6 +33,10 @@ pub record IsCalls {A : Type 0} (tracer : TracerHandle) (rows : List Row) (held 
 abbrev pub handle_of : TracerHandle → List ℕ → CallsHandle
 handle_of tracer counts = record { table_id = tracer.table_id; view = tracer.view; counts = counts }
 
+-- the handle of its tracer
+abbrev pub tracer_of : CallsHandle → TracerHandle
+tracer_of a = record { table_id = a.table_id; view = a.view }
+
 -- a call leaves the table as it is
 abbrev pub KeepsTable : CallsHandle → CallsHandle → Type 0
 KeepsTable a b = b.table_id ≡ a.table_id

@@ -8,6 +8,7 @@ use Rattle.trace_options.specs.declared.wait_flags.TheConstants.WaitFlags.{WNOWA
 use Rattle.trace_calls.specs.declared.id.Id.{Id}
 use Rattle.trace_calls.specs.declared.request.Request.{Request}
 use Rattle.trace_calls.specs.declared.selection.Selection.{Selection}
+use Rattle.trace_calls.specs.declared.selection.Selection.TheVariants.{All}
 use Rattle.trace_calls.specs.Selection.{selection_of_id, selection_of_pid}
 
 abbrev pub has : WaitFlags → WaitFlags → Bool
@@ -17,6 +18,10 @@ abbrev pub request_for : Option Selection → (deaths keeps : Bool) → Option R
 request_for None deaths keeps = None
 request_for (Some selection) deaths keeps =
     Some (record { selection = selection; deaths = deaths; keeps = keeps })
+
+-- of any tracee, its stop or its death
+abbrev pub anyone : Request
+anyone = record { selection = All; deaths = true; keeps = false }
 
 -- waitid waits for deaths with WEXITED, and takes one of WEXITED and WSTOPPED at least, and no WCONTINUED
 abbrev pub waitid_request : Id → WaitFlags → Option Request

@@ -2,9 +2,9 @@
 
 ghost use Rattle.std.specs.Prelude.{◌≡◌, ◌≢◌, [], IfOk, MatchResult, None, false, is_some, length, replicate};
 ghost use Rattle.std.specs.List.{list_any};
-ghost use Rattle.stop_table.specs.Tracer.{held_rows};
+ghost use Rattle.stop_table.specs.Tracer.{IsTracerHandle, held_rows};
 ghost use Rattle.trace_calls.specs.Answer.{IsAnswer, IsWaitAnswer};
-ghost use Rattle.trace_calls.specs.Handle.{KeepsTable, handle_of};
+ghost use Rattle.trace_calls.specs.Handle.{KeepsTable, handle_of, tracer_of};
 ghost use Rattle.trace_calls.specs.Request.{waitid_request, waitpid_request};
 
 use crate::id::Id;
@@ -74,6 +74,14 @@ impl<A: Allocator + Copy> Calls<A> {
 }
 
 impl<A: Allocator> Calls<A> {
+    /// The tracer's number, 0 to 15.
+    pub fn number(&self) -> u32
+        ensures number { result ≡ self.now.view.number }
+        ensures handle { IsTracerHandle (tracer_of self.now) }
+    {
+        self.tracer.number()
+    }
+
     /// Gives the tracer's handle back, or the calls as they are while they hold a claim.
     pub fn into_tracer(self) -> Result<Tracer<A>, Calls<A>>
         ensures { MatchResult result

@@ -1,6 +1,9 @@
 pub mod Commands
 pub mod Guesses
 pub mod LinesBack
+pub mod Matches
+pub mod Names
+pub mod PlainWords
 pub mod ReadBack
 pub mod Runs
 pub mod SixWords

@@ -1,21 +1,68 @@
--- The command line, as clap's definitions read it: `tracer replay [FILE]`, and `tracer --version`.
-use Rattle.std.specs.Prelude.{◌≡◌, ◌≢◌, ◌∷◌, [], ℕ, Bool, true, false, IsTrue, IsFalse, List, Option, Some, None}
-use Rattle.std.specs.Prelude.{Result, Ok, Err, MatchResult, codes, option_and_then, option_map}
-use Rattle.clap.specs.Words.{App, IsAmong, Rule, fault_of, first_of, new_app, new_rule, subcommand_of, with_rule}
-use Rattle.clap.specs.Words.{with_subcommand}
+-- The command line, as clap's definitions read it: `tracer replay [FILE]`,
+-- `tracer run [-f] [--seccomp-bpf] [-w N] [-s N] [-e NAMES] [FILE]`, and `tracer --version`.
+use Rattle.std.specs.Prelude.{◌≡◌, ◌≢◌, ◌≤◌, ◌∷◌, [], ℕ, Bool, true, false, IsTrue, IsFalse, List, Option, Some, None}
+use Rattle.std.specs.Prelude.{Result, Ok, Err, codes, option_map, pos}
+use Rattle.std.specs.Option.{option_map_or}
+use Rattle.std.specs.Str.{bytes_eq}
+use Rattle.std.specs.Str.Parse.{digits_value, without_leading_plus}
+use Rattle.clap.specs.Simple.{with_rule, with_subcommand}
+use Rattle.clap.specs.Values.{IsUnsignedIn}
+use Rattle.clap.specs.Walk.{Row, Rule, Text, first_of, one_of}
+use Rattle.clap.specs.Words.{App, IsAmong, fault_of, new_app, new_rule, subcommand_of, takes}
 use Rattle.clap.specs.declared.error.kind.ErrorKind.{ErrorKind}
 use Rattle.clap.specs.declared.error.kind.ErrorKind.TheVariants as kind
-use Rattle.clap.specs.declared.builder.ArgAction.TheVariants.{Set}
+use Rattle.clap.specs.declared.builder.ArgAction.TheVariants.{Set, SetTrue}
+use Rattle.clap.specs.declared.builder.value_parser.ValueParser.TheVariants.{Signed}
+use Rattle.stop_history.specs.declared.limits.TheConstants.{TRACERS}
 use Rattle.tracer_cli.specs.declared.arguments.Request.{Request}
-use Rattle.tracer_cli.specs.declared.arguments.Request.TheVariants.{Replay, Help}
+use Rattle.tracer_cli.specs.declared.arguments.Request.TheVariants.{Replay, Run, Help}
+use Rattle.tracer_cli.specs.declared.arguments.RunOptions.{RunOptions}
+use Rattle.tracer_cli.specs.declared.arguments.TheConstants.{MOST_SHOWN}
 use Rattle.tracer_cli.specs.declared.failure.Failure.{Failure}
 use Rattle.tracer_cli.specs.declared.failure.Failure.TheVariants.{NoMemory, Usage}
+
+-- ---- what clap is told
 
 abbrev pub file_rule : Rule
 file_rule = record (new_rule (codes "FILE")) { action = Some Set }
 
+abbrev pub flag_rule : Text → Rule
+flag_rule id = record (new_rule id) { action = Some SetTrue }
+
+-- a number from `low` to `most`
+abbrev pub number_rule : Text → (short low most : ℕ) → (default : Text) → Rule
+number_rule id short low most default = record (new_rule id) {
+  short = Some short;
+  action = Some Set;
+  value_names = 1;
+  parser = Some (Signed (pos low) (pos most));
+  defaults = default ∷ [];
+}
+
+abbrev pub follow_rule : Rule
+follow_rule = record (flag_rule (codes "follow")) { short = Some 102 }
+
+abbrev pub seccomp_rule : Rule
+seccomp_rule = record (flag_rule (codes "seccomp-bpf")) { long = Some (codes "seccomp-bpf") }
+
+abbrev pub workers_rule : Rule
+workers_rule = number_rule (codes "workers") 119 1 TRACERS (codes "4")
+
+abbrev pub limit_rule : Rule
+limit_rule = number_rule (codes "limit") 115 0 MOST_SHOWN (codes "32")
+
+abbrev pub names_rule : Rule
+names_rule = record (new_rule (codes "names")) { short = Some 101; action = Some Set; value_names = 1 }
+
 abbrev pub replay_app : App
 replay_app = with_rule (new_app (codes "replay")) file_rule
+
+abbrev pub run_app : App
+run_app =
+    with_rule
+    (with_rule (with_rule (with_rule (with_rule (with_rule (new_app (codes "run")) follow_rule) seccomp_rule)
+    workers_rule) limit_rule) names_rule)
+    file_rule
 
 abbrev pub has_version : App → App
 has_version app = record app { top = record app.top { has_version = true } }
@@ -24,19 +71,51 @@ abbrev pub wants_subcommand : App → App
 wants_subcommand app = record app { top = record app.top { subcommand_required = true } }
 
 abbrev pub tracer_app : App
-tracer_app = with_subcommand (wants_subcommand (has_version (new_app (codes "tracer")))) replay_app.top
+tracer_app =
+    with_subcommand (with_subcommand (wants_subcommand (has_version (new_app (codes "tracer")))) replay_app.top)
+    run_app.top
 
--- the words of a replay of standard input
-abbrev pub replay_words : (name : List ℕ) → List (List ℕ)
-replay_words name = name ∷ codes "replay" ∷ []
+-- ---- what the words name
 
--- a replay of standard input is asked for, if there is memory
-abbrev pub AsksForInput : Result Request Failure → Type 0
-AsksForInput asked = MatchResult asked (λ request. request ≡ Replay None) (λ failure. failure ≡ NoMemory)
+-- a subcommand's name, and what was found for each of its arguments
+abbrev pub Found : Type 0
+Found = Option (Text × List Row)
 
--- the file that the words name
-abbrev pub file_named : List (List ℕ) → Option (List ℕ)
-file_named words = option_and_then (λ found. first_of (codes "FILE") found.1) (subcommand_of tracer_app words)
+abbrev pub is_run : Found → Bool
+is_run found = option_map_or (λ f. bytes_eq f.0 (codes "run")) found false
+
+abbrev pub rows_in : Found → List Row
+rows_in found = option_map_or (λ f. f.1) found []
+
+abbrev pub file_in : Found → Option Text
+file_in found = first_of (codes "FILE") (rows_in found)
+
+-- a flag, by the text that clap has for it
+abbrev pub IsFlag : Option Text → Bool → Type 0
+IsFlag None flag = flag ≡ false
+IsFlag (Some text) flag = (text ≡ codes "true" → flag ≡ true) × (text ≡ codes "false" → flag ≡ false)
+
+-- a number in a range, by the text that clap has for it; clap refuses every other text
+abbrev pub IsNumber : (low most : ℕ) → Option Text → ℕ → Type 0
+IsNumber low most None n = Unit {0}
+IsNumber low most (Some text) n = IsUnsignedIn low most text → n ≡ digits_value 10 (without_leading_plus text)
+
+-- the options of a run
+pub record AreOptions (rows : List Row) (options : RunOptions) : Type 0 where
+  pub follow : IsFlag (one_of (codes "follow") rows) options.follow
+  pub seccomp : IsFlag (one_of (codes "seccomp-bpf") rows) options.seccomp
+  pub workers : IsNumber 1 TRACERS (one_of (codes "workers") rows) options.workers
+  pub some_workers : (1 ≤ options.workers) × (options.workers ≤ TRACERS)
+  pub limit : IsNumber 0 MOST_SHOWN (one_of (codes "limit") rows) options.limit
+  pub names : option_map (λ list. list.now) options.names ≡ first_of (codes "names") rows
+
+abbrev pub IsNamed : Found → Request → Type 0
+IsNamed found (Replay file) = (is_run found ≡ false) × (option_map (λ text. text.now) file ≡ file_in found)
+IsNamed found (Run options file) =
+    (is_run found ≡ true) × AreOptions (rows_in found) options × (option_map (λ text. text.now) file ≡ file_in found)
+IsNamed found (Help text) = ⊥
+
+-- ---- what the words ask for
 
 -- help and the version are shown on standard output, every other error of the words on standard error
 abbrev pub shows_text : ErrorKind → Bool
@@ -46,7 +125,7 @@ shows_text other = false
 
 abbrev pub IsHelp : Request → Type 0
 IsHelp (Help text) = Unit {0}
-IsHelp (Replay file) = ⊥
+IsHelp other = ⊥
 
 -- the failure at an error of this kind
 abbrev pub IsFailureBy : ErrorKind → Failure → Type 0
@@ -54,13 +133,39 @@ IsFailureBy of (Usage text) = (of ≢ kind.OutOfMemory) × IsFalse (shows_text o
 IsFailureBy of NoMemory = Unit {0}
 IsFailureBy of failure = ⊥
 
--- what any words ask for, by clap's definitions of when words fail and of what they match: a replay, of the file that
--- they name, only of words that do not fail; help or wrong use by a kind of error that they fail with; or there is no
+-- what any words ask for, by clap's definitions of when words fail and of what they match: a replay or a run, as they
+-- name it, only of words that do not fail; help or wrong use by a kind of error that they fail with; or there is no
 -- memory
-abbrev pub IsAskedBy : (words : List (List ℕ)) → Result Request Failure → Type 0
-IsAskedBy words (Ok (Replay file)) =
-    (fault_of tracer_app words ≡ []) × (option_map (λ text. text.now) file ≡ file_named words)
+abbrev pub IsAskedBy : (words : List Text) → Result Request Failure → Type 0
 IsAskedBy words (Ok (Help text)) = (of : ErrorKind) × IsAmong of (fault_of tracer_app words) × IsTrue (shows_text of)
+IsAskedBy words (Ok request) = (fault_of tracer_app words ≡ []) × IsNamed (subcommand_of tracer_app words) request
 IsAskedBy words (Err (Usage text)) = (of : ErrorKind) × IsAmong of (fault_of tracer_app words) × IsFalse (shows_text of)
 IsAskedBy words (Err NoMemory) = Unit {0}
 IsAskedBy words (Err failure) = ⊥
+
+-- words that clap takes ask for no help and fail only without memory
+abbrev pub IsTaken : Result Request Failure → Type 0
+IsTaken (Ok (Help text)) = ⊥
+IsTaken (Ok request) = Unit {0}
+IsTaken (Err failure) = failure ≡ NoMemory
+
+-- words of a replay, or of a run, of standard input
+abbrev pub AskReplay : (words : List Text) → Type 0
+AskReplay words = (takes tracer_app words ≡ true) × (is_run (subcommand_of tracer_app words) ≡ false)
+    × (file_in (subcommand_of tracer_app words) ≡ None)
+
+abbrev pub AskRun : (words : List Text) → Type 0
+AskRun words = (takes tracer_app words ≡ true) × (is_run (subcommand_of tracer_app words) ≡ true)
+    × (file_in (subcommand_of tracer_app words) ≡ None)
+
+-- the options that words of a run name
+abbrev pub AreOptionsOf : (words : List Text) → RunOptions → Type 0
+AreOptionsOf words options = AreOptions (rows_in (subcommand_of tracer_app words)) options
+
+-- what `run -f` asks for
+pub record IsFollowed (options : RunOptions) : Type 0 where
+  pub follow : options.follow ≡ true
+  pub seccomp : options.seccomp ≡ false
+  pub workers : options.workers ≡ 4
+  pub limit : options.limit ≡ 32
+  pub names : options.names ≡ None

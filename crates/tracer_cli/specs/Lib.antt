@@ -1,4 +1,5 @@
 pub mod Arguments
+pub mod CaseText
 pub mod Command
 pub mod Failure
 pub mod File
@@ -6,4 +7,5 @@ pub mod Grammar
 pub mod Replay
 pub mod Replies
 pub mod Run
+pub mod Shown
 pub mod Spelling

@@ -1,32 +1,73 @@
 //! The command line.
 
-ghost use Rattle.std.specs.Prelude.{◌≡◌, ℕ, List, codes, map, IfErr, IfOk, IsTrue, option_and_then, option_map};
-ghost use Rattle.clap.specs.Words.{app_of, first_of, kind_of, subcommand_rows_of};
-ghost use Rattle.tracer_cli.specs.Arguments.{AsksForInput, IsAskedBy, IsFailureBy, IsHelp, replay_words, shows_text};
-ghost use Rattle.tracer_cli.specs.Arguments.{tracer_app};
+ghost use Rattle.std.specs.Prelude.{◌≡◌, ◌≤◌, IfErr, IfOk, IsTrue, false, map, true};
+ghost use Rattle.clap.specs.Words.{app_of, found_of, kind_of, one_text, rows_of, rule_of, subcommand_rows_of, takes};
+ghost use Rattle.clap.specs.declared.builder.command.Command.TheViews.{out-Command};
+ghost use Rattle.tracer_cli.specs.Arguments.{AreOptions, IsAskedBy, IsFailureBy, IsHelp, IsNamed, IsNumber};
+ghost use Rattle.tracer_cli.specs.Arguments.{IsTaken, file_rule, follow_rule, limit_rule, names_rule, replay_app, run_app};
+ghost use Rattle.tracer_cli.specs.Arguments.{seccomp_rule, shows_text, tracer_app, workers_rule};
 
 use crate::failure::Failure;
 use clap::error::ErrorKind;
-use clap::{Arg, ArgAction, ArgMatches, Command, Error};
+use clap::{Arg, ArgAction, ArgMatches, Command, Error, value_parser};
 use std::alloc::{AllocError, Global};
+use stop_board::TRACERS;
 
-/// What help says at its end: an example, the exit statuses, and where the format of files is described.
-const AFTER_HELP: &'static str = "Example:
+/// The most bytes of a string, and the most entries of an array, that a run can be told to print.
+const MOST_SHOWN: u32 = 65_536;
+
+/// What the program's help says at its end: examples, the exit statuses, and where the formats are described.
+const AFTER_HELP: &'static str = "Examples:
+  tracer run -f examples/run/fork.case
   tracer replay examples/replay/first
 
 Exit status:
   0  done
   1  the file is refused
-  2  the command line is wrong
+  2  the command line is wrong, or -e names an unknown call
   3  out of memory, or something cannot be read or written
 
+The formats of case files and replay files: docs/FORMATS.md";
+
+/// The same of `tracer replay`.
+const AFTER_REPLAY: &'static str = "Example:
+  tracer replay examples/replay/first
+
 The format of replay files: docs/FORMATS.md";
+
+/// The same of `tracer run`.
+const AFTER_RUN: &'static str = "Example:
+  tracer run -f -e trace=write,fork examples/run/fork.case
+
+The format of case files, and of the printed lines: docs/FORMATS.md";
+
+/// The options of `tracer run`.
+#[derive(Clone, Copy, Debug)]
+pub struct RunOptions<'a> {
+    /// `-f`: trace the children that forks and clones create.
+    pub follow: bool,
+    /// `--seccomp-bpf`: stop at the system calls that are shown by a filter, and at no others.
+    pub seccomp: bool,
+    /// `-w`: how many tracers share the tracees, 1 to 16.
+    pub workers: u32,
+    /// `-s`: how many bytes of a string, and how many entries of an array, are printed at most, up to 65536.
+    pub limit: u32,
+    /// `-e`: the names of the calls that are printed; all calls without it.
+    pub names: Option<&'a str>,
+}
 
 /// What the command line asks for.
 #[derive(Debug, Drop)]
 pub enum Request<'a> {
     /// The replies to a replay file; standard input where it names none. A file `-` is a file of that name.
-    Replay { file: Option<&'a str> },
+    Replay {
+        file: Option<&'a str>,
+    },
+    /// The text of a case file, named as a replay file is.
+    Run {
+        options: RunOptions<'a>,
+        file: Option<&'a str>,
+    },
     /// Help or the version, with its text.
     Help(String),
 }
@@ -34,26 +75,52 @@ pub enum Request<'a> {
 /// What the words ask for, the program's name first.
 pub fn read_arguments<'a>(alloc: Global, words: &'a [&'a str]) -> Result<Request<'a>, Failure>
     ensures words { IsAskedBy (map (λ word. word.now) words.now) result }
-    ensures input { (name : List ℕ) → map (λ word. word.now) words.now ≡ replay_words name → AsksForInput result }
+    ensures taken { takes tracer_app (map (λ word. word.now) words.now) ≡ true → IsTaken result }
 {
     let command = tracer(alloc)?;
     match command.try_get_matches_from(words) {
-        Ok(matches) => Ok(Request::Replay {
-            file: file_in(&matches),
-        }),
+        Ok(matches) => Ok(named_request(&matches)),
         Err(error) => without_matches(alloc, &error),
     }
 }
 
-/// The file that the words name.
-fn file_in<'a>(matches: &ArgMatches<'a>) -> Option<&'a str>
-    ensures { option_map (λ file. file.now) result
-        ≡ option_and_then (λ found. first_of (codes "FILE") found.1) (subcommand_rows_of matches.now) }
+/// The request that the words name.
+fn named_request<'a>(matches: &ArgMatches<'a>) -> Request<'a>
+    ensures { IsNamed (subcommand_rows_of matches.now) result }
 {
     match matches.subcommand() {
-        Some((_, replay)) => replay.get_str("FILE"),
-        None => None,
+        Some((name, run)) if name == "run" => Request::Run {
+            options: run_options(run),
+            file: run.get_str("FILE"),
+        },
+        Some((_, replay)) => Request::Replay {
+            file: replay.get_str("FILE"),
+        },
+        None => Request::Replay { file: None },
     }
+}
+
+/// The options of a run, by what was found for its arguments.
+fn run_options<'a>(matches: &ArgMatches<'a>) -> RunOptions<'a>
+    ensures { AreOptions (rows_of (found_of matches.now)) result }
+{
+    RunOptions {
+        follow: matches.get_flag("follow"),
+        seccomp: matches.get_flag("seccomp-bpf"),
+        workers: number(matches, "workers", 1, TRACERS),
+        limit: number(matches, "limit", 0, MOST_SHOWN),
+        names: matches.get_str("names"),
+    }
+}
+
+/// A number that clap has found in its range. That it is there, and in the range, clap's contract does not say of a
+/// subcommand.
+fn number(matches: &ArgMatches, id: &str, low: u32, most: u32) -> u32
+    requires { low ≤ most }
+    ensures number { IsNumber low most (one_text (found_of matches.now) id.now) result }
+    ensures range { (low ≤ result) × (result ≤ most) }
+{
+    matches.get_one::<u32>(id).unwrap_or(low).clamp(low, most)
 }
 
 /// Help or the version was asked for, or the words are wrong.
@@ -76,17 +143,112 @@ fn without_matches<'a>(alloc: Global, error: &Error) -> Result<Request<'a>, Fail
 fn tracer<'a>(alloc: Global) -> Result<Command<'a>, AllocError>
     ensures { IfOk result (λ command. app_of command ≡ tracer_app) }
 {
-    let file = Arg::new(alloc, "FILE")
-        .action(ArgAction::Set)
-        .help("The file to read; standard input if there is none");
-    let replay = Command::new(alloc, "replay")
-        .about("Prints the stop board's reply to each command of a replay file")
-        .after_help(AFTER_HELP)
-        .arg(file)?;
+    let replay = replay_command(alloc)?;
+    let run = run_command(alloc)?;
     Command::new(alloc, "tracer")
-        .about("Replays the stops of scripted tracees; no real process is traced")
+        .about("Traces the system calls of scripted tracees; no real process is traced")
         .after_help(AFTER_HELP)
         .version("0.1.0")
         .subcommand_required(true)
-        .subcommand(replay)
+        .subcommand(replay)?
+        .subcommand(run)
+}
+
+fn replay_command<'a>(alloc: Global) -> Result<Command<'a>, AllocError>
+    ensures app { IfOk result (λ command. app_of command ≡ replay_app) }
+    ensures own { IfOk result (λ command. (out-Command command).has_globals ≡ false) }
+{
+    Command::new(alloc, "replay")
+        .about("Prints the stop board's reply to each command of a replay file")
+        .after_help(AFTER_REPLAY)
+        .arg(file(alloc))
+}
+
+fn run_command<'a>(alloc: Global) -> Result<Command<'a>, AllocError>
+    ensures app { IfOk result (λ command. app_of command ≡ run_app) }
+    ensures own { IfOk result (λ command. (out-Command command).has_globals ≡ false) }
+{
+    Command::new(alloc, "run")
+        .about(
+            "Runs the tracees of a case file and prints each of their calls, signals and deaths on a line",
+        )
+        .after_help(AFTER_RUN)
+        .arg(follow(alloc))?
+        .arg(seccomp(alloc))?
+        .arg(workers(alloc))?
+        .arg(limit(alloc))?
+        .arg(names(alloc))?
+        .arg(file(alloc))
+}
+
+fn file<'a>(alloc: Global) -> Arg<'a>
+    ensures rule { rule_of result ≡ file_rule }
+    ensures own { result.global ≡ false }
+{
+    Arg::new(alloc, "FILE")
+        .action(ArgAction::Set)
+        .help("The file to read; standard input if there is none")
+}
+
+fn follow<'a>(alloc: Global) -> Arg<'a>
+    ensures rule { rule_of result ≡ follow_rule }
+    ensures own { result.global ≡ false }
+{
+    Arg::new(alloc, "follow")
+        .short('f')
+        .action(ArgAction::SetTrue)
+        .help("Trace the children that forks and clones create")
+}
+
+fn seccomp<'a>(alloc: Global) -> Arg<'a>
+    ensures rule { rule_of result ≡ seccomp_rule }
+    ensures own { result.global ≡ false }
+{
+    Arg::new(alloc, "seccomp-bpf")
+        .long("seccomp-bpf")
+        .action(ArgAction::SetTrue)
+        .help(
+            "Stop at the calls that are printed by a filter, and at no others; the text is the same",
+        )
+}
+
+fn workers<'a>(alloc: Global) -> Arg<'a>
+    ensures rule { rule_of result ≡ workers_rule }
+    ensures own { result.global ≡ false }
+{
+    Arg::new(alloc, "workers")
+        .short('w')
+        .action(ArgAction::Set)
+        .value_name("N")
+        .value_parser(value_parser!(u32).range(1..=TRACERS as i64))
+        .default_value("4")
+        .help("How many tracers share the tracees, 1 to 16; the text is the same")
+}
+
+fn limit<'a>(alloc: Global) -> Arg<'a>
+    ensures rule { rule_of result ≡ limit_rule }
+    ensures own { result.global ≡ false }
+{
+    Arg::new(alloc, "limit")
+        .short('s')
+        .action(ArgAction::Set)
+        .value_name("N")
+        .value_parser(value_parser!(u32).range(0..=MOST_SHOWN as i64))
+        .default_value("32")
+        .help(
+            "The most bytes of a string, and the most entries of an array, that are printed, 0 to 65536",
+        )
+}
+
+fn names<'a>(alloc: Global) -> Arg<'a>
+    ensures rule { rule_of result ≡ names_rule }
+    ensures own { result.global ≡ false }
+{
+    Arg::new(alloc, "names")
+        .short('e')
+        .action(ArgAction::Set)
+        .value_name("NAMES")
+        .help(
+            "The calls to print: names with commas between them, after trace= or not [default: all]",
+        )
 }

@@ -1,15 +1,21 @@
 //! The program: from words and streams to an exit status.
 
-ghost use Rattle.std.specs.Prelude.{◌≡◌, ◌≤◌, ◌⊎◌, ℕ, List, IfErr, IfOk, IfSome, OnOk, map, string_bytes};
+ghost use Rattle.std.specs.Prelude.{◌≡◌, ◌≤◌, ◌⊎◌, IfErr, IfOk, IfSome, None, OnOk, map, string_bytes};
 ghost use Rattle.std.specs.Io.KnownBytes.{Appends};
-ghost use Rattle.tracer_cli.specs.Arguments.{replay_words};
+ghost use Rattle.stop_history.specs.declared.limits.TheConstants.{TRACERS};
+ghost use Rattle.tracer_cli.specs.Arguments.{AskReplay, AskRun};
 ghost use Rattle.std.specs.IoError.{error_kind};
 ghost use Rattle.tracer_cli.specs.Failure.{failure_at, failure_status};
-ghost use Rattle.tracer_cli.specs.Run.{Answers, Ends, EndsWith, IsReadFailure, IsReadOf, IsUnwritten, Replays};
+ghost use Rattle.tracer_cli.specs.Run.{Answers, AreInRange, Ends, EndsWith, IsReadFailure, IsReadOf, IsUnread, IsUnwritten};
+ghost use Rattle.tracer_cli.specs.Run.{Prints, PrintsNamed, RunEnds};
+ghost use Rattle.tracer_cli.specs.Replay.{replay_of};
+ghost use Rattle.tracer_cli.specs.declared.arguments.Request.TheVariants.{Run};
 
-use crate::arguments::{Request, read_arguments};
+use crate::arguments::{Request, RunOptions, read_arguments};
+use crate::case_text::{case_text, run_config};
 use crate::failure::{Failure, arguments_failure, read_failure};
 use crate::replay::replay_text;
+use record_printer::{Text, write_text};
 use std::alloc::{AllocError, Global};
 use std::fs;
 use std::io::{self, Read, Write};
@@ -30,10 +36,16 @@ pub fn process<H: Files + AllocGlobal, R: Read, W: Write, E: Write>(
     ensures unread { IfErr words (λ error. input.new ≡ input.old) }
     ensures unwritten { IfErr words (λ error. output.new ≡ output.old) }
     ensures output { EndsWith output.old output.new result }
+    ensures untouched { result ≡ 2 → input.new ≡ input.old }
 
     // The words of a replay of standard input, where what it has is known.
-    ensures replay { (name : List ℕ) → IfOk words (λ words. map string_bytes words.items ≡ replay_words name →
+    ensures replay { IfOk words (λ words. AskReplay (map string_bytes words.items) →
         IfSome (R.remaining input.old) (λ text. Ends text (W.contents output.old) (W.contents output.new) result)) }
+
+    // The words of a run of standard input, where what it has is known.
+    ensures run { IfOk words (λ words. AskRun (map string_bytes words.items) →
+        IfSome (R.remaining input.old) (λ text. RunEnds (map string_bytes words.items) text (W.contents output.old)
+        (W.contents output.new) result)) }
 {
     match words {
         Ok(words) => program(rt, words.as_slice(), input, output, errors),
@@ -55,9 +67,16 @@ pub fn program<H: Files + AllocGlobal, R: Read, W: Write, E: Write>(
     ensures unwritten { (result ≡ 1) ⊎ (result ≡ 2) → output.new ≡ output.old }
     ensures output { EndsWith output.old output.new result }
 
+    // The command line and the names of `-e` are tested before anything is read.
+    ensures untouched { result ≡ 2 → input.new ≡ input.old }
+
     // The words of a replay of standard input, where what it has is known.
-    ensures replay { (name : List ℕ) → map string_bytes words.now ≡ replay_words name →
+    ensures replay { AskReplay (map string_bytes words.now) →
         IfSome (R.remaining input.old) (λ text. Ends text (W.contents output.old) (W.contents output.new) result) }
+
+    // The words of a run of standard input, where what it has is known.
+    ensures run { AskRun (map string_bytes words.now) → IfSome (R.remaining input.old) (λ text.
+        RunEnds (map string_bytes words.now) text (W.contents output.old) (W.contents output.new) result) }
 {
     match run(rt, words, input, output) {
         Ok(()) => 0,
@@ -73,7 +92,8 @@ fn fail<E: Write>(failure: &Failure, errors: &mut E) -> u8
     failure.status()
 }
 
-/// Finds the faults of the command line, of reading, of the file and of writing, in this order.
+/// Finds the faults of the command line, of the names of `-e`, of reading, of the file, of the run and of writing, in
+/// this order.
 fn run<H: Files + AllocGlobal, R: Read, W: Write>(
     rt: &H,
     words: &[String],
@@ -81,8 +101,11 @@ fn run<H: Files + AllocGlobal, R: Read, W: Write>(
     output: &mut W,
 ) -> Result<(), Failure>
     ensures unwritten { IsUnwritten output.old output.new result }
-    ensures replay { (name : List ℕ) → map string_bytes words.now ≡ replay_words name →
-        IfSome (R.remaining input.old) (λ text. Replays text (W.contents output.old) (W.contents output.new) result) }
+    ensures unread { IsUnread input.old input.new result }
+    ensures replay { AskReplay (map string_bytes words.now) → IfSome (R.remaining input.old) (λ text.
+        Prints (replay_of text) (W.contents output.old) (W.contents output.new) result) }
+    ensures run { AskRun (map string_bytes words.now) → IfSome (R.remaining input.old) (λ text.
+        PrintsNamed (map string_bytes words.now) text (W.contents output.old) (W.contents output.new) result) }
 {
     let alloc = rt.alloc();
     let words = texts_of(alloc, words)?;
@@ -104,9 +127,11 @@ fn answer<H: Files + AllocGlobal, R: Read, W: Write>(
     input: &mut R,
     output: &mut W,
 ) -> Result<(), Failure>
+    requires { AreInRange request.now }
     ensures answer { Answers request.now (R.remaining input.old) (W.contents output.old) (W.contents output.new)
         result }
     ensures unwritten { IsUnwritten output.old output.new result }
+    ensures unread { IsUnread input.old input.new result }
 {
     match request {
         Request::Help(text) => write_all(output, text.as_bytes()),
@@ -114,16 +139,49 @@ fn answer<H: Files + AllocGlobal, R: Read, W: Write>(
             let text = read_file(rt, *file, input)?;
             replay(rt.alloc(), text.as_slice(), output)
         }
+        Request::Run { options, file } => run_case(rt, options, *file, input, output),
     }
 }
 
 /// Prints the replies to the commands of a file.
 fn replay<W: Write>(alloc: Global, text: &[u8], output: &mut W) -> Result<(), Failure>
-    ensures replies { Replays text.now (W.contents output.old) (W.contents output.new) result }
+    ensures replies { Prints (replay_of text.now) (W.contents output.old) (W.contents output.new) result }
     ensures unwritten { IsUnwritten output.old output.new result }
 {
     let replies = replay_text(alloc, text)?;
     write_all(output, replies.as_slice())
+}
+
+/// Prints the text of a case file.
+fn run_case<H: Files + AllocGlobal, R: Read, W: Write>(
+    rt: &H,
+    options: &RunOptions,
+    file: Option<&str>,
+    input: &mut R,
+    output: &mut W,
+) -> Result<(), Failure>
+    requires { (1 ≤ options.now.workers) × (options.now.workers ≤ TRACERS) }
+    ensures answer { Answers (Run options.now file.entry) (R.remaining input.old) (W.contents output.old)
+        (W.contents output.new) result }
+    ensures unwritten { IsUnwritten output.old output.new result }
+    ensures unread { IsUnread input.old input.new result }
+{
+    let config = run_config(rt.alloc(), options)?;
+    let file = read_file(rt, file, input)?;
+    match case_text(rt.alloc(), file, &config) {
+        Ok(text) => print_text(&text, output),
+        Err(failure) => Err(failure),
+    }
+}
+
+fn print_text<W: Write>(text: &Text, output: &mut W) -> Result<(), Failure>
+    ensures ok { OnOk result (Appends (W.contents output.old) (W.contents output.new) text.now) }
+    ensures err { IfErr result (λ failure. failure ≡ Failure.CannotWrite) }
+{
+    match write_text(text, output) {
+        Ok(()) => Ok(()),
+        Err(_) => Err(Failure::CannotWrite),
+    }
 }
 
 /// The bytes of a file, or of standard input where none is named; one more than a file may have at most.

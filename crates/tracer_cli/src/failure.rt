@@ -8,6 +8,7 @@ use std::alloc::{AllocError, AllocFailed};
 use std::fmt;
 use std::io::{self, ErrorKind, Write};
 use trace_script::{CaseError, Cause};
+use tracer_workers::RunError;
 
 /// Why the program did not do what it was asked for.
 #[derive(Debug, Drop)]
@@ -18,12 +19,18 @@ pub enum Failure {
     Usage(String),
     /// An argument is not valid UTF-8.
     NoText,
+    /// `-e` names no system call that is known by name.
+    UnknownCall(String),
     /// The program is out of memory.
     NoMemory,
     /// The file, or standard input, cannot be read.
     CannotRead,
     /// Standard output cannot be written.
     CannotWrite,
+    /// A stop of a run was lost.
+    LostStop,
+    /// The threads of a run could not be started.
+    NoThreads,
 }
 
 impl Failure {
@@ -37,8 +44,12 @@ impl Failure {
     {
         match self {
             Failure::Refused(_) => 1,
-            Failure::Usage(_) | Failure::NoText => 2,
-            Failure::NoMemory | Failure::CannotRead | Failure::CannotWrite => 3,
+            Failure::Usage(_) | Failure::NoText | Failure::UnknownCall(_) => 2,
+            Failure::NoMemory
+            | Failure::CannotRead
+            | Failure::CannotWrite
+            | Failure::LostStop
+            | Failure::NoThreads => 3,
         }
     }
 
@@ -61,9 +72,12 @@ impl fmt::Display for Failure {
             Failure::Refused(error) => write!(f, "tracer: {error}\n"),
             Failure::Usage(text) => write!(f, "{text}"),
             Failure::NoText => write!(f, "tracer: an argument is not valid UTF-8\n"),
+            Failure::UnknownCall(name) => write!(f, "tracer: unknown call {name}\n"),
             Failure::NoMemory => write!(f, "tracer: no memory\n"),
             Failure::CannotRead => write!(f, "tracer: cannot read\n"),
             Failure::CannotWrite => write!(f, "tracer: cannot write\n"),
+            Failure::LostStop => write!(f, "tracer: lost stop\n"),
+            Failure::NoThreads => write!(f, "tracer: cannot start threads\n"),
         }
     }
 }
@@ -97,6 +111,20 @@ impl From<CaseError> for Failure {
         match error.cause {
             Cause::NoMemory => Failure::NoMemory,
             _ => Failure::Refused(error),
+        }
+    }
+}
+
+impl From<RunError> for Failure {
+    ghost use Rattle.tracer_cli.specs.Failure.{failure_in_run};
+
+    ghost from_gives = { λ error e. e ≡ failure_in_run error };
+
+    fn from(error: RunError) -> Failure {
+        match error {
+            RunError::NoMemory => Failure::NoMemory,
+            RunError::Lost => Failure::LostStop,
+            RunError::Threads => Failure::NoThreads,
         }
     }
 }

@@ -2,6 +2,7 @@
 #![tactic(auto)]
 
 mod arguments;
+mod case_text;
 mod command;
 mod entry;
 mod failure;
@@ -11,9 +12,10 @@ mod order;
 mod reading;
 mod replay;
 mod replies;
+mod shown;
 
 pub use entry::{process, program};
 pub use failure::Failure;
-pub use laws::{what_is_spelled_is_read, words_are_counted};
+pub use laws::{plain_words_are_taken, what_is_spelled_is_read, words_are_counted};
 pub use replay::replay_text;
 pub use trace_script::{CaseError, Cause};

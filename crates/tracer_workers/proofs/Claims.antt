@@ -46,7 +46,7 @@ stop_with rows (event.Claim row number tracer) carried before range is old = old
 stop_with rows (event.Resume row number how tracer) carried before range is old = old
 stop_with rows (event.Exit row death) carried before range is old = old
 
-last_stop : (rows : List Row) (h : List Entry) → AreLegal rows h → (row : ℕ) → IsStop (content_after rows h row).stop
+pub last_stop : (rows : List Row) (h : List Entry) → AreLegal rows h → (row : ℕ) → IsStop (content_after rows h row).stop
 last_stop rows [] legal row = tt
 last_stop rows (x ∷ h) legal row =
     let old = last_stop rows h legal.1 row in
@@ -68,7 +68,7 @@ passed_in_range (stop.Fork child) is = omega arith
 passed_in_range (stop.Clone child) is = omega arith
 passed_in_range (stop.Exec former) is = omega arith
 
-mode_in_range : (b : Bool) (calls : Calls) (c : Content) → IsStop c.stop
+pub mode_in_range : (b : Bool) (calls : Calls) (c : Content) → IsStop c.stop
     → IsResume ((if b then seccomp_policy calls else plain_policy) c)
 mode_in_range true calls c is = passed_in_range c.stop is
 mode_in_range false calls c is = passed_in_range c.stop is

@@ -61,7 +61,7 @@ in_range (event.Claim row number tracer ∷ es) newest = claimed_in_range tracer
 in_range (event.Resume row number how tracer ∷ es) newest = newest.0
 in_range (event.Exit row death ∷ es) newest = first_in_range
 
-newest_in_range : (rows : List Row) (h : List Entry) → AreLegal rows h → (row : ℕ)
+pub newest_in_range : (rows : List Row) (h : List Entry) → AreLegal rows h → (row : ℕ)
     → IsNewestInRange (events_of row (history_of h))
 newest_in_range rows [] legal row = tt
 newest_in_range rows (x ∷ h) legal row =
@@ -169,7 +169,7 @@ next_death plan row a fit how x d range is =
     let p = position_after (opening_of plan row) a.turns in
     death_by p (outcome_at p how x) d is (good_next p.setting how p.left x range fit.good)
 
-own_fit : (plan : Plan) (h : List Entry) → AreLegal plan.rows h → (e : Event) (content : Content)
+pub own_fit : (plan : Plan) (h : List Entry) → AreLegal plan.rows h → (e : Event) (content : Content)
     → IsCarried plan.rows e content → IsTraced plan h e content
     → IsFit plan (subject e) (left_of plan.rows h (subject e))
     → IsFit plan (subject e) (left_with plan.rows h (subject e) e content)

@@ -1,5 +1,5 @@
 -- Turns one after the other: events come of them, or none, and then the run is over.
-use Rattle.std.proofs.Common.{refl, ◌≡◌, ◌⊎◌, ◌||◌, ◌<◌, ◌≤◌, ◌+◌, ℕ, Bool, true, false, List, length, ◌∙◌, sym, ap, subst, arith}
+use Rattle.std.proofs.Common.{refl, ◌≡◌, ◌⊎◌, ◌||◌, ◌≤◌, ◌+◌, ℕ, Bool, true, false, List, length, ◌∙◌, sym, ap, subst, arith}
 use Rattle.std.proofs.Common.{[], ◌∷◌, ◌++◌, zero, suc, Some, slice_get, inl, inr, Result, Ok, Err, IfOk, OnOk}
 use Rattle.std.proofs.lemmas.Bool.{cases_eq}
 use Rattle.stop_history.specs.Word.{word_at}

@@ -96,7 +96,7 @@ claimed_shows born number tracer (event.Claim row n other ∷ es) is = held_is_c
 claimed_shows born number tracer (event.Resume row n how other ∷ es) is = cc
 claimed_shows born number tracer (event.Exit row death ∷ es) is = cc
 
-is_there : {P : Type 0} (born : Bool) (es : List Event) → state_in born es ≡ state.Absent → P
+pub is_there : {P : Type 0} (born : Bool) (es : List Event) → state_in born es ≡ state.Absent → P
 is_there true [] is = cc
 is_there false [] is = cc
 is_there born (event.Publish row n stop ∷ es) is = cc

@@ -73,7 +73,7 @@ no_pieces show rows roster (x ∷ h) legal row within silent =
           (sym (other_events row x.event (history_of h) other) ∙ silent))
     ]
 
-silent_death : (h : List Entry) (row : ℕ) → events_of row (history_of h) ≡ [] → death_after h row ≡ None
+pub silent_death : (h : List Entry) (row : ℕ) → events_of row (history_of h) ≡ [] → death_after h row ≡ None
 silent_death [] row silent = refl
 silent_death (x ∷ h) row silent =
     elim (cases_eq (subject x.event) row) [
@@ -88,7 +88,7 @@ silent_death (x ∷ h) row silent =
 -- ---- a row that a stop names
 
 -- a note names the child that its stop creates
-noted_child : (show : Show) (content : Content) (at : Stop) → content.stop ≡ at
+pub noted_child : (show : Show) (content : Content) (at : Stop) → content.stop ≡ at
     → (tid : ℕ) → is_child tid (child_of (stop_note show content)) ≡ creates tid (created_by at)
 noted_child show content stop.Start is tid = rw is refl
 noted_child show content stop.Enter is tid = rw is refl

@@ -1,10 +1,15 @@
 pub mod CaseText
 pub mod Config
 pub mod Driven
+pub mod DrivenBy
+pub mod Gathering
 pub mod HistoryPieces
 pub mod Modes
 pub mod Plan
 pub mod Policy
 pub mod Printing
 pub mod Scheduled
+pub mod Threaded
+pub mod TraceeThread
 pub mod Turn
+pub mod WorkerThread

@@ -1,5 +1,5 @@
 -- A run of a case on a schedule: what is kept of it, and the history that it has made (strace(1), `-f`).
-use Rattle.std.specs.Prelude.{◌≡◌, ◌≢◌, ◌⊎◌, ◌<◌, ◌+◌, ◌-◌, ◌*◌, ℕ, zero, suc, Bool, true, false, List, Some, length, slice_get}
+use Rattle.std.specs.Prelude.{◌≡◌, ◌≢◌, ◌⊎◌, ◌<◌, ◌+◌, ◌-◌, ◌*◌, ℕ, zero, suc, Bool, true, false, List, Option, None, Some, length, slice_get}
 use Rattle.record_printer.specs.Represents.{Folded, Represents as HasCome}
 use Rattle.stop_board.specs.World.{Contents, Moment, StandsAt}
 use Rattle.stop_history.specs.declared.phase.Phase.{Phase}
@@ -32,6 +32,11 @@ pub record KeptRow : Type 0 where
   pub number : ℕ
   pub content : Content
   pub position : Position
+
+-- where a tracee is: where its machine is, or at its opening before it has one
+abbrev pub position_of : Position → Option Position → Position
+position_of opening None = opening
+position_of opening (Some at) = at
 
 pub record RunState : Type 0 where
   pub config : Config

@@ -2,20 +2,37 @@
 #![tactic(auto)]
 
 mod config;
+mod gate;
+mod gathering;
 mod laws;
 mod one_thread;
+mod patience;
 mod run_error;
 mod scheduled;
+mod thread_laws;
+mod threaded;
+mod tracee_thread;
+mod worker_thread;
 
 pub use config::{Config, policy};
+pub use gate::Gate;
+pub use gathering::gather;
 pub use laws::{
     pieces_of_a_run_are_whole, runs_print_their_case, seccomp_changes_no_line,
     the_mode_changes_no_text,
 };
 pub use run_error::RunError;
 pub use scheduled::run_scheduled;
+pub use thread_laws::{claimed_pieces_were_made, what_is_driven_stays_so};
+pub use threaded::run_case;
+pub use tracee_thread::run_tracee;
+pub use worker_thread::{Worked, run_worker};
 
+#[cfg(test)]
+mod gather_tests;
 #[cfg(test)]
 mod run_tests;
 #[cfg(test)]
 mod tests;
+#[cfg(test)]
+mod thread_tests;

@@ -27,10 +27,13 @@ ghost use Rattle.tracer_workers.specs.Turn.{HasClaimed, HasDied, HasGone, HasHel
 ghost use Rattle.tracer_workers.specs.Turn.{new_row, with_next, with_number};
 ghost use Rattle.tracer_workers.specs.declared.run_error.RunError.TheVariants as run_error;
 
+mod tracee;
+
 use crate::config::{Config, policy};
 use crate::laws::the_mode_changes_no_text;
 use crate::one_thread;
 use crate::run_error::RunError;
+use crate::scheduled::tracee::Tracee;
 use record_printer::{FoldError, Folder, Piece, Show, Text, death_piece, piece_of};
 use std::alloc::{Allocator, Global};
 use std::marker::Model;
@@ -38,7 +41,7 @@ use stop_board::World;
 use stop_history::{Got, State, TRACERS};
 use trace_pages::NoMemory;
 use trace_record::{Death, Kind, Resume, StopRecord};
-use trace_script::{Case, Machine, Next};
+use trace_script::{Case, Next};
 
 /// A tracee whose store faults dies by SIGSEGV (signal(7)).
 const FAULT_DEATH: Death = Death::Signaled {
@@ -47,17 +50,17 @@ const FAULT_DEATH: Death = Death::Signaled {
 };
 
 /// What is kept of a row beside its stop cell: its thread id, the restart that it takes up next, the number and the
-/// record of its last stop, and the machine of its script.
+/// record of its last stop, and its tracee.
 #[derive(Drop)]
-struct TracedRow<A: Allocator = Global> {
+struct TracedRow<'a, A: Allocator = Global> {
     tid: u32,
     how: Resume,
     number: u32,
     content: StopRecord<A>,
-    machine: Machine<A>,
+    tracee: Tracee<'a, A>,
 }
 
-impl<A: Allocator> Model for TracedRow<A> {
+impl<'a, A: Allocator> Model for TracedRow<'a, A> {
     ghost use Rattle.std.specs.Coded.{codes};
     ghost use Rattle.trace_pages.specs.FlatMemory.{flat_code};
     ghost use Rattle.tracer_workers.specs.Scheduled.{KeptRow};
@@ -71,19 +74,18 @@ impl<A: Allocator> Model for TracedRow<A> {
       how = t.how;
       number = t.number;
       content = t.content;
-      position = t.machine;
+      position = t.tracee;
     } };
 }
 
-impl<A: Allocator + Copy> TracedRow<A> {
+impl<'a, A: Allocator + Copy> TracedRow<'a, A> {
     /// A row before its first stop.
-    fn new(alloc: A, case: &Case<A>, row: u32, config: &Config) -> Result<TracedRow<A>, NoMemory>
+    fn new(alloc: A, case: &'a Case<A>, row: u32, config: &Config) -> TracedRow<'a, A>
         requires { row < length case.now.rows }
-        ensures { IfOk result (λ traced. traced ≡ new_row config.now case.now row) }
+        ensures { result ≡ new_row config.now case.now row }
     {
         let tid = case.roster().row(row).tid;
-        let machine = Machine::new(alloc, case, row, config.options(), &config.filter())?;
-        Ok(TracedRow {
+        TracedRow {
             tid,
             how: Resume {
                 kind: Kind::Cont,
@@ -91,22 +93,34 @@ impl<A: Allocator + Copy> TracedRow<A> {
             },
             number: 0,
             content: StopRecord::empty(alloc, tid),
-            machine,
-        })
+            tracee: Tracee::new(case, row, config),
+        }
+    }
+
+    /// Runs the tracee on, to its next stop or its death.
+    fn run_on(&mut self, alloc: A) -> Result<Next, NoMemory>
+        ensures { IfOk result (λ next. (content : Content) × (at : Position)
+            × IsAnswer (next_element self.old.position self.old.how (context_of self.old.content)) next
+            self.old.content content
+            × (at ≡ next_position self.old.position self.old.how (context_of self.old.content))
+            × (self.new ≡ with_next self.old content at)) }
+    {
+        let next = self.tracee.next(alloc, self.how, &mut self.content)?;
+        Ok(next)
     }
 }
 
 /// A run of a case.
 #[derive(Drop)]
-struct Run<A: Allocator = Global> {
+struct Run<'a, A: Allocator = Global> {
     alloc: A,
     config: Config,
     world: World<A>,
     folder: Folder<A>,
-    rows: Vec<TracedRow<A>, A>,
+    rows: Vec<TracedRow<'a, A>, A>,
 }
 
-impl<A: Allocator> Model for Run<A> {
+impl<'a, A: Allocator> Model for Run<'a, A> {
     ghost use Rattle.std.specs.Coded.{codes};
     ghost use Rattle.trace_pages.specs.FlatMemory.{flat_code};
     ghost use Rattle.tracer_workers.specs.Scheduled.{RunState};
@@ -118,7 +132,8 @@ impl<A: Allocator> Model for Run<A> {
     ghost view = { λ r. record { config = r.config; world = r.world; folder = r.folder; rows = r.rows.items } };
 }
 
-/// Adds a piece that no folder refuses.
+/// Adds a piece that no folder refuses. It is compiled into its callers, so that a piece is moved less often.
+#[inline(always)]
 fn add<A: Allocator + Copy>(folder: &mut Folder<A>, piece: Piece<A>) -> Result<(), NoMemory>
     requires { (came : List pieces.Piece) × HasCome folder.old came
         × (refusal folder.old.rows came piece ≡ None) }
@@ -151,7 +166,7 @@ fn publish_stop<A: Allocator + Copy>(
     alloc: A,
     world: &mut World<A>,
     folder: &mut Folder<A>,
-    traced: &mut TracedRow<A>,
+    traced: &mut TracedRow<'_, A>,
     row: u32,
     show: &Show,
 ) -> Result<(), NoMemory>
@@ -170,7 +185,8 @@ fn publish_stop<A: Allocator + Copy>(
     ensures rows { (world.new.rows ≡ world.old.rows) × (folder.new.rows ≡ folder.old.rows) }
 {
     let piece = piece_of(alloc, &traced.content, show)?;
-    traced.number = one_thread::publish(world, row, traced.content.stop);
+    let number = one_thread::publish(world, row, traced.content.stop);
+    traced.number = number;
     add(folder, piece)
 }
 
@@ -178,7 +194,7 @@ fn publish_stop<A: Allocator + Copy>(
 fn end_row<A: Allocator + Copy>(
     world: &mut World<A>,
     folder: &mut Folder<A>,
-    traced: &TracedRow<A>,
+    traced: &TracedRow<'_, A>,
     row: u32,
     death: Death,
 ) -> Result<bool, NoMemory>
@@ -201,26 +217,16 @@ fn end_row<A: Allocator + Copy>(
     Ok(true)
 }
 
-impl<A: Allocator> TracedRow<A> {
-    /// Runs the tracee on, to its next stop or its death.
-    fn run_on(&mut self) -> Next
-        ensures { (content : Content) × (at : Position)
-            × IsAnswer (next_element self.old.position self.old.how (context_of self.old.content)) result
-            self.old.content content
-            × (at ≡ next_position self.old.position self.old.how (context_of self.old.content))
-            × (self.new ≡ with_next self.old content at) }
-    {
-        self.machine.next(self.how, &mut self.content)
-    }
-}
-
-impl<A: Allocator + Copy> Run<A> {
+impl<'a, A: Allocator + Copy> Run<'a, A> {
     /// Runs the tracee of a row on.
-    fn run_on(&mut self, row: u32) -> Next
+    fn run_on(&mut self, row: u32) -> Result<Next, NoMemory>
         requires { row < length self.old.rows }
-        ensures { HasRunOn self.old self.new row result }
+        ensures ran { IfOk result (λ next. HasRunOn self.old self.new row next) }
+        ensures config { self.new.config ≡ self.old.config }
     {
-        self.rows[row as usize].run_on()
+        let traced = &mut self.rows[row as usize];
+        let next = traced.run_on(self.alloc)?;
+        Ok(next)
     }
 
     /// Publishes the stop to which a row has come.
@@ -262,7 +268,8 @@ impl<A: Allocator + Copy> Run<A> {
             IfOk result (λ moved. HasTurned content self.old self.new h row moved) }
         ensures config { self.new.config ≡ self.old.config }
     {
-        match self.run_on(row) {
+        let told = self.run_on(row)?;
+        match told {
             Next::Stop => {
                 self.publish(row)?;
                 Ok(true)
@@ -418,36 +425,36 @@ impl<A: Allocator + Copy> Run<A> {
     /// The text of a run that is over.
     fn finish(self) -> Result<Text<A>, NoMemory>
         requires { (content : CaseContent) × (h : List Entry) × Stands content self h × IsOver content h }
-        ensures { (content : CaseContent) (h : List Entry) → Stands content self h → IsOver content h →
-            IfOk result (λ text. text ≡ text_of self.config content) }
+        ensures { (content : CaseContent) (h : List Entry) → Stands content self.entry h → IsOver content h →
+            IfOk result (λ text. text ≡ text_of self.entry.config content) }
     {
         finish(self.folder)
     }
 }
 
 /// What is kept of the rows of a case before any stop.
-fn new_rows<A: Allocator + Copy>(
+fn new_rows<'a, A: Allocator + Copy>(
     alloc: A,
-    case: &Case<A>,
+    case: &'a Case<A>,
     config: &Config,
-) -> Result<Vec<TracedRow<A>, A>, NoMemory>
+) -> Result<Vec<TracedRow<'a, A>, A>, NoMemory>
     ensures long { IfOk result (λ rows. length rows.items ≡ length case.now.rows) }
     ensures each { IfOk result (λ rows. (row : ℕ) (k : KeptRow) → slice_get rows.items row ≡ Some k →
         k ≡ new_row config.now case.now row) }
 {
     let mut rows = Vec::new(alloc);
     for row in 0..case.roster().len() {
-        rows.push(TracedRow::new(alloc, case, row, config)?)?;
+        rows.push(TracedRow::new(alloc, case, row, config))?;
     }
     Ok(rows)
 }
 
 /// A run of a case before any event.
-fn new_run<A: Allocator + Copy>(
+fn new_run<'a, A: Allocator + Copy>(
     alloc: A,
-    case: &Case<A>,
+    case: &'a Case<A>,
     config: &Config,
-) -> Result<Run<A>, NoMemory>
+) -> Result<Run<'a, A>, NoMemory>
     ensures stands { IfOk result (λ run. Stands case.now run []) }
     ensures config { IfOk result (λ run. run.config ≡ config.now) }
 {

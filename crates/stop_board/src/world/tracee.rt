@@ -20,6 +20,7 @@ use stop_history::{Phase, Refused, Row, Word, restart_in, taken_up};
 use trace_record::{Death, Resume, Stop};
 
 /// A step of the tracee of a row.
+#[inline(always)]
 pub(crate) fn tracee_step(rows: &[Row], words: &mut [Word], row: u32, action: Action) -> Reply
     requires words { length words.old ≡ length rows.now }
     requires roster { IsRoster rows.now }

@@ -17,6 +17,7 @@ use crate::words::{resume_at, state_of};
 use stop_history::{Phase, Refused, Row, State, Word, claimed};
 
 /// A step of a tracer, by the words that each tracer last saw in each row.
+#[inline(always)]
 pub(crate) fn tracer_step(
     rows: &[Row],
     words: &mut [Word],

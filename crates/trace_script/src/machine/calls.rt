@@ -1,6 +1,6 @@
 //! What a machine does.
 
-ghost use Rattle.std.specs.Prelude.{◌≡◌, ◌<◌, ◌≤◌, drop, length, IfOk, OnErr};
+ghost use Rattle.std.specs.Prelude.{◌≡◌, ◌<◌, ◌≤◌, [], drop, length, IfOk, OnErr};
 ghost use Rattle.stop_history.specs.Roster.{row_at};
 ghost use Rattle.trace_options.specs.Options.{IsTaken, option_bits};
 ghost use Rattle.trace_record.specs.Content.{content_by};
@@ -73,7 +73,7 @@ impl<A: Allocator + Copy> Machine<A> {
 
 impl<A: Allocator> Machine<A> {
     /// Runs the tracee on, to its next stop or its death. The first call ignores the restart and what the record
-    /// holds: it loads the program. It takes no memory.
+    /// holds: it loads the program. It takes no memory, and at the death it gives back that of the steps.
     pub fn next(&mut self, how: Resume, held: &mut StopRecord<A>) -> Next
         ensures element { IsAnswer (next_element self.old how (context_of held.old)) result held.old held.new }
         ensures position { self.new ≡ next_position self.old how (context_of held.old) }
@@ -104,10 +104,12 @@ impl<A: Allocator> Machine<A> {
                     }
                     Reached::Through => {
                         self.progress = Progress::Ended(Death::Exited(0));
+                        let_go(&mut self.steps);
                         Next::Death(Death::Exited(0))
                     }
                     Reached::Died(death) => {
                         self.progress = Progress::Ended(death);
+                        let_go(&mut self.steps);
                         Next::Death(death)
                     }
                 }
@@ -115,6 +117,14 @@ impl<A: Allocator> Machine<A> {
             Progress::Ended(death) => Next::Death(death),
         }
     }
+}
+
+/// Lets the steps go, of which none is left after the death, and their memory with them.
+fn let_go<A: Allocator>(steps: &mut Vec<Step<A>, A>)
+    ensures { steps.new.items ≡ [] }
+{
+    steps.clear();
+    steps.shrink_to_fit();
 }
 
 /// Loads the program, for the first stop.

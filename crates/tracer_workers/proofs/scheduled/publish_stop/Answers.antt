@@ -6,5 +6,5 @@ use Rattle.tracer_workers.proofs.scheduled.publish_stop.Goals as goal
 pub returns-clause-made : goal.returns-clause-made
 returns-clause-made g c =
     rw (← c.traced.view_is, ← c.traced-inside.view_is) (λ h came answer.
-    let number = c.publish-traced-inside-inside.ensures.number h came answer in
-    on_ok c.add.result (c.publish-traced-inside-inside.ensures.stands h came answer, rw number refl))
+    let number = c.publish-number.ensures.number h came answer in
+    on_ok c.add.result (c.publish-number.ensures.stands h came answer, rw number refl))

@@ -41,7 +41,7 @@ returns-clause-restarted g c =
       how = how;
       number = c.traced.inside.number;
       content = c.traced.inside.content;
-      position = c.traced.inside.machine;
+      position = c.traced.inside.tracee;
     } in
     let run : RunState = record {
       config = c.self.inside.config;

@@ -8,14 +8,14 @@ use Rattle.tracer_workers.specs.Turn.{with_next, with_row}
 use Rattle.tracer_workers.proofs.Fewer.{index_of_get}
 use Rattle.tracer_workers.proofs.scheduled.Run.run_on.Goals as goal
 
-pub returns : goal.returns
-returns g c =
+pub returns-clause-ran : goal.returns-clause-ran
+returns-clause-ran g c =
     rw (← c.self.view_is) (λ k there.
-    let old = c.index_mut.result.now in
-    let same : old ≡ k = c.index_mut.ensures.value ∙ index_of_get c.self.inside.rows.items c.args.row old k there in
-    let made = c.run_on.ensures in
+    let old = c.index_mut-traced.result.now in
+    let same : old ≡ k = c.index_mut-traced.ensures.value ∙ index_of_get c.self.inside.rows.items c.args.row old k there in
+    let made = c.in_ok-next.ensures in
     let Made : KeptRow → Type 0 = λ k. (content : Content) × (at : Position)
-    × IsAnswer (next_element k.position k.how (context_of k.content)) c.run_on.result k.content content
+    × IsAnswer (next_element k.position k.how (context_of k.content)) c.in_ok-next.next k.content content
     × (at ≡ next_position k.position k.how (context_of k.content)) × (c.run_on.new.self ≡ with_next k content at) in
     let it : Made k = subst Made same made in
     (it.0, it.1, it.2, it.3, ap (with_row _ c.args.row) it.4))

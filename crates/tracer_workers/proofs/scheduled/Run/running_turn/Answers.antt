@@ -1,50 +1,37 @@
 -- The tracee runs on to a stop, which is published, or to its end.
-use Rattle.std.proofs.Common.{◌∙◌}
 use Rattle.tracer_workers.proofs.Rounds.{if_ok, left_same, moved_from, turned_from}
-use Rattle.tracer_workers.proofs.TurnStarts.{ran_world, ran_config, ran_to_death, ran_to_fault, ran_to_stop}
+use Rattle.tracer_workers.proofs.TurnStarts.{ran_world, ran_to_death, ran_to_fault, ran_to_stop}
 use Rattle.tracer_workers.proofs.scheduled.Run.running_turn.Goals as goal
 
 pub publish-requires : goal.publish-requires
 publish-requires g c =
-    let to = ran_to_stop c.requires.0 c.args.self.now c.run_on.new.self c.requires.1 c.args.row c.run_on.result c.requires.2
-    c.run_on.ensures c.in-Stop.is in
+    let to = ran_to_stop c.requires.0 c.args.self.now c.run_on.new.self c.requires.1 c.args.row c.in_ok-told.told c.requires.2
+    c.in_ok-told.ensures.ran c.in-Stop.is in
     (c.requires.0, c.requires.1, to.0, to.1)
-
-pub returns-in_err-publish-in-Stop-clause-config : goal.returns-in_err-publish-in-Stop-clause-config
-returns-in_err-publish-in-Stop-clause-config g c =
-    c.publish.ensures.config
-    ∙ ran_config c.requires.0 c.args.self.now c.run_on.new.self c.requires.1 c.args.row c.run_on.result c.requires.2
-    c.run_on.ensures
 
 pub exit-requires : goal.exit-requires
 exit-requires g c = (
   c.requires.0,
   c.requires.1,
-  ran_to_death c.requires.0 c.args.self.now c.run_on.new.self c.requires.1 c.args.row c.run_on.result c.requires.2
-      c.run_on.ensures c.in-Death.death c.in-Death.is,
+  ran_to_death c.requires.0 c.args.self.now c.run_on.new.self c.requires.1 c.args.row c.in_ok-told.told c.requires.2
+      c.in_ok-told.ensures.ran c.in-Death.death c.in-Death.is,
 )
 
 pub exit-requires-in-Fault : goal.exit-requires-in-Fault
 exit-requires-in-Fault g c = (
   c.requires.0,
   c.requires.1,
-  ran_to_fault c.requires.0 c.args.self.now c.run_on.new.self c.requires.1 c.args.row c.run_on.result c.requires.2
-      c.run_on.ensures c.in-Fault.field-0 c.in-Fault.is,
+  ran_to_fault c.requires.0 c.args.self.now c.run_on.new.self c.requires.1 c.args.row c.in_ok-told.told c.requires.2
+      c.in_ok-told.ensures.ran c.in-Fault.field-0 c.in-Fault.is,
 )
 
 pub returns-in_ok-publish-in-Stop-clause-turned : goal.returns-in_ok-publish-in-Stop-clause-turned
 returns-in_ok-publish-in-Stop-clause-turned g c content h s =
-    let to = ran_to_stop content c.args.self.now c.run_on.new.self h c.args.row c.run_on.result s c.run_on.ensures c.in-Stop.is in
+    let to = ran_to_stop content c.args.self.now c.run_on.new.self h c.args.row c.in_ok-told.told s c.in_ok-told.ensures.ran c.in-Stop.is in
     moved_from content c.args.self.now c.run_on.new.self c.publish.new.self h
     (left_same c.args.self.now c.run_on.new.self
-    (ran_world content c.args.self.now c.run_on.new.self h c.args.row c.run_on.result s c.run_on.ensures))
+    (ran_world content c.args.self.now c.run_on.new.self h c.args.row c.in_ok-told.told s c.in_ok-told.ensures.ran))
     (c.in_ok-publish-in-Stop.ensures.moved content h to.0 to.1)
-
-pub returns-in_ok-publish-in-Stop-clause-config : goal.returns-in_ok-publish-in-Stop-clause-config
-returns-in_ok-publish-in-Stop-clause-config g c =
-    c.publish.ensures.config
-    ∙ ran_config c.requires.0 c.args.self.now c.run_on.new.self c.requires.1 c.args.row c.run_on.result c.requires.2
-    c.run_on.ensures
 
 pub returns-in-Death-clause-turned : goal.returns-in-Death-clause-turned
 returns-in-Death-clause-turned g c content h s =
@@ -52,16 +39,10 @@ returns-in-Death-clause-turned g c content h s =
     (λ moved turned.
     turned_from content c.args.self.now c.run_on.new.self c.exit.new.self h c.args.row moved
     (left_same c.args.self.now c.run_on.new.self
-    (ran_world content c.args.self.now c.run_on.new.self h c.args.row c.run_on.result s c.run_on.ensures)) turned)
+    (ran_world content c.args.self.now c.run_on.new.self h c.args.row c.in_ok-told.told s c.in_ok-told.ensures.ran)) turned)
     (c.exit.ensures.turned content h
-    (ran_to_death content c.args.self.now c.run_on.new.self h c.args.row c.run_on.result s c.run_on.ensures c.in-Death.death
+    (ran_to_death content c.args.self.now c.run_on.new.self h c.args.row c.in_ok-told.told s c.in_ok-told.ensures.ran c.in-Death.death
     c.in-Death.is))
-
-pub returns-in-Death-clause-config : goal.returns-in-Death-clause-config
-returns-in-Death-clause-config g c =
-    c.exit.ensures.config
-    ∙ ran_config c.requires.0 c.args.self.now c.run_on.new.self c.requires.1 c.args.row c.run_on.result c.requires.2
-    c.run_on.ensures
 
 pub returns-in-Fault-clause-turned : goal.returns-in-Fault-clause-turned
 returns-in-Fault-clause-turned g c content h s =
@@ -69,13 +50,7 @@ returns-in-Fault-clause-turned g c content h s =
     (λ moved turned.
     turned_from content c.args.self.now c.run_on.new.self c.exit-in-Fault.new.self h c.args.row moved
     (left_same c.args.self.now c.run_on.new.self
-    (ran_world content c.args.self.now c.run_on.new.self h c.args.row c.run_on.result s c.run_on.ensures)) turned)
+    (ran_world content c.args.self.now c.run_on.new.self h c.args.row c.in_ok-told.told s c.in_ok-told.ensures.ran)) turned)
     (c.exit-in-Fault.ensures.turned content h
-    (ran_to_fault content c.args.self.now c.run_on.new.self h c.args.row c.run_on.result s c.run_on.ensures
+    (ran_to_fault content c.args.self.now c.run_on.new.self h c.args.row c.in_ok-told.told s c.in_ok-told.ensures.ran
     c.in-Fault.field-0 c.in-Fault.is))
-
-pub returns-in-Fault-clause-config : goal.returns-in-Fault-clause-config
-returns-in-Fault-clause-config g c =
-    c.exit-in-Fault.ensures.config
-    ∙ ran_config c.requires.0 c.args.self.now c.run_on.new.self c.requires.1 c.args.row c.run_on.result c.requires.2
-    c.run_on.ensures

@@ -1,0 +1,29 @@
+-- What clap makes of the shortest words of a replay and of a run.
+use Rattle.std.proofs.Common.{refl, ◌≡◌, ◌∷◌, [], ℕ, List, Option, Some, None, codes, lit<, lit≤, Bor}
+use Rattle.std.specs.Prelude.{option_map}
+use Rattle.clap.proofs.OnLiterals.{clap_on_literals}
+use Rattle.tracer_cli.specs.declared.arguments.RunOptions.{RunOptions}
+use Rattle.tracer_cli.specs.Arguments.{AreOptionsOf, AskReplay, AskRun, IsFollowed}
+
+pub asks_replay : (name : List ℕ) → AskReplay (name ∷ codes "replay" ∷ [])
+unfolding clap_on_literals
+asks_replay name = (refl, refl, refl)
+
+pub asks_run : (name : List ℕ) → AskRun (name ∷ codes "run" ∷ codes "-f" ∷ [])
+unfolding clap_on_literals
+asks_run name = (refl, refl, refl)
+
+no_names : (names : Option (Bor (List ℕ))) → option_map (λ list. list.now) names ≡ None → names ≡ None
+no_names None none = refl
+no_names (Some list) none = cc
+
+pub is_followed : (name : List ℕ) (options : RunOptions) → AreOptionsOf (name ∷ codes "run" ∷ codes "-f" ∷ []) options
+    → IsFollowed options
+unfolding clap_on_literals
+is_followed name options are = record {
+  follow = are.follow.0 refl;
+  seccomp = are.seccomp.1 refl;
+  workers = are.workers ((lit< tt, (lit< tt, tt)), lit< tt, lit≤ tt, lit≤ tt);
+  limit = are.limit ((lit< tt, (lit< tt, (lit< tt, tt))), lit< tt, lit≤ tt, lit≤ tt);
+  names = no_names options.names are.names;
+}

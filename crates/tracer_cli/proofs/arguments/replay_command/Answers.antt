@@ -1,0 +1,21 @@
+-- What clap's definitions say of this command.
+use Rattle.std.proofs.Common.{◌≡◌, ◌∙◌, ap, ap₂, codes, false}
+use Rattle.std.proofs.lemmas.Result.{IfOk-weaker}
+use Rattle.clap.specs.Simple.{app_of_fields}
+use Rattle.clap.specs.Words.{app_of, new_app, with_rule}
+use Rattle.clap.specs.declared.builder.command.Command.TheViews.{out-Command}
+use Rattle.tracer_cli.proofs.Matches.{not_global}
+use Rattle.tracer_cli.proofs.arguments.replay_command.Goals as goal
+
+pub returns-clause-own : goal.returns-clause-own
+returns-clause-own c =
+    let none : (out-Command c.after_help.result).has_globals ≡ false = ap (λ f. f.has_globals) c.after_help.ensures
+    ∙ ap (λ f. f.has_globals) c.about.ensures ∙ c.new.ensures.local in
+    IfOk-weaker c.arg.result _ _ (λ command h. not_global _ _ command h none c.file.ensures.own) c.arg.ensures
+
+pub returns-clause-app : goal.returns-clause-app
+returns-clause-app c =
+    let plain_is : app_of c.after_help.result ≡ new_app (codes "replay") = ap app_of_fields c.after_help.ensures
+    ∙ ap app_of_fields c.about.ensures ∙ c.new.ensures.app in
+    IfOk-weaker c.arg.result _ _ (λ command h. h.shape c.file.ensures.own ∙ ap₂ with_rule plain_is c.file.ensures.rule)
+    c.arg.ensures

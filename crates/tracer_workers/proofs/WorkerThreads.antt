@@ -1,0 +1,584 @@
+-- A worker's thread: what its waits claim, the pieces of it, and its restarts.
+use Rattle.std.proofs.Common.{refl, ◌≡◌, ◌≢◌, ◌+◌, ◌*◌, ◌<◌, ◌≤◌, ◌∷◌, ◌++◌, [], ℕ, zero, suc, Bool, true, false, List, Some}
+use Rattle.std.proofs.Common.{None, ℤ, pos, negsuc, Result, Ok, Err, slice_get, length, inl, inr, ◌∙◌, sym, ap, subst, arith, eq-eqb, ne_eqb, filter}
+use Rattle.std.specs.List.{range_with_len}
+use Rattle.std.specs.Int.{w32}
+use Rattle.std.proofs.Common.{of_z, to_z}
+use Rattle.std.proofs.lemmas.Int.{to_z-of_z}
+use Rattle.std.proofs.lemmas.Bool.{cases_eq}
+use Rattle.std.proofs.lemmas.List.{append_assoc, append-nil}
+use Rattle.record_printer.specs.Piece.{Died, Piece}
+use Rattle.record_printer.specs.declared.show.Show.{Show}
+use Rattle.stop_history.specs.declared.actor.Actor.{Actor}
+use Rattle.stop_history.specs.declared.actor.Actor.TheVariants.{Tracer}
+use Rattle.stop_history.specs.declared.limits.TheConstants.{LAST_ID, LAST_NUMBER}
+use Rattle.stop_history.specs.declared.phase.Phase.TheVariants as phase
+use Rattle.stop_history.specs.declared.roster.Row.{Row}
+use Rattle.stop_history.specs.declared.state.State.TheVariants as state
+use Rattle.stop_history.specs.Actor.{IsQuiet, actor_of}
+use Rattle.stop_history.specs.Event as event
+use Rattle.stop_history.specs.Event.{Event, events_of, subject}
+use Rattle.stop_history.specs.Roster.{IsRoster, row_at, row_of}
+use Rattle.stop_history.specs.State.{is_born, number_in, state_after, state_in}
+use Rattle.stop_history.specs.Word.{claimed_phase}
+use Rattle.stop_history.proofs.Rosters.{row_of-Some, row_of-tid, tid_in_range}
+use Rattle.stop_history.proofs.States.{state_within}
+use Rattle.stop_table.specs.Entry.{AreLegal, Cell, Entry, GoesOn, bare, cell_after, content_after, history_of}
+use Rattle.stop_table.specs.Handle.{EndsWith, Grows, IsSame, Looked}
+use Rattle.stop_table.specs.Tracer.{IsTracerHandle, held_rows, is_claimed_by, is_held}
+use Rattle.stop_table.specs.View.{View, actors_of, is_among}
+use Rattle.stop_table.proofs.Entries.{cell_from, content_number, own_cell, word_ranged}
+use Rattle.stop_table.proofs.Own.{same_actors}
+use Rattle.stop_table.proofs.Walking.{ends_from, itself, same_trans}
+use Rattle.trace_calls.specs.Answer.{IsStatusAnswer, IsStatusOf, IsWaitAnswer}
+use Rattle.trace_calls.specs.ByPid.{HasClaimed, IsRestart, published, row_of_pid}
+use Rattle.trace_calls.specs.Handle.{CallsHandle, tracer_of}
+use Rattle.trace_calls.specs.Request.{anyone}
+use Rattle.trace_options.specs.declared.errno.Errno.{Errno}
+use Rattle.trace_options.specs.declared.errno.Errno.TheVariants as errno
+use Rattle.trace_calls.specs.Waiting.{Reports}
+use Rattle.trace_calls.proofs.Keeping.{claim_at, free_row, keeps_beside, keeps_look}
+use Rattle.trace_record.specs.Death.{IsDeath, death_status}
+use Rattle.trace_record.specs.Resume.{IsResume}
+use Rattle.trace_record.specs.Stop.{stop_status}
+use Rattle.trace_record.specs.declared.death.Death.{Death}
+use Rattle.trace_record.specs.declared.death.Death.TheVariants.{Exited, Signaled}
+use Rattle.trace_record.specs.declared.resume.Resume.{Resume as Restart}
+use Rattle.trace_record.specs.declared.stop.Stop.{Stop}
+use Rattle.trace_record.specs.declared.stop.Stop.TheVariants as stop
+use Rattle.trace_script.specs.CaseFile.{CaseContent}
+use Rattle.trace_status.specs.WaitStatus.{Encodes, pid_of}
+use Rattle.trace_status.specs.declared.wait_status.WaitStatus.{WaitStatus}
+use Rattle.trace_status.specs.declared.wait_status.WaitStatus.TheVariants as status
+use Rattle.tracer_workers.specs.Config.{plan_of, policy_of, show_of}
+use Rattle.tracer_workers.specs.DrivenBy.{AreDrivenBy}
+use Rattle.tracer_workers.specs.HistoryPieces.{stop_piece}
+use Rattle.tracer_workers.specs.WorkerThread.{AreKept, AreOverForGood, HasReaped, HasServed, HasWaited, Holds, IsOf}
+use Rattle.tracer_workers.specs.WorkerThread.{Restarts, RestartsByPolicy}
+use Rattle.tracer_workers.specs.WorkerThread.{claimed_piece, death_in, own_pieces, pieces_claimed, pieces_with}
+use Rattle.tracer_workers.specs.declared.config.Config.{Config}
+use Rattle.tracer_workers.proofs.AfterClaim.{not_by_claim}
+use Rattle.tracer_workers.proofs.Claims.{last_stop, mode_in_range}
+use Rattle.tracer_workers.proofs.Fitting.{IsNewestInRange, newest_in_range}
+use Rattle.tracer_workers.proofs.OwnEntries.{driven_ends, driven_on}
+use Rattle.tracer_workers.proofs.TurnEnds.{get_set_same}
+
+-- ---- the pieces of a tracer's claims
+
+-- an event of another leaves them
+quiet_piece : (show : Show) (rows : List Row) (actors : Actor → Bool) (tracer : ℕ) → actors (Tracer tracer) ≡ true
+    → (h : List Entry) (e : Event) (pieces : List Piece) → actors (actor_of e) ≡ false
+    → pieces_with show rows tracer h e pieces ≡ pieces
+quiet_piece show rows actors tracer mine h (event.Publish row number stop) pieces quiet = refl
+quiet_piece show rows actors tracer mine h (event.Claim row number claimer) pieces quiet =
+    elim (cases_eq claimer tracer) [
+      | inl same ↦
+          (let clash : true ≡ false = sym mine ∙ ap (λ n. actors (Tracer n)) (sym same) ∙ quiet in cc)
+      | inr other ↦ rw (ne_eqb claimer tracer other) refl
+    ]
+quiet_piece show rows actors tracer mine h (event.Resume row number how claimer) pieces quiet = refl
+quiet_piece show rows actors tracer mine h (event.Exit row death) pieces quiet = refl
+
+quiet_pieces : (show : Show) (rows : List Row) (actors : Actor → Bool) (tracer : ℕ) → actors (Tracer tracer) ≡ true
+    → (more h : List Entry) → IsQuiet actors (history_of more)
+    → pieces_claimed show rows tracer (more ++ h) ≡ pieces_claimed show rows tracer h
+quiet_pieces show rows actors tracer mine [] h quiet = refl
+quiet_pieces show rows actors tracer mine (x ∷ more) h quiet =
+    quiet_piece show rows actors tracer mine (more ++ h) x.event (pieces_claimed show rows tracer (more ++ h)) quiet.0
+    ∙ quiet_pieces show rows actors tracer mine more h quiet.1
+
+pub pieces_on : (show : Show) (v : View) (h : List Entry) → is_among v.number v.tracers ≡ true
+    → GoesOn (actors_of v) v.seen h → pieces_claimed show v.roster v.number h ≡ own_pieces show v
+pieces_on show v h mine on =
+    ap (pieces_claimed show v.roster v.number) on.1
+    ∙ quiet_pieces show v.roster (actors_of v) v.number mine on.0 v.seen on.2
+
+pieces_same : (show : Show) (v w : View) → IsSame v w
+    → own_pieces show w ≡ pieces_claimed show v.roster v.number w.seen
+pieces_same show v w same = λ i. pieces_claimed show (same.roster i) (same.number i) w.seen
+
+pub pieces_look : (show : Show) (v w : View) → is_among v.number v.tracers ≡ true → Grows v w
+    → own_pieces show w ≡ own_pieces show v
+pieces_look show v w mine g = pieces_same show v w g.same ∙ pieces_on show v w.seen mine g.goes_on
+
+pub pieces_claim : (show : Show) (v w : View) (before : List Entry) (row number : ℕ)
+    → is_among v.number v.tracers ≡ true → EndsWith v w before (bare (event.Claim row number v.number))
+    → own_pieces show w
+    ≡ own_pieces show v
+    ++ claimed_piece show (row_at v.roster row).tid (content_after v.roster before row) (events_of row (history_of before))
+    ∷ []
+pieces_claim show v w before row number mine made =
+    let piece =
+    claimed_piece show (row_at v.roster row).tid (content_after v.roster before row) (events_of row (history_of before)) in
+    pieces_same show v w made.same ∙ ap (pieces_claimed show v.roster v.number) made.seen
+    ∙ rw (eq-eqb v.number v.number refl) (ap (λ pieces. pieces ++ piece ∷ []) (pieces_on show v before mine made.goes_on))
+
+pub pieces_resume : (show : Show) (v w : View) (before : List Entry) (row number : ℕ) (how : Restart)
+    → is_among v.number v.tracers ≡ true → EndsWith v w before (bare (event.Resume row number how v.number))
+    → own_pieces show w ≡ own_pieces show v
+pieces_resume show v w before row number how mine made =
+    pieces_same show v w made.same ∙ ap (pieces_claimed show v.roster v.number) made.seen
+    ∙ pieces_on show v before mine made.goes_on
+
+-- ---- keeping them
+
+pub kept_more : (before after kept : List Piece) (piece : Piece) → AreKept before after kept false
+    → AreKept before (after ++ piece ∷ []) (kept ++ piece ∷ []) false
+kept_more before after kept piece k =
+    let all : after ≡ before ++ kept =
+    k.all ∙ ap (λ missing. (before ++ kept) ++ missing) (k.whole refl) ∙ append-nil (before ++ kept) in
+    record {
+      missing = [];
+      all = ap (λ pieces. pieces ++ piece ∷ []) all ∙ append_assoc before kept (piece ∷ [])
+          ∙ sym (append-nil (before ++ (kept ++ piece ∷ [])));
+      whole = λ none. refl;
+    }
+
+pub kept_more_by : (short : Bool) (old new : List Piece) (piece : Piece) → short ≡ false → new ≡ old ++ piece ∷ []
+    → (before after : List Piece) → AreKept before after old short → AreKept before (after ++ piece ∷ []) new short
+kept_more_by short old new piece whole is before after k =
+    subst (AreKept before (after ++ piece ∷ []) new) (sym whole)
+    (subst (λ kept. AreKept before (after ++ piece ∷ []) kept false) (sym is)
+    (kept_more before after old piece (subst (AreKept before after old) whole k)))
+
+pub kept_short : (before after kept : List Piece) (short : Bool) (piece : Piece) → AreKept before after kept short
+    → AreKept before (after ++ piece ∷ []) kept true
+kept_short before after kept short piece k = record {
+  missing = k.missing ++ piece ∷ [];
+  all = ap (λ pieces. pieces ++ piece ∷ []) k.all ∙ append_assoc (before ++ kept) k.missing (piece ∷ []);
+  whole = λ none. cc;
+}
+
+-- ---- the last event of a row
+
+stopped_last : (born : Bool) (es : List Event) (number raw : ℕ) → state_in born es ≡ state.Stopped number raw
+    → (row : ℕ) × (at : Stop) × (older : List Event) × (es ≡ event.Publish row number at ∷ older) × (stop_status at ≡ raw)
+stopped_last true [] number raw is = cc
+stopped_last false [] number raw is = cc
+stopped_last born (event.Publish row n at ∷ es) number raw is =
+    let first : n ≡ number = cc in
+    let second : stop_status at ≡ raw = cc in
+    (row, at, es, ap (λ k. event.Publish row k at ∷ es) first, second)
+stopped_last born (event.Claim row n tracer ∷ es) number raw is =
+    not_by_claim (number_in es) tracer es (state.Stopped number raw) is refl
+stopped_last born (event.Resume row n how tracer ∷ es) number raw is = cc
+stopped_last born (event.Exit row death ∷ es) number raw is = cc
+
+dead_last : (born : Bool) (es : List Event) (number raw : ℕ) → state_in born es ≡ state.Dead number raw
+    → (row : ℕ) × (death : Death) × (older : List Event) × (es ≡ event.Exit row death ∷ older)
+    × (death_status death ≡ raw) × (number_in older ≡ number)
+dead_last true [] number raw is = cc
+dead_last false [] number raw is = cc
+dead_last born (event.Publish row n at ∷ es) number raw is = cc
+dead_last born (event.Claim row n tracer ∷ es) number raw is =
+    not_by_claim (number_in es) tracer es (state.Dead number raw) is refl
+dead_last born (event.Resume row n how tracer ∷ es) number raw is = cc
+dead_last born (event.Exit row death ∷ es) number raw is =
+    let first : number_in es ≡ number = cc in
+    let second : death_status death ≡ raw = cc in
+    (row, death, es, refl, second, first)
+
+-- ---- what statuses report
+
+-- the low byte of a stop's raw value
+stop_low : (at : Stop) → (high : ℕ) × (stop_status at ≡ high * 0x100 + 127)
+stop_low stop.Start = (128 * 0x100 + 5, refl)
+stop_low stop.Enter = (0x85, refl)
+stop_low stop.Exit = (0x85, refl)
+stop_low (stop.Seccomp ret_data) = (7 * 0x100 + 5, refl)
+stop_low (stop.Fork child) = (1 * 0x100 + 5, refl)
+stop_low (stop.Clone child) = (3 * 0x100 + 5, refl)
+stop_low (stop.Exec former) = (4 * 0x100 + 5, refl)
+stop_low (stop.Signal signal) = (signal, refl)
+
+-- a stop's reports no death
+stop_reports : (s : WaitStatus) (at : Stop) → Encodes s (stop_status at) → death_in s ≡ None
+stop_reports (status.Exited pid code) at is = let low = (stop_low at).1 in absurd (omega (arith, low, is.1))
+stop_reports (status.Signaled pid signal true) at is = let low = (stop_low at).1 in absurd (omega (arith, low, is))
+stop_reports (status.Signaled pid signal false) at is = let low = (stop_low at).1 in absurd (omega (arith, low, is))
+stop_reports (status.Stopped pid signal) at is = refl
+stop_reports (status.PtraceEvent pid signal event) at is = refl
+stop_reports (status.PtraceSyscall pid) at is = refl
+stop_reports status.StillAlive at is = absurd is
+
+-- a death's reports that death
+death_reports : (s : WaitStatus) (d : Death) → IsDeath d → Encodes s (death_status d) → death_in s ≡ Some d
+death_reports (status.Exited pid code) (Exited own) ranged is =
+    let same : code ≡ own = omega (arith, is.1) in ap (λ (n : ℕ). Some (Exited n)) same
+death_reports (status.Exited pid code) (Signaled signal true) ranged is = absurd (omega (arith, is.1, ranged))
+death_reports (status.Exited pid code) (Signaled signal false) ranged is = absurd (omega (arith, is.1, ranged))
+death_reports (status.Signaled pid signal true) (Exited own) ranged is = absurd (omega (arith, is))
+death_reports (status.Signaled pid signal false) (Exited own) ranged is = absurd (omega (arith, is))
+death_reports (status.Signaled pid signal true) (Signaled own true) ranged is =
+    let same : signal ≡ own = omega (arith, is.1) in ap (λ (n : ℕ). Some (Signaled n true)) same
+death_reports (status.Signaled pid signal false) (Signaled own false) ranged is =
+    let same : signal ≡ own = omega (arith, is.1) in ap (λ (n : ℕ). Some (Signaled n false)) same
+death_reports (status.Signaled pid signal true) (Signaled own false) ranged is = absurd (omega (arith, is, ranged))
+death_reports (status.Signaled pid signal false) (Signaled own true) ranged is = absurd (omega (arith, is, ranged))
+death_reports (status.Stopped pid signal) (Exited own) ranged is = absurd (omega (arith, is.1))
+death_reports (status.Stopped pid signal) (Signaled own true) ranged is = absurd (omega (arith, is, ranged))
+death_reports (status.Stopped pid signal) (Signaled own false) ranged is = absurd (omega (arith, is, ranged))
+death_reports (status.PtraceEvent pid signal event) (Exited own) ranged is = absurd (omega (arith, is.2))
+death_reports (status.PtraceEvent pid signal event) (Signaled own true) ranged is = absurd (omega (arith, is.2, ranged))
+death_reports (status.PtraceEvent pid signal event) (Signaled own false) ranged is = absurd (omega (arith, is.2, ranged))
+death_reports (status.PtraceSyscall pid) (Exited own) ranged is = absurd (omega (arith, is))
+death_reports (status.PtraceSyscall pid) (Signaled own true) ranged is = absurd (omega (arith, is, ranged))
+death_reports (status.PtraceSyscall pid) (Signaled own false) ranged is = absurd (omega (arith, is, ranged))
+death_reports status.StillAlive d ranged is = absurd is
+
+-- ---- rows that are free
+
+no_row : (f : ℕ → Bool) (start count : ℕ) → ((k : ℕ) → start ≤ k → k < start + count → f k ≡ false)
+    → filter f (range_with_len start count) ≡ []
+no_row f start zero none = refl
+no_row f start (suc count) none =
+    rw (none start (omega arith) (omega arith)) (no_row f (start + 1) count (λ k low high. none k (omega arith) (omega arith)))
+
+pub all_free : (v : View) → ((row : ℕ) → row < length v.roster → is_held v row ≡ false) → held_rows v ≡ []
+all_free v free = no_row (is_held v) 0 (length v.roster) (λ k low high. free k (omega arith))
+
+-- ---- what a wait has claimed
+
+module _ (v : View) (b : CallsHandle) (s : WaitStatus) (mine : is_among v.number v.tracers ≡ true)
+    (placed : IsRoster v.roster) (none : held_rows v ≡ []) (h : HasWaited v b s) where
+  abbrev w : View
+  w = b.view
+
+  abbrev before : List Entry
+  before = h.claimed.0
+
+  abbrev x : Entry
+  x = bare (event.Claim h.row h.number v.number)
+
+  abbrev es : List Event
+  es = events_of h.row (history_of before)
+
+  made : EndsWith v w before x
+  made = h.claimed.1
+
+  legal : AreLegal v.roster before
+  legal =
+      let now : AreLegal v.roster (x ∷ before) =
+      subst (AreLegal v.roster) made.seen (subst (λ rows. AreLegal rows w.seen) made.same.roster made.legal) in now.1
+
+  newest : IsNewestInRange es
+  newest = newest_in_range v.roster before legal h.row
+
+  state_is : state_after v.roster (history_of before) h.row ≡ state_in (is_born v.roster (history_of before) h.row) es
+  state_is = state_within v.roster (history_of before) h.row h.within
+
+  -- a stop is its row's last event
+  stop_last : death_in s ≡ None → (row : ℕ) × (at : Stop) × (older : List Event)
+      × (es ≡ event.Publish row h.number at ∷ older) × (stop_status at ≡ h.raw)
+  stop_last silent =
+      elim h.claimed.2 [
+        | inl stopped ↦
+            stopped_last (is_born v.roster (history_of before) h.row) es h.number h.raw (sym state_is ∙ stopped)
+        | inr dead ↦
+            (let last = dead_last (is_born v.roster (history_of before) h.row) es h.number h.raw (sym state_is ∙ dead.1) in
+            let ranged : IsDeath last.1 = subst IsNewestInRange last.3 newest in
+            let clash : Some last.1 ≡ None =
+            sym (death_reports s last.1 ranged (subst (Encodes s) (sym last.4) h.is_status.1)) ∙ silent in cc)
+      ]
+
+  -- and so is a death
+  death_last : (d : Death) → death_in s ≡ Some d → (row : ℕ) × (older : List Event)
+      × (es ≡ event.Exit row d ∷ older) × (number_in older ≡ h.number)
+  death_last d says =
+      elim h.claimed.2 [
+        | inl stopped ↦
+            (let last =
+            stopped_last (is_born v.roster (history_of before) h.row) es h.number h.raw (sym state_is ∙ stopped) in
+            let clash : Some d ≡ None = sym says ∙ stop_reports s last.1 (subst (Encodes s) (sym last.4) h.is_status.1) in
+            cc)
+        | inr dead ↦
+            (let last = dead_last (is_born v.roster (history_of before) h.row) es h.number h.raw (sym state_is ∙ dead.1) in
+            let ranged : IsDeath last.1 = subst IsNewestInRange last.3 newest in
+            let is : Some last.1 ≡ Some d =
+            sym (death_reports s last.1 ranged (subst (Encodes s) (sym last.4) h.is_status.1)) ∙ says in
+            let same : last.1 ≡ d = cc in
+            (last.0, last.2, last.3 ∙ ap (λ y. event.Exit last.0 y ∷ last.2) same, last.5))
+      ]
+
+  others : (other : ℕ) → other ≢ h.row → other < length w.roster → is_held w other ≡ false
+  others other apart within =
+      let long = ap length made.same.roster in
+      (keeps_beside v w before x mine made other apart).held ∙ free_row v none other (omega arith)
+
+  own : cell_after w.roster w.seen h.row
+      ≡ cell_from (x.event ∷ es) (content_after v.roster before h.row)
+  own =
+      (λ i. cell_after (made.same.roster i) (made.seen i) h.row) ∙ own_cell v.roster x before h.row refl
+
+  is_of : (tid : ℕ) → pid_of s ≡ Some tid → IsOf w tid h.row
+  is_of tid says =
+      let is : Some tid ≡ Some (row_at v.roster h.row).tid = sym says ∙ h.is_status.0 in
+      let same : tid ≡ (row_at v.roster h.row).tid = cc in
+      let range = (tid_in_range v.roster placed h.row h.within).1 in
+      record {
+        found = (λ i. row_of (made.same.roster i) (same i)) ∙ row_of-tid v.roster placed h.row h.within;
+        low = omega (arith, same, range);
+      }
+
+  pub holds : (tid : ℕ) → pid_of s ≡ Some tid → death_in s ≡ None → Holds w tid h.row
+  holds tid says silent =
+      let last = stop_last silent in
+      let claimed : claimed_phase v.number es ≡ phase.Claimed v.number = ap (claimed_phase v.number) last.3 in (
+        is_of tid says,
+        ap (λ (c : Cell). is_claimed_by w.number c.phase) own ∙ ap (is_claimed_by w.number) claimed
+            ∙ eq-eqb v.number w.number (sym made.same.number),
+      )
+
+  pub has_reaped : (tid : ℕ) → pid_of s ≡ Some tid → (d : Death) → death_in s ≡ Some d → HasReaped b tid h.row h.number
+  has_reaped tid says d dies =
+      let last = death_last d dies in
+      let word = word_ranged v.roster before placed legal false h.row h.within in
+      let number : number_in es ≡ h.number = ap number_in last.2 ∙ last.3 in
+      let few = word.last in
+      (is_of tid says, h.counted, omega (arith, number, few))
+
+  -- the pieces with that of the stop, and with that of the death
+  pub stop_kept : (show : Show) → death_in s ≡ None
+      → own_pieces show w ≡ own_pieces show v ++ stop_piece show (published b h.row) ∷ []
+  stop_kept show silent =
+      let last = stop_last silent in
+      let content : content_after v.roster before h.row ≡ published b h.row = sym (ap (λ (c : Cell). c.content) own) in
+      pieces_claim show v w before h.row h.number mine made
+      ∙ ap (λ es. own_pieces show v
+      ++ claimed_piece show (row_at v.roster h.row).tid (content_after v.roster before h.row) es ∷ []) last.3
+      ∙ ap (λ c. own_pieces show v ++ stop_piece show c ∷ []) content
+
+  pub death_kept : (show : Show) (tid : ℕ) → pid_of s ≡ Some tid → (d : Death) → death_in s ≡ Some d
+      → own_pieces show w ≡ own_pieces show v ++ Died tid h.number d ∷ []
+  death_kept show tid says d dies =
+      let last = death_last d dies in
+      let is : Some (row_at v.roster h.row).tid ≡ Some tid = sym h.is_status.0 ∙ says in
+      let same : (row_at v.roster h.row).tid ≡ tid = cc in
+      pieces_claim show v w before h.row h.number mine made
+      ∙ ap (λ es. own_pieces show v
+      ++ claimed_piece show (row_at v.roster h.row).tid (content_after v.roster before h.row) es ∷ []) last.2
+      ∙ (λ i. own_pieces show v ++ Died (same i) (last.3 i) d ∷ [])
+
+  -- no row is held behind a death
+  pub death_free : (d : Death) → death_in s ≡ Some d → held_rows w ≡ []
+  death_free d dies =
+      let last = death_last d dies in
+      let reaped : claimed_phase v.number es ≡ phase.Reaped = ap (claimed_phase v.number) last.2 in
+      let here : is_held w h.row ≡ false =
+      ap (λ (c : Cell). is_claimed_by w.number c.phase) own ∙ ap (is_claimed_by w.number) reaped in
+      all_free w (λ row within. elim (cases_eq row h.row) [
+        | inl same ↦ ap (is_held w) same ∙ here
+        | inr apart ↦ others row apart within
+      ])
+
+  pub claim_restarts : (config : Config) → RestartsByPolicy config v w
+  claim_restarts config content rows driven = driven_ends (plan_of config content) v w before x made (tt, tt) driven
+
+  -- nor behind the restart
+  pub restart_free : (config : Config) (z : View) → Restarts config w z h.row → held_rows z ≡ []
+  restart_free config z r =
+      let y = bare (event.Resume h.row r.1 (policy_of config (content_after w.roster w.seen h.row)) w.number) in
+      let here : is_held z h.row ≡ false =
+      (λ i. is_claimed_by z.number (cell_after (r.2.same.roster i) (r.2.seen i) h.row).phase)
+      ∙ ap (λ (c : Cell). is_claimed_by z.number c.phase) (own_cell w.roster y r.0 h.row refl) in
+      let mine_now : is_among w.number w.tracers ≡ true =
+      (λ i. is_among (made.same.number i) (made.same.tracers i)) ∙ mine in
+      all_free z (λ row within. elim (cases_eq row h.row) [
+        | inl same ↦ ap (is_held z) same ∙ here
+        | inr apart ↦
+            (let long = ap length r.2.same.roster in
+            (keeps_beside w z r.0 y mine_now r.2 row apart).held ∙ others row apart (omega arith))
+      ])
+
+  pub restart_driven : (config : Config) (z : View) → is_held w h.row ≡ true → Restarts config w z h.row
+      → RestartsByPolicy config w z
+  restart_driven config z held r content rows driven =
+      let y = bare (event.Resume h.row r.1 (policy_of config (content_after w.roster w.seen h.row)) w.number) in
+      let mine_now : is_among w.number w.tracers ≡ true =
+      (λ i. is_among (made.same.number i) (made.same.tracers i)) ∙ mine in
+      let now : AreLegal w.roster (y ∷ r.0) =
+      subst (AreLegal w.roster) r.2.seen (subst (λ roster. AreLegal roster z.seen) r.2.same.roster r.2.legal) in
+      let cell = (claim_at w r.0 mine_now now.1 r.2.goes_on h.row).1 held in
+      let same : content_after w.roster w.seen h.row ≡ content_after content.rows r.0 h.row =
+      sym (ap (λ (c : Cell). c.content) cell) ∙ ap (λ roster. content_after roster r.0 h.row) (sym rows) in
+      driven_ends (plan_of config content) w z r.0 y r.2 (tt, ap (policy_of config) same) driven
+
+  -- what was served is more
+  module _ (config : Config) (u : View) (kept more : List Piece) (short later : Bool)
+      (served : HasServed config u v kept short) where
+    rows_of : (content : CaseContent) → content.rows ≡ u.roster → content.rows ≡ v.roster
+    rows_of content rows = rows ∙ sym served.same.roster
+
+    pub served_death : (tid : ℕ) → pid_of s ≡ Some tid → (d : Death) → death_in s ≡ Some d
+        → AreKept (own_pieces (show_of config) u) (own_pieces (show_of config) v ++ Died tid h.number d ∷ []) more later
+        → HasServed config u w more later
+    served_death tid says d dies k = record {
+      same = same_trans u v w served.same made.same;
+      free = death_free d dies;
+      pieces = subst (λ all. AreKept (own_pieces (show_of config) u) all more later)
+          (sym (death_kept (show_of config) tid says d dies)) k;
+      restarts = λ content rows driven.
+          claim_restarts config content (rows_of content rows) (served.restarts content rows driven);
+    }
+
+    pub served_stop : (tid : ℕ) → pid_of s ≡ Some tid → death_in s ≡ None → (z : View) → Restarts config w z h.row
+        → AreKept (own_pieces (show_of config) u)
+        (own_pieces (show_of config) v ++ stop_piece (show_of config) (published b h.row) ∷ []) more later
+        → HasServed config u z more later
+    served_stop tid says silent z r k =
+        let mine_now : is_among w.number w.tracers ≡ true =
+        (λ i. is_among (made.same.number i) (made.same.tracers i)) ∙ mine in
+        let all =
+        pieces_resume (show_of config) w z r.0 h.row r.1
+        (policy_of config (content_after w.roster w.seen h.row)) mine_now r.2
+        ∙ stop_kept (show_of config) silent in
+        record {
+          same = same_trans u w z (same_trans u v w served.same made.same) r.2.same;
+          free = restart_free config z r;
+          pieces = subst (λ all. AreKept (own_pieces (show_of config) u) all more later) (sym all) k;
+          restarts = λ content rows driven.
+              restart_driven config z (holds tid says silent).1 r content (rows_of content rows ∙ sym made.same.roster)
+              (claim_restarts config content (rows_of content rows) (served.restarts content rows driven));
+        }
+
+-- ---- a tracer's handle
+
+pub tracer_on : (a b : CallsHandle) → IsTracerHandle (tracer_of a) → IsSame a.view b.view
+    → AreLegal b.view.roster b.view.seen → IsTracerHandle (tracer_of b)
+tracer_on a b is same legal =
+    let few = is.few in
+    let number = same.number in
+    record {
+      few = omega (arith, few, number);
+      placed = subst IsRoster (sym same.roster) is.placed;
+      mine = (λ i. is_among (same.number i) (same.tracers i)) ∙ is.mine;
+      legal = legal;
+    }
+
+-- the row of a pid that is claimed
+claimed_within : (rows : List Row) (pid : ℤ) (row : ℕ) → row_of_pid rows pid ≡ Some row → row < length rows
+claimed_within rows (pos tid) row is = (row_of-Some rows tid row is).0
+claimed_within rows (negsuc n) row is = cc
+
+pub claimed_few : (a : CallsHandle) → IsTracerHandle (tracer_of a) → (pid : ℤ) (row : ℕ) → HasClaimed a pid row
+    → (published a row).number ≤ LAST_NUMBER
+claimed_few a is pid row has =
+    let word =
+    word_ranged a.view.roster a.view.seen is.placed is.legal false row (claimed_within a.view.roster pid row has.0) in
+    let number = (content_number a.view.roster a.view.seen is.legal row).0 in
+    let few = word.last in
+    omega (arith, number, few)
+
+-- a thread id is passed on as a pid
+pub passed_on : (z : ℤ) (tid : ℕ) → z ≡ pos tid → tid ≤ LAST_ID → to_z w32 (of_z w32 z) ≡ pos tid
+passed_on z tid is low =
+    ap (λ y. to_z w32 (of_z w32 y)) is ∙ to_z-of_z w32 (pos tid) (omega (arith, low))
+
+-- there is one row of a pid
+pub same_row : (a : CallsHandle) (tid row other : ℕ) → HasClaimed a (pos tid) other → Holds a.view tid row → other ≡ row
+same_row a tid row other has holds =
+    let is : Some other ≡ Some row = sym has.0 ∙ holds.0.found in cc
+
+pub is_claimed : (a : CallsHandle) (tid row : ℕ) → Holds a.view tid row → HasClaimed a (pos tid) row
+is_claimed a tid row holds = (holds.0.found, holds.1)
+
+-- ---- restarts
+
+pub restart_ranged : (config : Config) (a : CallsHandle) → IsTracerHandle (tracer_of a) → (row : ℕ)
+    → IsResume (policy_of config (published a row))
+restart_ranged config a is row =
+    mode_in_range config.seccomp config.shown (published a row) (last_stop a.view.roster a.view.seen is.legal row)
+
+pub not_refused : (a z : CallsHandle) (pid : ℤ) (row : ℕ) (how : Restart) (e : Errno) → HasClaimed a pid row → IsResume how
+    → IsRestart a z pid how.kind (Some how.signal) (Err e) → ⊥
+not_refused a z pid row how errno.ESRCH has ranged is =
+    let clash : true ≡ false = sym has.1 ∙ is.0 row has.0 in cc
+not_refused a z pid row how errno.EIO has ranged is = let big = is.1 in omega (arith, ranged, big)
+not_refused a z pid row how errno.EINVAL has ranged is = is
+not_refused a z pid row how errno.ECHILD has ranged is = is
+
+-- ---- waits
+
+pub no_child : (a b : CallsHandle) (r : Result WaitStatus Errno) → ((s : WaitStatus) → r ≡ Ok s → ⊥)
+    → IsWaitAnswer (Some anyone) a b r
+    → Looked a.view b.view × AreOverForGood b.view.roster b.view.seen
+no_child a b (Ok s) other is = absurd (other s refl)
+no_child a b (Err errno.ECHILD) other is = (
+  is.0.looked,
+  subst (λ rows. AreOverForGood rows b.view.seen) (sym is.0.looked.grows.same.roster)
+      (λ more legal row within. is.0.final refl more legal row (within, refl)),
+)
+no_child a b (Err errno.EINVAL) other is = absurd is
+no_child a b (Err errno.ESRCH) other is = absurd is
+no_child a b (Err errno.EIO) other is = absurd is
+
+pub waited : (a b : CallsHandle) (s : WaitStatus) (tid : ℕ) → pid_of s ≡ Some tid
+    → IsWaitAnswer (Some anyone) a b (Ok s) → HasWaited a.view b s
+waited a b s tid says is =
+    let row = subst (λ p. IsStatusAnswer anyone a b s p) says is in
+    record {
+      row = row.row;
+      number = row.number;
+      raw = row.raw;
+      within = row.found.0.selected.0;
+      claimed = row.found.1;
+      is_status = row.is_status;
+      counted = λ n there.
+          get_set_same a.counts row.row row.number n (subst (λ counts. slice_get counts row.row ≡ Some n) row.counts there);
+    }
+
+-- a wait that only looked
+pub still_waits : (a b : CallsHandle) (s : WaitStatus) → pid_of s ≡ None
+    → IsWaitAnswer (Some anyone) a b (Ok s) → Looked a.view b.view
+still_waits a b s says is = (subst (λ p. IsStatusAnswer anyone a b s p) says is).0.looked
+
+-- the looks before belong to the wait
+pub waited_from : (u v : View) (b : CallsHandle) (s : WaitStatus) → Looked u v → HasWaited v b s → HasWaited u b s
+waited_from u v b s looked h =
+    let same = looked.grows.same in
+    let before = h.claimed.0 in
+    record {
+      row = h.row;
+      number = h.number;
+      raw = h.raw;
+      within = subst (λ rows. h.row < length rows) same.roster h.within;
+      claimed = (
+        before,
+        subst (λ n. EndsWith u b.view before (bare (event.Claim h.row h.number n))) same.number
+            (ends_from u v b.view before (bare (event.Claim h.row h.number v.number)) looked h.claimed.1),
+        subst (λ rows. Reports true h.number h.raw (state_after rows (history_of before) h.row)) same.roster h.claimed.2,
+      );
+      is_status = subst (λ rows. IsStatusOf rows h.row h.raw s) same.roster h.is_status;
+      counted = h.counted;
+    }
+
+-- ---- a worker's loop
+
+pub served_none : (config : Config) (v : View) → held_rows v ≡ [] → HasServed config v v [] false
+served_none config v none = record {
+  same = itself v;
+  free = none;
+  pieces = record {
+    missing = [];
+    all = sym (append-nil (own_pieces (show_of config) v ++ []) ∙ append-nil (own_pieces (show_of config) v));
+    whole = λ whole. refl;
+  };
+  restarts = λ content rows driven. driven;
+}
+
+pub served_look : (config : Config) (u v w : View) (kept : List Piece) (short : Bool) → is_among v.number v.tracers ≡ true
+    → Looked v w → HasServed config u v kept short → HasServed config u w kept short
+served_look config u v w kept short mine looked served =
+    let same = looked.grows.same in
+    record {
+      same = same_trans u v w served.same same;
+      free = all_free w (λ row within.
+          (keeps_look v w mine looked row).held
+          ∙ free_row v served.free row (let long = ap length same.roster in omega (arith, within, long)));
+      pieces = subst (λ all. AreKept (own_pieces (show_of config) u) all kept short)
+          (sym (pieces_look (show_of config) v w mine looked.grows)) served.pieces;
+      restarts = λ content rows driven.
+          subst (λ actors. AreDrivenBy actors (plan_of config content) w.seen) (sym (same_actors v w same))
+          (driven_on (actors_of v) (plan_of config content) v.seen w.seen looked.grows.goes_on
+          (served.restarts content rows driven));
+    }

@@ -1,0 +1,12 @@
+-- The threads so far have kept their promises.
+use Rattle.std.proofs.Common.{◌≡◌}
+use Rattle.std.specs.List.{AllZip}
+use Rattle.std.specs.Vec.{vec_capacity}
+use Rattle.tracer_workers.specs.Threaded.{HasWorked}
+use Rattle.tracer_workers.proofs.threaded.worker_threads.join_workers.Given as goal
+
+abbrev pub invariant-loop-thread : goal.invariant-loop-thread
+invariant-loop-thread g l = record {
+  zip : AllZip (λ h s. HasWorked h.promise.config h.promise.tracer.value s.tracer s.worked.pieces.items s.worked.short) l.yielded l.served.items;
+  room : vec_capacity l.served ≡ vec_capacity l.fn.served;
+}

@@ -1,0 +1,46 @@
+-- A run on threads: who acts, and what each thread is handed and gives back.
+use Rattle.std.specs.Prelude.{◌≡◌, ◌<◌, Bool, true, false, List, length}
+use Rattle.std.specs.List.{list_any}
+use Rattle.record_printer.specs.Piece.{Piece}
+use Rattle.stop_history.specs.declared.actor.Actor.{Actor}
+use Rattle.stop_history.specs.declared.actor.Actor.TheVariants.{Tracee, Tracer}
+use Rattle.stop_history.specs.declared.limits.TheConstants.{TRACERS}
+use Rattle.stop_history.specs.declared.roster.Row.{Row}
+use Rattle.stop_table.specs.Tracee.{TraceeHandle}
+use Rattle.stop_table.specs.Tracer.{TracerHandle}
+use Rattle.stop_table.specs.View.{View, actors_of}
+use Rattle.trace_script.specs.CaseFile.{CaseContent}
+use Rattle.trace_script.specs.StopTrace.{Position}
+use Rattle.tracer_workers.specs.Config.{plan_of}
+use Rattle.tracer_workers.specs.DrivenBy.{AreDrivenBy}
+use Rattle.tracer_workers.specs.TraceeThread.{IsSameTracee, IsToStart}
+use Rattle.tracer_workers.specs.WorkerThread.{HasServed}
+use Rattle.tracer_workers.specs.declared.config.Config.{Config}
+
+-- ---- who acts
+
+-- the tracee of a row, or one of the tracers
+abbrev pub IsActor : List Row → Actor → Type 0
+IsActor rows (Tracee row) = row < length rows
+IsActor rows (Tracer tracer) = tracer < TRACERS
+
+-- for each actor one of the handles acts
+abbrev pub ActForAll : List Row → List View → Type 0
+ActForAll rows views = (actor : Actor) → IsActor rows actor → list_any (λ v. actors_of v actor) views ≡ true
+
+-- ---- threads
+
+-- a tracee's handle that has made no event, with the machine of its row before its first stop
+abbrev pub CanRun : TraceeHandle → Position → Type 0
+CanRun e p = (e.view.taken ≡ false) × ((config : Config) × (content : CaseContent) × IsToStart config content e p)
+
+-- the same handle, once its thread has come to its end: its stops and its death are those of its script
+pub record HasRun (a : TraceeHandle) (p : Position) (b : TraceeHandle) : Type 0 where
+  pub same : IsSameTracee a b
+  pub idle : b.view.taken ≡ false
+  pub driven : (config : Config) (content : CaseContent) → IsToStart config content a p
+      → AreDrivenBy (actors_of b.view) (plan_of config content) b.view.seen
+
+-- a tracer's handle, once its worker's thread has come to its end, with the pieces that the worker has kept
+abbrev pub HasWorked : Config → TracerHandle → TracerHandle → List Piece → Bool → Type 0
+HasWorked config a b pieces short = (b.table_id ≡ a.table_id) × HasServed config a.view b.view pieces short

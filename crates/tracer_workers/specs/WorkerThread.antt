@@ -1,0 +1,119 @@
+-- A worker's thread: it waits for stops and deaths, keeps the piece of each, and restarts by the policy what it has claimed
+-- (waitid(2); ptrace(2), "Restarting"; strace(1)).
+use Rattle.std.specs.Prelude.{◌≡◌, ◌==◌, ◌<◌, ◌≤◌, ◌∷◌, ◌++◌, [], ℕ, Bool, true, false, List, Option, Some, None, length}
+use Rattle.std.specs.Prelude.{if◌then◌else◌, slice_get}
+use Rattle.record_printer.specs.Piece.{Died, Piece}
+use Rattle.record_printer.specs.declared.show.Show.{Show}
+use Rattle.stop_history.specs.declared.limits.TheConstants.{LAST_ID, LAST_NUMBER}
+use Rattle.stop_history.specs.declared.roster.Row.{Row}
+use Rattle.stop_history.specs.Event as event
+use Rattle.stop_history.specs.Event.{Event, events_of}
+use Rattle.stop_history.specs.Roster.{row_at, row_of}
+use Rattle.stop_history.specs.State.{number_in, state_after}
+use Rattle.stop_history.specs.Over.{is_gone}
+use Rattle.stop_table.specs.Entry.{AreLegal, Entry, bare, content_after, history_of}
+use Rattle.stop_table.specs.Handle.{EndsWith, IsSame}
+use Rattle.stop_table.specs.Tracer.{held_rows, is_held}
+use Rattle.stop_table.specs.View.{View, actors_of}
+use Rattle.trace_calls.specs.Answer.{IsStatusOf}
+use Rattle.trace_calls.specs.Handle.{CallsHandle}
+use Rattle.trace_calls.specs.Waiting.{Claimed}
+use Rattle.trace_record.specs.Content.{Content}
+use Rattle.trace_record.specs.declared.death.Death.{Death}
+use Rattle.trace_record.specs.declared.death.Death.TheVariants as death
+use Rattle.trace_script.specs.CaseFile.{CaseContent}
+use Rattle.trace_status.specs.declared.wait_status.WaitStatus.{WaitStatus}
+use Rattle.trace_status.specs.declared.wait_status.WaitStatus.TheVariants as status
+use Rattle.tracer_workers.specs.Config.{plan_of, policy_of, show_of}
+use Rattle.tracer_workers.specs.DrivenBy.{AreDrivenBy}
+use Rattle.tracer_workers.specs.HistoryPieces.{stop_piece}
+use Rattle.tracer_workers.specs.declared.config.Config.{Config}
+
+-- ---- the pieces of what a tracer has claimed
+
+-- the piece of what a claim takes, by the last event of its row before it: a death, or the stop of this content
+abbrev pub claimed_piece : Show → (tid : ℕ) → Content → List Event → Piece
+claimed_piece show tid content (event.Exit row death ∷ es) = Died tid (number_in es) death
+claimed_piece show tid content other = stop_piece show content
+
+abbrev pub pieces_with : Show → List Row → (tracer : ℕ) → List Entry → Event → List Piece → List Piece
+pieces_with show rows tracer h (event.Claim row number claimer) pieces =
+    if claimer == tracer
+    then pieces
+    ++ claimed_piece show (row_at rows row).tid (content_after rows h row) (events_of row (history_of h)) ∷ []
+    else pieces
+pieces_with show rows tracer h other pieces = pieces
+
+-- in the order of the claims
+abbrev pub pieces_claimed : Show → List Row → (tracer : ℕ) → List Entry → List Piece
+pieces_claimed show rows tracer [] = []
+pieces_claimed show rows tracer (x ∷ h) = pieces_with show rows tracer h x.event (pieces_claimed show rows tracer h)
+
+-- those of a tracer's handle
+abbrev pub own_pieces : Show → View → List Piece
+own_pieces show v = pieces_claimed show v.roster v.number v.seen
+
+-- Of the pieces that came after others, these were kept: the first ones, and all of them unless a growth was refused.
+pub record AreKept (before after kept : List Piece) (short : Bool) : Type 0 where
+  pub missing : List Piece
+  pub all : after ≡ (before ++ kept) ++ missing
+  pub whole : short ≡ false → missing ≡ []
+
+-- ---- restarts
+
+-- the restarts of a handle's tracers are the policy's, if they were so before
+abbrev pub RestartsByPolicy : Config → View → View → Type 0
+RestartsByPolicy config v w =
+    (content : CaseContent) → content.rows ≡ v.roster → AreDrivenBy (actors_of v) (plan_of config content) v.seen
+    → AreDrivenBy (actors_of w) (plan_of config content) w.seen
+
+-- each row is unborn or reaped, and so it is in every later history
+abbrev pub AreOverForGood : List Row → List Entry → Type 0
+AreOverForGood rows h =
+    (more : List Entry) → AreLegal rows (more ++ h) → (row : ℕ) → row < length rows
+    → is_gone true (state_after rows (history_of (more ++ h)) row) ≡ true
+
+-- ---- between two waits
+
+-- a worker has served all that it has claimed
+pub record HasServed (config : Config) (v w : View) (kept : List Piece) (short : Bool) : Type 0 where
+  pub same : IsSame v w
+  pub free : held_rows w ≡ []
+  pub pieces : AreKept (own_pieces (show_of config) v) (own_pieces (show_of config) w) kept short
+  pub restarts : RestartsByPolicy config v w
+
+-- a wait for any tracee has claimed a row's stop, or its death
+pub record HasWaited (v : View) (b : CallsHandle) (status : WaitStatus) : Type 0 where
+  pub row : ℕ
+  pub number : ℕ
+  pub raw : ℕ
+  pub within : row < length v.roster
+  pub claimed : Claimed true v b.view row number raw
+  pub is_status : IsStatusOf v.roster row raw status
+  pub counted : (n : ℕ) → slice_get b.counts row ≡ Some n → n ≡ number
+
+-- the death that a status reports, if it reports one
+abbrev pub death_in : WaitStatus → Option Death
+death_in (status.Exited pid code) = Some (death.Exited code)
+death_in (status.Signaled pid signal core) = Some (death.Signaled signal core)
+death_in other = None
+
+-- the tracee of this thread id is the row's
+pub record IsOf (v : View) (tid row : ℕ) : Type 0 where
+  pub found : row_of v.roster tid ≡ Some row
+  pub low : tid ≤ LAST_ID
+
+-- its stop is claimed
+abbrev pub Holds : View → (tid row : ℕ) → Type 0
+Holds v tid row = IsOf v tid row × (is_held v row ≡ true)
+
+-- its death was claimed; `number` is that of its last stop
+abbrev pub HasReaped : CallsHandle → (tid row number : ℕ) → Type 0
+HasReaped a tid row number =
+    IsOf a.view tid row × ((n : ℕ) → slice_get a.counts row ≡ Some n → n ≡ number) × (number ≤ LAST_NUMBER)
+
+-- the row was restarted by the policy
+abbrev pub Restarts : Config → View → View → ℕ → Type 0
+Restarts config v w row =
+    (before : List Entry) × (number : ℕ) × EndsWith v w before
+    (bare (event.Resume row number (policy_of config (content_after v.roster v.seen row)) v.number))

@@ -1,0 +1,34 @@
+//! How a thread waits for another: it looks a few times, and then sleeps before it looks again.
+
+use std::thread;
+use std::time::{Clock, Duration};
+
+/// How many looks find nothing before a thread sleeps.
+const LOOKS: u32 = 64;
+
+/// How long it sleeps, in milliseconds.
+const PAUSE: u64 = 1;
+
+/// How many looks in a row have found nothing.
+#[derive(Drop)]
+pub struct Patience {
+    looks: u32,
+}
+
+impl Patience {
+    /// Before the first look.
+    pub fn new() -> Patience {
+        Patience { looks: 1 }
+    }
+
+    /// Waits after a look that found nothing: it lets other threads run, or sleeps where enough looks have found nothing.
+    pub fn wait<R: Clock>(&mut self, rt: &R) {
+        if self.looks < LOOKS {
+            self.looks += 1;
+            thread::yield_now();
+            return;
+        }
+        self.looks = 1;
+        thread::sleep(rt, Duration::from_millis(PAUSE));
+    }
+}

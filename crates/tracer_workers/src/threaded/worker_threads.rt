@@ -1,0 +1,178 @@
+//! The threads of the workers.
+
+ghost use Rattle.std.specs.Prelude.{◌≡◌, ◌≤◌, [], All, IfSome, false, length, true};
+ghost use Rattle.std.specs.List.{AllZip};
+ghost use Rattle.std.specs.Vec.{vec_capacity, vec_len};
+ghost use Rattle.stop_table.specs.Tracer.{held_rows};
+ghost use Rattle.tracer_workers.specs.Threaded.{HasWorked};
+
+use crate::config::Config;
+use crate::gate::Gate;
+use crate::threaded::starting_line::StartingLine;
+use crate::worker_thread::{Worked, run_worker};
+use std::alloc::Allocator;
+use std::snapshot::Snapshot;
+use std::sync::Wait;
+use std::thread::{Promise, PromisedHandle, Scope, Threads};
+use std::time::Clock;
+use stop_history::Roster;
+use stop_table::Tracer;
+use trace_calls::Calls;
+
+/// What a worker's thread gives back: its tracer, and what the worker has kept.
+#[derive(Drop)]
+pub struct Served<A: Allocator> {
+    pub tracer: Tracer<A>,
+    pub worked: Worked<A>,
+}
+
+/// What the thread of a worker promises.
+#[derive(Drop)]
+pub struct Serves<A: Allocator> {
+    tracer: Snapshot<Tracer<A>>,
+    config: Config,
+}
+
+impl<A: Allocator> Promise<Served<A>> for Serves<A> {
+    ghost kept_by = { λ p s.
+        HasWorked p.config p.tracer.value s.tracer s.worked.pieces.items s.worked.short };
+}
+
+/// The thread of a worker that was started.
+pub type WorkerThread<A> = PromisedHandle<Served<A>, Serves<A>>;
+
+/// A tracer whose worker has done nothing.
+fn idle<A: Allocator + Copy>(alloc: A, tracer: Tracer<A>) -> Served<A>
+    ensures { (result.tracer ≡ tracer) × (result.worked.pieces.items ≡ []) × (result.worked.short ≡ false) }
+{
+    let worked = Worked {
+        pieces: Vec::new(alloc),
+        short: false,
+    };
+    Served { tracer, worked }
+}
+
+/// The tracer of calls that hold no claim.
+fn spend<A: Allocator>(calls: Calls<A>) -> Tracer<A>
+    requires { held_rows calls.view ≡ [] }
+    ensures { (result.table_id ≡ calls.table_id) × (result.view ≡ calls.view) }
+{
+    match calls.into_tracer() {
+        Ok(tracer) => tracer,
+        Err(_) => unreachable!(),
+    }
+}
+
+/// What the thread of a worker does: it makes its calls, waits until it is told, and then works, or leaves.
+fn work_when_told<A: Allocator + Copy, R: Wait + Clock, G: Gate>(
+    rt: &R,
+    alloc: A,
+    line: &StartingLine,
+    tracer: Tracer<A>,
+    roster: &Roster<A>,
+    config: &Config,
+    gate: &G,
+) -> Served<A>
+    requires roster { roster.now ≡ tracer.view.roster }
+    requires idle { held_rows tracer.view ≡ [] }
+    ensures { HasWorked config.now tracer result.tracer result.worked.pieces.items result.worked.short }
+{
+    let worker = tracer.number();
+    let mut calls = match Calls::new(alloc, tracer, roster) {
+        Ok(calls) => calls,
+        Err(tracer) => {
+            line.report(false);
+            return idle(alloc, tracer);
+        }
+    };
+    line.report(true);
+    if !line.is_go(rt) {
+        return idle(alloc, spend(calls));
+    }
+    let worked = run_worker(rt, alloc, &mut calls, config, worker, gate);
+    Served {
+        tracer: spend(calls),
+        worked,
+    }
+}
+
+/// Starts the thread of a worker; None where it cannot be started.
+fn start_worker<
+    's,
+    'e: 's,
+    A: Allocator + Copy + Send + Sync + 'e,
+    R: Threads + Wait + Clock + Sync,
+    G: Gate + Sync,
+>(
+    scope: &Scope<'s, &'e ()>,
+    rt: &'e R,
+    alloc: A,
+    line: &'e StartingLine,
+    tracer: Tracer<A>,
+    roster: &'e Roster<A>,
+    config: &'e Config,
+    gate: &'e G,
+) -> Option<WorkerThread<A>>
+    requires roster { roster.now ≡ tracer.view.roster }
+    requires idle { held_rows tracer.view ≡ [] }
+    ensures { IfSome result (λ h. (h.promise.tracer.value ≡ tracer) × (h.promise.config ≡ config.now)) }
+{
+    let promise = Serves {
+        tracer: Snapshot::of(&tracer),
+        config: *config,
+    };
+    let work = move || -> Served<A>
+        requires roster { roster.now ≡ tracer.view.roster }
+        requires idle { held_rows tracer.view ≡ [] }
+        ensures { HasWorked config.entry.now tracer result.tracer result.worked.pieces.items result.worked.short }
+    { work_when_told(rt, alloc, line, tracer, roster, config, gate) };
+    scope.spawn_with(promise, work).ok()
+}
+
+/// Starts the threads of workers, for which there is room in a list; whether all could be started.
+pub fn start_workers<
+    's,
+    'e: 's,
+    A: Allocator + Copy + Send + Sync + 'e,
+    R: Threads + Wait + Clock + Sync,
+    G: Gate + Sync,
+>(
+    scope: &Scope<'s, &'e ()>,
+    rt: &'e R,
+    alloc: A,
+    line: &'e StartingLine,
+    tracers: Vec<Tracer<A>, A>,
+    roster: &'e Roster<A>,
+    config: &'e Config,
+    gate: &'e G,
+    threads: &mut Vec<WorkerThread<A>, A>,
+) -> bool
+    requires room { (threads.old.items ≡ []) × (vec_len tracers ≤ vec_capacity threads.old) }
+    requires ready { All (λ e. (roster.now ≡ e.view.roster) × (held_rows e.view ≡ [])) tracers.items }
+    ensures few { vec_len threads.new ≤ vec_len tracers }
+    ensures all { result ≡ true → AllZip (λ e h. (h.promise.tracer.value ≡ e) × (h.promise.config ≡ config.now))
+        tracers.items threads.new.items }
+{
+    for tracer in tracers {
+        match start_worker(scope, rt, alloc, line, tracer, roster, config, gate) {
+            Some(thread) => threads.push_reserved(thread),
+            None => return false,
+        }
+    }
+    true
+}
+
+/// Waits for the threads of workers, and puts what they give back into a list that has room for it.
+pub fn join_workers<A: Allocator, R: Threads>(
+    rt: &R,
+    threads: Vec<WorkerThread<A>, A>,
+    served: &mut Vec<Served<A>, A>,
+)
+    requires { (served.old.items ≡ []) × (vec_len threads ≤ vec_capacity served.old) }
+    ensures { AllZip (λ h s. HasWorked h.promise.config h.promise.tracer.value s.tracer s.worked.pieces.items s.worked.short)
+        threads.items served.new.items }
+{
+    for thread in threads {
+        served.push_reserved(thread.join(rt));
+    }
+}

@@ -3,7 +3,7 @@
 //! of each row at once, with every call shown and strings of at most 32 bytes.
 
 #[path = "plain_case.rs"]
-mod plain_case;
+pub mod plain_case;
 
 use plain_case::{Call, Case, Image, MOST_BYTES, PAGE_SIZE, Row, Script, Step, read};
 use std::io::{self, Read, Write};
@@ -12,7 +12,7 @@ use std::process::ExitCode;
 const LIMIT: u64 = 32;
 const MOST_ENTRIES: u64 = 1024;
 
-const SIGNALS: [&str; 31] = [
+pub const SIGNALS: [&str; 31] = [
     "HUP", "INT", "QUIT", "ILL", "TRAP", "ABRT", "BUS", "FPE", "KILL", "USR1", "SEGV", "USR2", "PIPE", "ALRM", "TERM",
     "STKFLT", "CHLD", "CONT", "STOP", "TSTP", "TTIN", "TTOU", "URG", "XCPU", "XFSZ", "VTALRM", "PROF", "WINCH", "IO",
     "PWR", "SYS",
@@ -78,16 +78,16 @@ impl<'a> Iterator for Pieces<'a> {
 }
 
 /// The text of a row, as it is printed.
-struct Text<'a> {
-    bytes: &'a mut Vec<u8>,
+pub struct Text<'a> {
+    pub bytes: &'a mut Vec<u8>,
 }
 
 impl Text<'_> {
-    fn words(&mut self, words: &str) {
+    pub fn words(&mut self, words: &str) {
         self.bytes.extend_from_slice(words.as_bytes());
     }
 
-    fn decimal(&mut self, number: u64) {
+    pub fn decimal(&mut self, number: u64) {
         let mut digits = [0u8; 20];
         let mut start = digits.len();
         let mut left = number;
@@ -102,7 +102,7 @@ impl Text<'_> {
         self.bytes.extend_from_slice(&digits[start..]);
     }
 
-    fn signed(&mut self, number: i64) {
+    pub fn signed(&mut self, number: i64) {
         if number < 0 {
             self.bytes.push(b'-');
         }
@@ -164,7 +164,7 @@ impl Text<'_> {
         self.words(if length > LIMIT { "\"..." } else { "\"" });
     }
 
-    fn string(&mut self, image: &Image, address: u64) {
+    pub fn string(&mut self, image: &Image, address: u64) {
         let start = self.bytes.len();
         self.bytes.push(b'"');
         let mut left = LIMIT + 1;
@@ -221,7 +221,7 @@ impl Text<'_> {
         self.bytes.push(b']');
     }
 
-    fn result(&mut self, answer: u64) {
+    pub fn result(&mut self, answer: u64) {
         self.words(") = ");
         let error = answer.wrapping_neg();
         if (1..=4095).contains(&error) {
@@ -241,7 +241,7 @@ impl Text<'_> {
 }
 
 /// Prints the first part of a call, from the memory at its entry; whether bytes that come out follow.
-fn before(text: &mut Text, image: &Image, call: &Call) -> bool {
+pub fn before(text: &mut Text, image: &Image, call: &Call) -> bool {
     let [first, second, third, ..] = call.args;
     let file = i64::from(first as u32 as i32);
     match call.nr {
@@ -298,7 +298,7 @@ fn before(text: &mut Text, image: &Image, call: &Call) -> bool {
 }
 
 /// Prints the bytes that come out of a call, and what follows them.
-fn after(text: &mut Text, image: &Image, call: &Call) {
+pub fn after(text: &mut Text, image: &Image, call: &Call) {
     let [_, second, third, ..] = call.args;
     if call.answer.cast_signed() < 0 {
         text.address(second);

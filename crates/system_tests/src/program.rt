@@ -3,7 +3,10 @@
 use std::alloc::AllocError;
 use std::io::{self, ErrorKind, Read, Write};
 use std::rt::Files;
+use std::sync::Wait;
 use std::test::Fail;
+use std::thread::Threads;
+use std::time::Clock;
 use std::{fs, str};
 use tracer_cli::{process, program};
 
@@ -81,7 +84,7 @@ pub(crate) fn command_line(
 }
 
 /// Runs the program on words, without its name, and on what standard input has.
-pub(crate) fn run_with<H: Files + AllocGlobal, R: Read>(
+pub(crate) fn run_with<H: Files + AllocGlobal + Threads + Wait + Clock + Sync, R: Read>(
     rt: &H,
     words: &[&str],
     input: &mut R,
@@ -100,6 +103,16 @@ pub(crate) fn run_with<H: Files + AllocGlobal, R: Read>(
 /// Whether a text has another one in it.
 pub(crate) fn has_text(bytes: &[u8], part: &str) -> bool {
     str::from_utf8(bytes).is_ok_and(|text| text.contains(part))
+}
+
+/// The first of these parts that a text does not have.
+fn first_missing<'a>(bytes: &[u8], parts: &[&'a str]) -> Option<&'a str> {
+    for part in parts {
+        if !has_text(bytes, part) {
+            return Some(part);
+        }
+    }
+    None
 }
 
 const FILE: &[u8] = b"row 100 100 77 0\nstate 100\n";
@@ -271,12 +284,11 @@ fn help_is_no_failure(rt: HostRuntime) -> Result<(), Fail> {
         let ended = run_with(&rt, words, &mut FILE)?;
         assert_eq!(rt; ended.status, 0, "{words:?}");
         assert!(rt; has_text(ended.output.as_slice(), USAGE), "{words:?}");
-        for part in parts {
-            assert!(rt;
-                has_text(ended.output.as_slice(), part),
-                "{words:?}, {part}"
-            );
-        }
+        assert_eq!(rt;
+            first_missing(ended.output.as_slice(), parts),
+            None,
+            "{words:?}"
+        );
         assert_eq!(rt; ended.errors.as_slice(), [].as_slice(), "{words:?}");
     }
     Ok(())

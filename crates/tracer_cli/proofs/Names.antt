@@ -26,7 +26,7 @@ unknown_first name more none = rw none refl
 known_first : (name : List ℕ) (call : SyscallRow) → syscall_named name ≡ Some call → unknown_in (name ∷ []) ≡ None
 known_first name call some = rw some refl
 
--- the first unknown name is behind the known ones
+-- after known names, the first unknown one is the next
 pub unknown_next : (names : List (List ℕ)) (name : List ℕ) (more : List (List ℕ)) → unknown_in names ≡ None
     → syscall_named name ≡ None → unknown_in (names ++ name ∷ more) ≡ Some name
 unknown_next names name more known none =

@@ -33,7 +33,7 @@ Prints found before after (Err NoText) = ⊥
 Prints found before after (Err (UnknownCall name)) = ⊥
 Prints found before after (Err failure) = Unit {0}
 
--- the text of a case is printed, with the calls that are named, or the case is refused; or a name is no call's
+-- the text of a case is printed, with the calls that are named, or the case is refused; or no system call has one of the names
 abbrev pub PrintsCase : RunOptions → (text : List ℕ) → (before after : Option (List ℕ)) → Result (Unit {0}) Failure
     → Type 0
 PrintsCase options text before after (Ok done) =

@@ -23,7 +23,7 @@ names_in list = slice_split (λ byte. byte == 44) (without_word list)
 abbrev pub is_known : List ℕ → Bool
 is_known name = is_some (syscall_named name)
 
--- the first name that is no system call's
+-- the first name that no system call has
 abbrev pub unknown_in : List (List ℕ) → Option (List ℕ)
 unknown_in names = find (λ name. not (is_known name)) names
 
@@ -49,7 +49,7 @@ abbrev pub AreShown : Option (Bor (List ℕ)) → Calls → Type 0
 AreShown None calls = (nr : ℕ) → has_call calls nr ≡ true
 AreShown (Some list) calls = AreNamed (names_in list.now) calls
 
--- why a list names no calls: its first unknown name, or there is no memory
+-- why the names of a list give no calls: the first unknown name, or there is no memory
 abbrev pub IsNamesFailure : (unknown : Option (List ℕ)) → Failure → Type 0
 IsNamesFailure unknown (UnknownCall name) = unknown ≡ Some (string_bytes name)
 IsNamesFailure unknown NoMemory = Unit {0}

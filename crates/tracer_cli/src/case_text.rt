@@ -10,8 +10,18 @@ use crate::failure::Failure;
 use crate::shown::shown_calls;
 use record_printer::Text;
 use std::alloc::Global;
+use std::sync::Wait;
+use std::thread::Threads;
+use std::time::Clock;
 use trace_script::Case;
-use tracer_workers::{Config, run_scheduled};
+use tracer_workers::{Config, Gate, run_case};
+
+/// A gate that returns at once: a worker restarts a tracee as soon as it has claimed its stop.
+struct Open;
+
+impl Gate for Open {
+    fn between(&self, _worker: u32, _tid: u32, _number: u32) {}
+}
 
 /// How a case is traced and printed by the options of a run. An unknown name is a failure.
 pub fn run_config(alloc: Global, options: &RunOptions) -> Result<Config, Failure>
@@ -29,17 +39,23 @@ pub fn run_config(alloc: Global, options: &RunOptions) -> Result<Config, Failure
     })
 }
 
-/// The text of a case file, or why the file is refused. The file's bytes are given back before the case is run.
-pub fn case_text(alloc: Global, mut file: Vec<u8>, config: &Config) -> Result<Text, Failure>
+/// The text of a case file, or why the file is refused. The file's bytes are given back before the case is run, by a
+/// thread for each of its tracees and as many workers as the configuration says.
+pub fn case_text<H: AllocGlobal + Threads + Wait + Clock + Sync>(
+    rt: &H,
+    mut file: Vec<u8>,
+    config: &Config,
+) -> Result<Text, Failure>
     requires { (1 ≤ config.now.workers) × (config.now.workers ≤ TRACERS) }
     ensures ok { IfOk result (λ text. case_text_of config.now file.items ≡ Ok text) }
     ensures err { IfErr result (IsTextFailure file.items) }
 {
+    let alloc = rt.alloc();
     let case = Case::read(alloc, file.as_slice())?;
     // It is made small before it is dropped: after a free of a large block, malloc maps no smaller one by itself, and
     // keeps what is freed (mallopt(3), M_MMAP_THRESHOLD).
     file.truncate(1);
     file.shrink_to_fit();
     drop(file);
-    Ok(run_scheduled(alloc, &case, config, &[])?)
+    Ok(run_case(rt, alloc, &case, config, &Open)?)
 }

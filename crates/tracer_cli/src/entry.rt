@@ -20,11 +20,14 @@ use std::alloc::{AllocError, Global};
 use std::fs;
 use std::io::{self, Read, Write};
 use std::rt::Files;
+use std::sync::Wait;
+use std::thread::Threads;
+use std::time::Clock;
 use trace_script::MOST_BYTES;
 
 /// Runs the program as a process does: on the words of its command line. Where these could not be read, it
 /// reports why. Returns the exit status, as `program` does; 2 also where an argument is not valid UTF-8.
-pub fn process<H: Files + AllocGlobal, R: Read, W: Write, E: Write>(
+pub fn process<H: Files + AllocGlobal + Threads + Wait + Clock + Sync, R: Read, W: Write, E: Write>(
     rt: &H,
     words: io::Result<Vec<String>>,
     input: &mut R,
@@ -56,7 +59,7 @@ pub fn process<H: Files + AllocGlobal, R: Read, W: Write, E: Write>(
 /// Runs the program on its words, the program's name first, with standard input, output and error. Returns the exit
 /// status: 0 where it is done or help was asked for, 1 where the file is refused, 2 for a wrong command line, 3
 /// otherwise. A failed write to standard error does not change it.
-pub fn program<H: Files + AllocGlobal, R: Read, W: Write, E: Write>(
+pub fn program<H: Files + AllocGlobal + Threads + Wait + Clock + Sync, R: Read, W: Write, E: Write>(
     rt: &H,
     words: &[String],
     input: &mut R,
@@ -94,7 +97,7 @@ fn fail<E: Write>(failure: &Failure, errors: &mut E) -> u8
 
 /// Finds the faults of the command line, of the names of `-e`, of reading, of the file, of the run and of writing, in
 /// this order.
-fn run<H: Files + AllocGlobal, R: Read, W: Write>(
+fn run<H: Files + AllocGlobal + Threads + Wait + Clock + Sync, R: Read, W: Write>(
     rt: &H,
     words: &[String],
     input: &mut R,
@@ -121,7 +124,7 @@ fn texts_of<'a>(alloc: Global, words: &'a [String]) -> Result<Vec<&'a str>, Allo
 }
 
 /// Does what the command line asks for.
-fn answer<H: Files + AllocGlobal, R: Read, W: Write>(
+fn answer<H: Files + AllocGlobal + Threads + Wait + Clock + Sync, R: Read, W: Write>(
     rt: &H,
     request: &Request,
     input: &mut R,
@@ -153,7 +156,7 @@ fn replay<W: Write>(alloc: Global, text: &[u8], output: &mut W) -> Result<(), Fa
 }
 
 /// Prints the text of a case file.
-fn run_case<H: Files + AllocGlobal, R: Read, W: Write>(
+fn run_case<H: Files + AllocGlobal + Threads + Wait + Clock + Sync, R: Read, W: Write>(
     rt: &H,
     options: &RunOptions,
     file: Option<&str>,
@@ -168,7 +171,7 @@ fn run_case<H: Files + AllocGlobal, R: Read, W: Write>(
 {
     let config = run_config(rt.alloc(), options)?;
     let file = read_file(rt, file, input)?;
-    match case_text(rt.alloc(), file, &config) {
+    match case_text(rt, file, &config) {
         Ok(text) => print_text(&text, output),
         Err(failure) => Err(failure),
     }

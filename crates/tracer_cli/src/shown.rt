@@ -41,7 +41,7 @@ fn without_word(list: &str) -> &str
     }
 }
 
-/// The calls of these names, or the first name that is no call's.
+/// The calls of these names, or the first name that no system call has.
 fn named_calls<'a>(names: &[&'a str]) -> Result<CallSet, &'a str>
     ensures { NamesCalls (map (λ name. name.now) names.now) result }
 {

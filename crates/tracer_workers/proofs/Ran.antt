@@ -32,7 +32,8 @@ use Rattle.tracer_workers.specs.Threaded.{ActForAll, IsActor, CanRun, HasRun, Ha
 use Rattle.tracer_workers.specs.TraceeThread.{IsToStart}
 use Rattle.tracer_workers.specs.WorkerThread.{own_pieces, pieces_claimed}
 use Rattle.tracer_workers.specs.declared.config.Config.{Config}
-use Rattle.tracer_workers.proofs.Joined.{all_driven, claims_are_made}
+use Rattle.tracer_workers.proofs.Joined.{all_driven}
+use Rattle.tracer_workers.proofs.ThreadLaws.{claimed_are_made}
 use Rattle.tracer_workers.proofs.WorkerThreads.{all_free}
 use Rattle.tracer_workers.proofs.Zips.{zip_all, zip_any, zip_length}
 
@@ -257,7 +258,7 @@ module _ (id : TableId) (config : Config) (content : CaseContent) {S : Type 0} (
       let own = All-contains IsKept ss from.0 all_kept from.1 piece from.2 in (
         e.view,
         seen,
-        claims_are_made (show_of config) content.rows e.view.number e.view.seen before piece
+        claimed_are_made (show_of config) content.rows e.view.number e.view.seen before piece
             (subst (λ (rows : List Row). Contains (pieces_claimed (show_of config) rows e.view.number e.view.seen) piece)
             free.0.roster own),
       )

@@ -1,5 +1,5 @@
 -- What threads bring back, put together: the pieces of what was claimed, and the entries of each handle's actors.
-use Rattle.std.proofs.Common.{refl, ◌≡◌, ◌≢◌, ◌||◌, ◌∷◌, ◌++◌, [], ℕ, zero, Bool, true, false, List, All, length, inl, inr}
+use Rattle.std.proofs.Common.{refl, ◌≡◌, ◌||◌, ◌∷◌, ◌++◌, [], ℕ, Bool, true, false, List, inl, inr}
 use Rattle.std.proofs.Common.{◌∙◌, sym, ap, subst, arith, eq-eqb, ne_eqb}
 use Rattle.std.specs.List.{Contains}
 use Rattle.std.proofs.lemmas.Bool.{cases_Bool, cases_eq}
@@ -22,7 +22,6 @@ use Rattle.stop_table.proofs.Own.{actors_of_both}
 use Rattle.trace_record.specs.Content.{Content}
 use Rattle.trace_record.specs.declared.death.Death.{Death}
 use Rattle.trace_record.specs.declared.stop.Stop.{Stop}
-use Rattle.tracer_workers.specs.Driven.{AreDriven}
 use Rattle.tracer_workers.specs.DrivenBy.{AreDrivenBy}
 use Rattle.tracer_workers.specs.HistoryPieces as history
 use Rattle.tracer_workers.specs.HistoryPieces.{pieces_of, stop_piece}

@@ -359,7 +359,7 @@ module _ (v : View) (b : CallsHandle) (s : WaitStatus) (mine : is_among v.number
       ++ claimed_piece show (row_at v.roster h.row).tid (content_after v.roster before h.row) es ∷ []) last.2
       ∙ (λ i. own_pieces show v ++ Died (same i) (last.3 i) d ∷ [])
 
-  -- no row is held behind a death
+  -- after the claim of a death no row is held
   pub death_free : (d : Death) → death_in s ≡ Some d → held_rows w ≡ []
   death_free d dies =
       let last = death_last d dies in
@@ -374,7 +374,7 @@ module _ (v : View) (b : CallsHandle) (s : WaitStatus) (mine : is_among v.number
   pub claim_restarts : (config : Config) → RestartsByPolicy config v w
   claim_restarts config content rows driven = driven_ends (plan_of config content) v w before x made (tt, tt) driven
 
-  -- nor behind the restart
+  -- nor is one after the restart
   pub restart_free : (config : Config) (z : View) → Restarts config w z h.row → held_rows z ≡ []
   restart_free config z r =
       let y = bare (event.Resume h.row r.1 (policy_of config (content_after w.roster w.seen h.row)) w.number) in

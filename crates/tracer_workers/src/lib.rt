@@ -2,6 +2,7 @@
 #![tactic(auto)]
 
 mod config;
+mod fault;
 mod gate;
 mod gathering;
 mod laws;

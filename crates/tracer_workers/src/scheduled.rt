@@ -30,6 +30,7 @@ ghost use Rattle.tracer_workers.specs.declared.run_error.RunError.TheVariants as
 mod tracee;
 
 use crate::config::{Config, policy};
+use crate::fault::FAULT_DEATH;
 use crate::laws::the_mode_changes_no_text;
 use crate::one_thread;
 use crate::run_error::RunError;
@@ -42,12 +43,6 @@ use stop_history::{Got, State, TRACERS};
 use trace_pages::NoMemory;
 use trace_record::{Death, Kind, Resume, StopRecord};
 use trace_script::{Case, Next};
-
-/// A tracee whose store faults dies by SIGSEGV (signal(7)).
-const FAULT_DEATH: Death = Death::Signaled {
-    signal: 11,
-    core: false,
-};
 
 /// What is kept of a row beside its stop cell: its thread id, the restart that it takes up next, the number and the
 /// record of its last stop, and its tracee.

@@ -15,6 +15,7 @@ ghost use Rattle.tracer_workers.specs.declared.config.Config.{Config};
 ghost use Rattle.tracer_workers.specs.DrivenBy.{AreDrivenBy};
 ghost use Rattle.tracer_workers.specs.TraceeThread.{HasLooked, HasTaken, IsDue, IsOnScript, IsSameTracee, IsThrough, IsToStart};
 
+use crate::fault::FAULT_DEATH;
 use crate::patience::Patience;
 use std::alloc::Allocator;
 use std::sync::Wait;
@@ -22,12 +23,6 @@ use std::time::Clock;
 use stop_table::{GroupAlive, Start, Tracee};
 use trace_record::{Death, Resume, StopRecord};
 use trace_script::{Machine, Next};
-
-/// A tracee whose store faults dies by SIGSEGV (signal(7)).
-const FAULT_DEATH: Death = Death::Signaled {
-    signal: 11,
-    core: false,
-};
 
 /// Runs a tracee's row from its birth to its death: each stop that it publishes is the next one of its script for the
 /// restart and the content that it took up, and it dies as its script says, or by SIGSEGV where a store of the script

@@ -10,7 +10,7 @@ OUT = bench/out
 # Takes the name and the status from a line of rt's report.
 ENDED = s/^case=\(.*\) run=ended status=\([0-9]*\) .*/\1: status \2/
 
-.PHONY: all kit demo examples man-page refused-code check test bench bench-case bench-cells bench-pages bench-fold bench-run \
+.PHONY: all kit demo examples man-page refused-code check test bench bench-case bench-cells bench-pages bench-fold bench-run bench-threads \
 	tools install clean
 
 all: kit
@@ -91,6 +91,7 @@ bench: tools all
 	@$(MAKE) --no-print-directory bench-pages
 	@$(MAKE) --no-print-directory bench-fold
 	@$(MAKE) --no-print-directory bench-run
+	@$(MAKE) --no-print-directory bench-threads
 
 # Builds a program of bench/, which is a crate of the repository for as long as that takes: the crate's name, its source,
 # the libraries that it uses, and the words or the input that it is run with.
@@ -136,13 +137,21 @@ bench-fold: tools kit
 	$(call build_timed,time_fold,fold,record_printer stop_history trace_options trace_record anyhow,-- order 1000)
 	@$(PYTHON) bench/fold.py --memory 2 $(OUT)/time_fold $(OUT)/plain_fold
 
-bench-run: tools all
-	@echo "bench-run: timing bin/tracer run -f and a plain Rust program in turn on one case of 16 MB (a minute)"
+bench-run: tools kit
+	@echo "bench-run: timing a run on one thread and a plain Rust program in turn on one case of 16 MB (some minutes)"
 	@mkdir -p $(OUT)
 	@$(RUSTC) -O --edition 2024 -o $(OUT)/generate_case bench/generate_case.rs
 	@$(RUSTC) -O --edition 2024 -o $(OUT)/plain_run bench/plain_run.rs
 	@$(OUT)/generate_case > $(OUT)/case.txt
-	@$(PYTHON) bench/compare.py "bin/tracer run -f" $(OUT)/plain_run $(OUT)/case.txt
+	$(call build_timed,run_case,run_case,tracer_workers trace_script trace_options,< /dev/null)
+	@$(PYTHON) bench/compare.py $(OUT)/run_case $(OUT)/plain_run $(OUT)/case.txt
+
+# The program, whose runs have a thread for each tracee, beside one with the same threads.
+bench-threads: tools all
+	@echo "bench-threads: timing bin/tracer run and a plain Rust program with threads in turn (a minute)"
+	@mkdir -p $(OUT)
+	@$(RUSTC) -O --edition 2024 -o $(OUT)/plain_threads bench/plain_threads.rs
+	@$(PYTHON) bench/threads.py "bin/tracer run" $(OUT)/plain_threads
 
 tools:
 	@for command in $(RUSTC) $(PYTHON); do \

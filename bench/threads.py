@@ -1,0 +1,96 @@
+"""Times a run on threads beside a plain Rust program with threads, in turn in one run, and prints a table.
+
+Usage: threads.py [--stop MICROSECONDS] [--time RATIO] TRACER PLAIN
+
+TRACER is the program with its arguments after spaces, without the number of workers; PLAIN takes that number as its
+argument. Both read a case on standard input, and have to print the same text. First one row with 65,536 calls is run by
+one worker, and the time of each of its stops is told; then 64 rows with 1,000 calls each by 1 to 16 workers. Each time
+is the best of RUNS. With --stop a stop of the first case may take at most so long; with --time the tracer's time
+by 4 workers may be at most so many times the plain program's.
+"""
+
+import argparse
+import os
+import subprocess
+import sys
+import tempfile
+import time
+
+RUNS = 7
+WORKERS = (1, 2, 4, 8, 16)
+MOST_STEPS = 65536
+
+
+def write_case(file, rows, calls):
+    """A case of so many root tracees, each of which makes so many calls and exits."""
+    for tid in range(100, 100 + rows):
+        file.write(f"tracee {tid} {tid} 77 0\npage 0x10000\ndata 0x10000 68690a\n")
+        file.write("call write 1 0x10000 3 = 3\n" * calls)
+        file.write("end\n")
+    file.flush()
+
+
+def seconds_of(words, path):
+    """One run's seconds, its output thrown away."""
+    ends = [(os.POSIX_SPAWN_OPEN, 0, path, os.O_RDONLY, 0), (os.POSIX_SPAWN_OPEN, 1, os.devnull, os.O_WRONLY, 0)]
+    start = time.perf_counter()
+    child = os.posix_spawn(words[0], words, {}, file_actions=ends)
+    _, status, _ = os.wait4(child, 0)
+    if status != 0:
+        sys.exit(f"{words[0]} ended with status {status}")
+    return time.perf_counter() - start
+
+
+def best_of(programs, path):
+    """The best time of each program on a case, in turn."""
+    best = [seconds_of(words, path) for words in programs]
+    for _ in range(RUNS - 1):
+        best = [min(old, seconds_of(words, path)) for old, words in zip(best, programs)]
+    return best
+
+
+def check_texts(programs, path):
+    texts = []
+    for words in programs:
+        with open(path, "rb") as file:
+            texts.append(subprocess.run(words, stdin=file, capture_output=True, check=True).stdout)
+    if texts[0] != texts[1]:
+        sys.exit("the two programs print different texts")
+
+
+def arguments():
+    parser = argparse.ArgumentParser()
+    parser.add_argument("--stop", type=float)
+    parser.add_argument("--time", type=float)
+    parser.add_argument("tracer", type=str.split)
+    parser.add_argument("plain")
+    return parser.parse_args()
+
+
+def main():
+    asked = arguments()
+
+    def programs(workers):
+        return [[*asked.tracer, "-w", str(workers)], [asked.plain, str(workers)]]
+
+    with tempfile.NamedTemporaryFile("w") as file:
+        write_case(file, 1, MOST_STEPS)
+        check_texts(programs(1), file.name)
+        # Beside two stops of each call, one at the start.
+        stops = 2 * MOST_STEPS + 1
+        tracer, plain = (seconds * 1e6 / stops for seconds in best_of(programs(1), file.name))
+        print(f"one row, {stops} stops, one worker: {tracer:.1f} us a stop, plain Rust {plain:.1f} us")
+    too_slow = asked.stop is not None and tracer > asked.stop
+    with tempfile.NamedTemporaryFile("w") as file:
+        write_case(file, 64, 1000)
+        check_texts(programs(4), file.name)
+        print("64 rows, 1000 calls each, by so many workers: tracer, plain Rust, ratio")
+        for workers in WORKERS:
+            tracer, plain = best_of(programs(workers), file.name)
+            print(f"{workers:3} {tracer * 1000:7.0f} ms {plain * 1000:7.0f} ms {tracer / plain:6.2f}")
+            too_slow = too_slow or (asked.time is not None and workers == 4 and tracer / plain > asked.time)
+    if too_slow:
+        sys.exit("a time is above what was allowed")
+
+
+main()

@@ -3,8 +3,9 @@
 use std::thread;
 use std::time::{Clock, Duration};
 
-/// How many looks find nothing before a thread sleeps.
-const LOOKS: u32 = 64;
+/// How many looks find nothing before a thread sleeps. With 64 a lone tracee and its worker sleep at one stop in 20, with
+/// this number at one in 200; more looks cost processor time where a thread waits for long.
+const LOOKS: u32 = 256;
 
 /// How long it sleeps, in milliseconds.
 const PAUSE: u64 = 1;

@@ -78,14 +78,20 @@ gone_reaped (state.Stopped number status) gone born = cc
 gone_reaped (state.Claimed number tracer) gone born = cc
 gone_reaped (state.Dead number status) gone born = cc
 
-pub over_reaped : (rows : List Row) (h : List Entry) → ((row : ℕ) → row < length rows → IsOver rows true (history_of h) row)
-    → AreReaped rows h
-over_reaped rows h over row within born =
-    gone_reaped (state_after rows (history_of h) row) (over_is_gone rows true (history_of h) row (over row within))
+-- where each row is gone, each that was born has been reaped
+pub all_gone_reaped : (rows : List Row) (h : List Entry)
+    → ((row : ℕ) → row < length rows → is_gone true (state_after rows (history_of h) row) ≡ true) → AreReaped rows h
+all_gone_reaped rows h gone row within born =
+    gone_reaped (state_after rows (history_of h) row) (gone row within)
     (λ unborn.
     let none = (unborn_is (is_born rows (history_of h) row) (events_of row (history_of h))
     (sym (state_within rows (history_of h) row within) ∙ unborn)).0 in
     let clash : true ≡ false = sym born ∙ none in cc)
+
+pub over_reaped : (rows : List Row) (h : List Entry) → ((row : ℕ) → row < length rows → IsOver rows true (history_of h) row)
+    → AreReaped rows h
+over_reaped rows h over =
+    all_gone_reaped rows h (λ row within. over_is_gone rows true (history_of h) row (over row within))
 
 -- ---- a row that is not over
 

@@ -1,6 +1,7 @@
 pub mod AfterClaim
 pub mod AnyOrder
 pub mod BornRows
+pub mod Claimed
 pub mod Claims
 pub mod Due
 pub mod Fewer
@@ -15,6 +16,7 @@ pub mod Meeting
 pub mod ModeText
 pub mod OneThread
 pub mod OwnEntries
+pub mod Rearranged
 pub mod Reaped
 pub mod Rounds
 pub mod Ran

@@ -1,5 +1,5 @@
 -- What the threads of a run give back of the handles that they were handed.
-use Rattle.std.proofs.Common.{refl, ◌≡◌, ◌∙◌, [], ℕ, Bool, false, List, sym, ap, subst}
+use Rattle.std.proofs.Common.{refl, ◌≡◌, ◌∙◌, [], ℕ, Bool, true, false, List, sym, ap, subst}
 use Rattle.record_printer.specs.Piece.{Piece}
 use Rattle.atomic_table.specs.Seated.{TableId}
 use Rattle.stop_table.specs.Handle.{own_events}
@@ -14,7 +14,7 @@ use Rattle.tracer_workers.specs.Config.{plan_of}
 use Rattle.tracer_workers.specs.Plan.{opening_of}
 use Rattle.tracer_workers.specs.TraceeThread.{IsToStart}
 use Rattle.tracer_workers.specs.Threaded.{CanRun, HasRun, HasWorked}
-use Rattle.tracer_workers.specs.WorkerThread.{HasServed}
+use Rattle.tracer_workers.specs.WorkerThread.{AreOverForGood, HasServed}
 use Rattle.tracer_workers.specs.declared.config.Config.{Config}
 use Rattle.tracer_workers.proofs.OwnEntries.{driven_on, none_own}
 use Rattle.tracer_workers.proofs.WorkerThreads.{served_none}
@@ -29,24 +29,35 @@ left_alone a p can = record {
       (none_own (actors_of a.view) a.view.seen start.silent) tt;
 }
 
+served_short : (config : Config) (v : View) (short : Bool) → held_rows v ≡ [] → HasServed config v v [] short
+served_short config v short free =
+    let s = served_none config v free in
+    record {
+      same = s.same;
+      free = s.free;
+      pieces = record { missing = s.pieces.missing; all = s.pieces.all; whole = λ whole. s.pieces.whole refl };
+      restarts = s.restarts;
+    }
+
 -- a tracer whose worker has done nothing
 pub idle_worked : (config : Config) (a b : TracerHandle) (pieces : List Piece) (short : Bool) → b.table_id ≡ a.table_id
-    → b.view ≡ a.view → held_rows a.view ≡ [] → pieces ≡ [] → short ≡ false → HasWorked config a b pieces short
-idle_worked config a b pieces short table view free none whole = (
+    → b.view ≡ a.view → held_rows a.view ≡ [] → pieces ≡ [] → short ≡ true → HasWorked config a b pieces short
+idle_worked config a b pieces short table view free none lacks = (
   table,
   subst (λ w. HasServed config a.view w pieces short) (sym view)
-      (subst (λ ps. HasServed config a.view a.view ps short) (sym none)
-      (subst (λ s. HasServed config a.view a.view [] s) (sym whole) (served_none config a.view free))),
+      (subst (λ ps. HasServed config a.view a.view ps short) (sym none) (served_short config a.view short free)),
+  λ whole. let clash : true ≡ false = sym lacks ∙ whole in cc,
 )
 
 -- a tracer whose worker has worked
 pub done_worked : (config : Config) (a b : TracerHandle) (v w : View) (pieces : List Piece) (short : Bool)
     → b.table_id ≡ a.table_id → v ≡ a.view → b.view ≡ w → HasServed config v w pieces short
-    → HasWorked config a b pieces short
-done_worked config a b v w pieces short table before after served = (
+    → AreOverForGood w.roster w.seen → HasWorked config a b pieces short
+done_worked config a b v w pieces short table before after served over = (
   table,
   subst (λ u. HasServed config a.view u pieces short) (sym after)
       (subst (λ u. HasServed config u w pieces short) before served),
+  λ whole. subst (λ (u : View). AreOverForGood u.roster u.seen) (sym after) over,
 )
 
 -- a new tracee can begin with the machine of its row

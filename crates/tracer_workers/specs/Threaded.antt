@@ -14,7 +14,7 @@ use Rattle.trace_script.specs.StopTrace.{Position}
 use Rattle.tracer_workers.specs.Config.{plan_of}
 use Rattle.tracer_workers.specs.DrivenBy.{AreDrivenBy}
 use Rattle.tracer_workers.specs.TraceeThread.{IsSameTracee, IsToStart}
-use Rattle.tracer_workers.specs.WorkerThread.{HasServed}
+use Rattle.tracer_workers.specs.WorkerThread.{AreOverForGood, HasServed}
 use Rattle.tracer_workers.specs.declared.config.Config.{Config}
 
 -- ---- who acts
@@ -41,6 +41,9 @@ pub record HasRun (a : TraceeHandle) (p : Position) (b : TraceeHandle) : Type 0 
   pub driven : (config : Config) (content : CaseContent) → IsToStart config content a p
       → AreDrivenBy (actors_of b.view) (plan_of config content) b.view.seen
 
--- a tracer's handle, once its worker's thread has come to its end, with the pieces that the worker has kept
+-- a tracer's handle, once its worker's thread has come to its end, with the pieces that the worker has kept; one that has
+-- kept them all has served until each row was unborn or reaped, for good
 abbrev pub HasWorked : Config → TracerHandle → TracerHandle → List Piece → Bool → Type 0
-HasWorked config a b pieces short = (b.table_id ≡ a.table_id) × HasServed config a.view b.view pieces short
+HasWorked config a b pieces short =
+    (b.table_id ≡ a.table_id) × HasServed config a.view b.view pieces short
+    × (short ≡ false → AreOverForGood b.view.roster b.view.seen)

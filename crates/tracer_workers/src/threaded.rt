@@ -6,7 +6,8 @@
 //! are joined, and what they give back is gathered.
 
 ghost use denote.Param.Send.{Frees, IsSend, IsSync};
-ghost use Rattle.std.specs.Prelude.{◌≡◌, ◌++◌, ◌<◌, ◌≤◌, [], All, IfOk, length, map, reverse, true};
+ghost use Rattle.std.specs.Prelude.{◌≡◌, ◌≢◌, ◌++◌, ◌<◌, ◌≤◌, [], All, IfErr, IfOk, OnOk, false, length, map, reverse};
+ghost use Rattle.std.specs.Prelude.{true};
 ghost use Rattle.std.specs.List.{AllZip, flat_map};
 ghost use Rattle.std.specs.Vec.{vec_capacity, vec_len};
 ghost use Rattle.atomic_table.specs.Seated.{TableId};
@@ -17,6 +18,7 @@ ghost use Rattle.tracer_workers.specs.Config.{plain, plan_of, text_of};
 ghost use Rattle.tracer_workers.specs.Plan.{opening_of};
 ghost use Rattle.tracer_workers.specs.Threaded.{CanRun, HasRun, HasWorked};
 ghost use Rattle.tracer_workers.specs.TraceeThread.{IsToStart};
+ghost use Rattle.tracer_workers.specs.declared.run_error.RunError.TheVariants as run_error;
 
 mod starting_line;
 mod tracee_threads;
@@ -187,6 +189,7 @@ fn run_threads<
     ensures tracees { IfOk result (λ back. AllZip (λ s t. HasRun s.tracee s.machine t) all.items back.tracees.items) }
     ensures workers { IfOk result (λ back. AllZip (λ e s.
         HasWorked config.now e s.tracer s.worked.pieces.items s.worked.short) tracers.items back.served.items) }
+    ensures kept { IfErr result (λ error. error ≢ run_error.Lost) }
 {
     let Room {
         mut tracee_threads,
@@ -245,6 +248,7 @@ fn run_in_scope<
     ensures tracees { IfOk result (λ back. AllZip (λ s t. HasRun s.tracee s.machine t) all.items back.tracees.items) }
     ensures workers { IfOk result (λ back. AllZip (λ e s.
         HasWorked config.now e s.tracer s.worked.pieces.items s.worked.short) tracers.items back.served.items) }
+    ensures kept { IfErr result (λ error. error ≢ run_error.Lost) }
 {
     let line = StartingLine::new();
     let line = &line;
@@ -266,6 +270,7 @@ fn run_in_scope<
             ensures workers { IfOk result (λ back. AllZip (λ e s.
                 HasWorked config.entry.now e s.tracer s.worked.pieces.items s.worked.short)
                 tracers.items back.served.items) }
+            ensures kept { IfErr result (λ error. error ≢ run_error.Lost) }
         {
             run_threads(
                 scope, rt, alloc, line, roster, config, gate, all, tracers, room,
@@ -283,6 +288,7 @@ fn take_apart<A: Allocator + Copy>(
 ) -> Result<Vec<Piece<A>, A>, NoMemory>
     ensures tracers { IfOk result (λ _. tracers.new.items ≡ tracers.old.items ++ map (λ s. s.tracer) served.items) }
     ensures pieces { IfOk result (λ p. p.items ≡ flat_map (λ s. s.worked.pieces.items) served.items) }
+    ensures whole { OnOk result (All (λ s. s.worked.short ≡ false) served.items) }
 {
     let mut pieces = Vec::new(alloc);
     for one in served {
@@ -304,7 +310,8 @@ fn split_spare<A: Allocator + Copy>(
     workers: u32,
 ) -> Result<Vec<Tracer<A>, A>, NoMemory>
     requires { vec_len tracers.old ≤ TRACERS }
-    ensures { IfOk result (λ spare. tracers.old.items ≡ tracers.new.items ++ reverse spare.items) }
+    ensures all { IfOk result (λ spare. tracers.old.items ≡ tracers.new.items ++ reverse spare.items) }
+    ensures enough { OnOk result (workers ≤ vec_len tracers.old → workers ≤ vec_len tracers.new) }
 {
     let mut spare = Vec::with_capacity(alloc, TRACERS as usize)?;
     while tracers.len() > workers as usize {
@@ -321,7 +328,8 @@ fn split_spare<A: Allocator + Copy>(
 /// turns.
 ///
 /// `NoMemory` where a growth is refused, and `Threads` where a thread could not be started; then no tracee has run, unless
-/// the growth was one of a worker that had begun to work. Either way all threads have ended.
+/// the growth was one of a worker that had begun to work. Either way all threads have ended. Never `Lost`: what the
+/// workers have kept is all that the tracees did.
 pub fn run_case<
     A: Allocator + Copy + Send + Sync,
     R: Threads + Wait + Clock + Sync,
@@ -329,6 +337,7 @@ pub fn run_case<
 >(rt: &R, alloc: A, case: &Case<A>, config: &Config, gate: &G) -> Result<Text<A>, RunError>
     requires { (1 ≤ config.now.workers) × (config.now.workers ≤ TRACERS) }
     ensures text { IfOk result (λ text. text ≡ text_of (plain config.now) case.now) }
+    ensures kept { IfErr result (λ error. error ≢ run_error.Lost) }
 {
     runs_print_their_case();
     the_mode_changes_no_text();

@@ -1,6 +1,6 @@
 //! The threads of the workers.
 
-ghost use Rattle.std.specs.Prelude.{◌≡◌, ◌≤◌, [], All, IfSome, false, length, true};
+ghost use Rattle.std.specs.Prelude.{◌≡◌, ◌≤◌, [], All, IfSome, length, true};
 ghost use Rattle.std.specs.List.{AllZip};
 ghost use Rattle.std.specs.Vec.{vec_capacity, vec_len};
 ghost use Rattle.stop_table.specs.Tracer.{held_rows};
@@ -41,13 +41,14 @@ impl<A: Allocator> Promise<Served<A>> for Serves<A> {
 /// The thread of a worker that was started.
 pub type WorkerThread<A> = PromisedHandle<Served<A>, Serves<A>>;
 
-/// A tracer whose worker has done nothing.
+/// What a worker gives back that has not worked, since it was refused memory or told to leave. It counts as short: it has
+/// kept no piece.
 fn idle<A: Allocator + Copy>(alloc: A, tracer: Tracer<A>) -> Served<A>
-    ensures { (result.tracer ≡ tracer) × (result.worked.pieces.items ≡ []) × (result.worked.short ≡ false) }
+    ensures { (result.tracer ≡ tracer) × (result.worked.pieces.items ≡ []) × (result.worked.short ≡ true) }
 {
     let worked = Worked {
         pieces: Vec::new(alloc),
-        short: false,
+        short: true,
     };
     Served { tracer, worked }
 }

@@ -1,18 +1,20 @@
 -- What the threads give back makes up one run of the case.
-use Rattle.std.proofs.Common.{◌≡◌, ◌∙◌, length, sym, ap, subst, arith}
-use Rattle.std.specs.List.{All}
+use Rattle.std.proofs.Common.{◌≡◌, ◌≢◌, ◌<◌, ◌∙◌, Err, IfErr, length, sym, ap, subst, arith}
+use Rattle.std.specs.List.{All, flat_map}
+use Rattle.std.proofs.lemmas.Result.{err_from_is_err_and}
 use Rattle.stop_history.specs.declared.limits.TheConstants.{TRACERS}
 use Rattle.stop_table.specs.Entry.{AreLegal}
 use Rattle.stop_table.specs.Opening.{AreTracees, AreTracers}
 use Rattle.tracer_workers.specs.Config.{plan_of, show_of}
 use Rattle.tracer_workers.specs.Driven.{AreReaped}
-use Rattle.tracer_workers.specs.Gathering.{AreSeen, GoesOnFrom, IsFreeTracee, IsFreeTracer, views_of}
+use Rattle.tracer_workers.specs.Gathering.{AreSeen, GoesOnFrom, IsFreeTracee, IsFreeTracer, IsLost, views_of}
 use Rattle.tracer_workers.specs.CaseText.{history_text}
 use Rattle.tracer_workers.specs.Printing.{printed_lines}
+use Rattle.tracer_workers.specs.declared.run_error.RunError.TheVariants as run_error
 use Rattle.tracer_workers.specs.declared.threaded.tracee_threads.Scripted.{Scripted}
 use Rattle.tracer_workers.specs.declared.threaded.worker_threads.Served.{Served}
-use Rattle.tracer_workers.proofs.Ran.{all_can_run, all_ready, case_driven, case_seen, case_some, case_tracees, case_tracers}
-use Rattle.tracer_workers.proofs.Ran.{new_tracees}
+use Rattle.tracer_workers.proofs.Ran.{all_can_run, all_ready, case_driven, case_keeps, case_seen, case_some, case_tracees}
+use Rattle.tracer_workers.proofs.Ran.{case_tracers, new_tracees}
 use Rattle.tracer_workers.proofs.threaded.run_case.Goals as goal
 
 pub with_machines-requires : goal.with_machines-requires
@@ -38,7 +40,7 @@ run_in_scope-requires-clause-tracers g c κs within =
     let ok = c.in-Ok.ensures.ok in
     let rows = c.args.case.now.rows in
     all_ready ok.0 rows c.roster-2.result.now c.roster-2.ensures.rows c.in-Ok.ends.tracers.items
-    c.split_spare.new.tracers.items c.in_ok-spare.spare.items c.in_ok-spare.ensures
+    c.split_spare.new.tracers.items c.in_ok-spare.spare.items c.in_ok-spare.ensures.all
     (subst (λ rows. AreTracers ok.0 rows c.in-Ok.ends.tracers.items) c.roster.ensures.rows ok.4)
 
 pub gather-requires-clause-at_least_one : goal.gather-requires-clause-at_least_one
@@ -52,7 +54,7 @@ gather-requires-clause-at_least_one g c =
     (λ (s : Served g.row.A.Denot). s.tracer) (λ (s : Served g.row.A.Denot). s.worked.pieces.items)
     (λ (s : Served g.row.A.Denot). s.worked.short) c.in-Ok.ends.tracees.items c.in-Ok.ends.tracers.items
     c.split_spare.new.tracers.items c.in_ok-spare.spare.items c.in_ok-back.back.tracees.items c.take_apart.new.tracers.items
-    first (sym c.in-Ok.ends.tracees.ok.0 ∙ ok.1 ∙ ap length c.roster.ensures.rows) second many c.in_ok-spare.ensures c.in_ok-all.ensures
+    first (sym c.in-Ok.ends.tracees.ok.0 ∙ ok.1 ∙ ap length c.roster.ensures.rows) second many c.in_ok-spare.ensures.all c.in_ok-all.ensures
     c.in_ok-back.ensures.tracees c.in_ok-back.ensures.workers c.in_ok-pieces.ensures.tracers in
     omega (arith, some, c.take_apart.new.tracers.ok)
 
@@ -69,7 +71,7 @@ gather-requires-clause-handles g c =
           (λ (s : Served g.row.A.Denot). s.tracer) (λ (s : Served g.row.A.Denot). s.worked.pieces.items)
           (λ (s : Served g.row.A.Denot). s.worked.short) c.in-Ok.ends.tracees.items c.in-Ok.ends.tracers.items
           c.split_spare.new.tracers.items c.in_ok-spare.spare.items c.in_ok-back.back.tracees.items c.take_apart.new.tracers.items
-          first (sym c.in-Ok.ends.tracees.ok.0 ∙ ok.1 ∙ ap length c.roster.ensures.rows) second many c.in_ok-spare.ensures c.in_ok-all.ensures
+          first (sym c.in-Ok.ends.tracees.ok.0 ∙ ok.1 ∙ ap length c.roster.ensures.rows) second many c.in_ok-spare.ensures.all c.in_ok-all.ensures
           c.in_ok-back.ensures.tracees c.in_ok-back.ensures.workers c.in_ok-pieces.ensures.tracers),
       subst (λ rows. All (IsFreeTracee ok.0 rows) c.in_ok-back.back.tracees.items) (sym c.roster-3.ensures.rows)
           (case_tracees ok.0 c.args.config.now c.args.case.now c.in_ok-all.all.items c.in_ok-back.back.served.items
@@ -77,7 +79,7 @@ gather-requires-clause-handles g c =
           (λ (s : Served g.row.A.Denot). s.tracer) (λ (s : Served g.row.A.Denot). s.worked.pieces.items)
           (λ (s : Served g.row.A.Denot). s.worked.short) c.in-Ok.ends.tracees.items c.in-Ok.ends.tracers.items
           c.split_spare.new.tracers.items c.in_ok-spare.spare.items c.in_ok-back.back.tracees.items c.take_apart.new.tracers.items
-          first (sym c.in-Ok.ends.tracees.ok.0 ∙ ok.1 ∙ ap length c.roster.ensures.rows) second many c.in_ok-spare.ensures c.in_ok-all.ensures
+          first (sym c.in-Ok.ends.tracees.ok.0 ∙ ok.1 ∙ ap length c.roster.ensures.rows) second many c.in_ok-spare.ensures.all c.in_ok-all.ensures
           c.in_ok-back.ensures.tracees c.in_ok-back.ensures.workers c.in_ok-pieces.ensures.tracers),
     )
 
@@ -101,7 +103,7 @@ returns g c =
     (λ (s : Served g.row.A.Denot). s.tracer) (λ (s : Served g.row.A.Denot). s.worked.pieces.items)
     (λ (s : Served g.row.A.Denot). s.worked.short) c.in-Ok.ends.tracees.items c.in-Ok.ends.tracers.items
     c.split_spare.new.tracers.items c.in_ok-spare.spare.items c.in_ok-back.back.tracees.items c.take_apart.new.tracers.items
-    first (sym c.in-Ok.ends.tracees.ok.0 ∙ ok.1 ∙ ap length c.roster.ensures.rows) second many c.in_ok-spare.ensures c.in_ok-all.ensures
+    first (sym c.in-Ok.ends.tracees.ok.0 ∙ ok.1 ∙ ap length c.roster.ensures.rows) second many c.in_ok-spare.ensures.all c.in_ok-all.ensures
     c.in_ok-back.ensures.tracees c.in_ok-back.ensures.workers c.in_ok-pieces.ensures.tracers h legal on in
     let kept = subst (λ ps. AreSeen (show_of config) content.rows (views_of c.take_apart.new.tracers.items c.in_ok-back.back.tracees.items) ps)
     (sym c.in_ok-pieces.ensures.pieces) seen in
@@ -110,7 +112,7 @@ returns g c =
     (λ (s : Served g.row.A.Denot). s.tracer) (λ (s : Served g.row.A.Denot). s.worked.pieces.items)
     (λ (s : Served g.row.A.Denot). s.worked.short) c.in-Ok.ends.tracees.items c.in-Ok.ends.tracers.items
     c.split_spare.new.tracers.items c.in_ok-spare.spare.items c.in_ok-back.back.tracees.items c.take_apart.new.tracers.items
-    first (sym c.in-Ok.ends.tracees.ok.0 ∙ ok.1 ∙ ap length c.roster.ensures.rows) second many c.in_ok-spare.ensures c.in_ok-all.ensures
+    first (sym c.in-Ok.ends.tracees.ok.0 ∙ ok.1 ∙ ap length c.roster.ensures.rows) second many c.in_ok-spare.ensures.all c.in_ok-all.ensures
     c.in_ok-back.ensures.tracees c.in_ok-back.ensures.workers c.in_ok-pieces.ensures.tracers h legal on in
     let reaped : AreReaped content.rows h = subst (λ rs. AreReaped rs h) rows told.reaped in
     record {
@@ -120,4 +122,30 @@ returns g c =
           ∙ ap (λ rs. history_text print rs h) rows
           ∙ c.runs_print_their_case.ensures print (plan_of config content) h c.roster.ensures.case.roster legal driven reaped
           ∙ c.the_mode_changes_no_text.ensures config content;
+      kept = tt;
     }
+
+pub returns-in_err-_tracer-clause-kept : goal.returns-in_err-_tracer-clause-kept
+returns-in_err-_tracer-clause-kept g c =
+    let ok = c.in-Ok.ensures.ok in
+    let first = subst (λ rows. AreTracees ok.0 rows c.in-Ok.ends.tracees.items) c.roster.ensures.rows ok.3 in
+    let second = subst (λ rows. AreTracers ok.0 rows c.in-Ok.ends.tracers.items) c.roster.ensures.rows ok.4 in
+    let many : length c.in-Ok.ends.tracers.items ≡ TRACERS = sym c.in-Ok.ends.tracers.ok.0 ∙ ok.2 in
+    let views = views_of c.take_apart.new.tracers.items c.in_ok-back.back.tracees.items in
+    let enough = c.in_ok-spare.ensures.enough (omega (arith, ok.2, c.requires.1)) in
+    let some : 0 < length c.split_spare.new.tracers.items =
+    omega (arith, enough, c.requires.0, c.split_spare.new.tracers.ok) in
+    let told = err_from_is_err_and c.from_residual-in_err-_tracer.result c.from_residual-in_err-_tracer.ensures.1 in
+    subst (λ r. IfErr r (λ error. error ≢ run_error.Lost)) (sym told.1) (λ is.
+    case_keeps ok.0 c.args.config.now c.args.case.now c.in_ok-all.all.items c.in_ok-back.back.served.items
+    (λ (s : Scripted g.row.A.Denot). s.tracee) (λ (s : Scripted g.row.A.Denot). s.machine)
+    (λ (s : Served g.row.A.Denot). s.tracer) (λ (s : Served g.row.A.Denot). s.worked.pieces.items)
+    (λ (s : Served g.row.A.Denot). s.worked.short) c.in-Ok.ends.tracees.items c.in-Ok.ends.tracers.items
+    c.split_spare.new.tracers.items c.in_ok-spare.spare.items c.in_ok-back.back.tracees.items c.take_apart.new.tracers.items
+    first (sym c.in-Ok.ends.tracees.ok.0 ∙ ok.1 ∙ ap length c.roster.ensures.rows) second many c.in_ok-spare.ensures.all
+    c.in_ok-all.ensures c.in_ok-back.ensures.tracees c.in_ok-back.ensures.workers c.in_ok-pieces.ensures.tracers
+    c.roster.ensures.case.roster c.in_ok-pieces.ensures.whole some
+    (subst (λ rows. IsLost rows views (flat_map (λ (s : Served g.row.A.Denot). s.worked.pieces.items)
+    c.in_ok-back.back.served.items)) c.roster-3.ensures.rows
+    (subst (IsLost c.roster-3.result.now views) c.in_ok-pieces.ensures.pieces
+    (c.in_err-_tracer.ensures.lost (ap Err (sym told.2 ∙ is))))))

@@ -7,6 +7,7 @@ use Rattle.tracer_workers.proofs.threaded.split_spare.Given as goal
 abbrev pub invariant-loop-tracers : goal.invariant-loop-tracers
 invariant-loop-tracers g l = record {
   all : l.fn.tracers.items ≡ l.tracers.items ++ reverse l.spare.items;
+  enough : l.fn.workers ≤ vec_len l.fn.tracers → l.fn.workers ≤ vec_len l.tracers;
   few : vec_len l.spare + vec_len l.tracers ≤ TRACERS;
   room : TRACERS ≤ vec_capacity l.spare;
 }

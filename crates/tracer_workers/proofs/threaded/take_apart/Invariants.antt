@@ -1,10 +1,11 @@
--- The tracers and the pieces of the workers so far.
-use Rattle.std.proofs.Common.{◌≡◌, ◌++◌, map}
-use Rattle.std.specs.List.{flat_map}
+-- The tracers and the pieces of the workers so far, none of which was refused memory.
+use Rattle.std.proofs.Common.{◌≡◌, ◌++◌, false, map}
+use Rattle.std.specs.List.{All, flat_map}
 use Rattle.tracer_workers.proofs.threaded.take_apart.Given as goal
 
 abbrev pub invariant-loop-one : goal.invariant-loop-one
 invariant-loop-one g l = record {
   tracers : l.tracers.items ≡ l.fn.tracers.items ++ map (λ s. s.tracer) l.yielded;
+  whole : All (λ s. s.worked.short ≡ false) l.yielded;
   pieces : l.pieces.items ≡ flat_map (λ s. s.worked.pieces.items) l.yielded;
 }

@@ -31,3 +31,4 @@ returns g c =
       pieces = run.ensures.pieces;
       restarts = run.ensures.restarts;
     })
+    run.ensures.over

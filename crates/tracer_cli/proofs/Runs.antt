@@ -17,7 +17,7 @@ use Rattle.text_lines.specs.Ranges.{◌>>=◌}
 use Rattle.tracer_workers.specs.Config.{plain, text_of}
 use Rattle.tracer_workers.specs.declared.config.Config.{Config}
 use Rattle.tracer_cli.specs.declared.failure.Failure.{Failure}
-use Rattle.tracer_cli.specs.declared.failure.Failure.TheVariants.{Refused, Usage, NoText, UnknownCall, NoMemory, LostStop, NoThreads}
+use Rattle.tracer_cli.specs.declared.failure.Failure.TheVariants.{Refused, Usage, NoText, UnknownCall, NoMemory, NoThreads}
 use Rattle.tracer_cli.specs.declared.failure.Failure.TheVariants.{CannotWrite}
 use Rattle.trace_script.specs.Reading.{most_bytes}
 use Rattle.tracer_cli.specs.Arguments.{AreOptionsOf, AskRun, IsAskedBy, IsTaken}
@@ -140,7 +140,6 @@ pub case_failed : (options : RunOptions) (text : List ℕ) (before after : Optio
 case_failed options text before after (Refused error) known fails = (known, fails)
 case_failed options text before after NoMemory known fails = tt
 case_failed options text before after NoThreads known fails = tt
-case_failed options text before after LostStop known fails = tt
 case_failed options text before after failure known fails = absurd fails
 
 -- ---- by the words

@@ -8,7 +8,7 @@ use Rattle.tracer_cli.specs.declared.arguments.RunOptions.{RunOptions}
 use Rattle.tracer_workers.specs.Config.{plain, text_of}
 use Rattle.tracer_workers.specs.declared.config.Config.{Config}
 use Rattle.tracer_cli.specs.declared.failure.Failure.{Failure}
-use Rattle.tracer_cli.specs.declared.failure.Failure.TheVariants.{Refused, NoMemory, LostStop, NoThreads}
+use Rattle.tracer_cli.specs.declared.failure.Failure.TheVariants.{Refused, NoMemory, NoThreads}
 use Rattle.tracer_cli.specs.Shown.{AreShown}
 
 abbrev pub config_of : RunOptions → Calls → Config
@@ -28,10 +28,9 @@ case_text_of config text = case_of text >>= λ content. Ok (text_of (plain confi
 abbrev pub HasConfig : RunOptions → Config → Type 0
 HasConfig options config = (calls : Calls) × AreShown options.names calls × (config ≡ config_of options calls)
 
--- why the text of a case file is not there: the file is refused, or the run had no memory or no threads, or lost a stop
+-- why the text of a case file is not there: the file is refused, or there is no memory, or no thread could be started
 abbrev pub IsTextFailure : (text : List ℕ) → Failure → Type 0
 IsTextFailure text (Refused error) = case_of text ≡ Err error
 IsTextFailure text NoMemory = Unit {0}
 IsTextFailure text NoThreads = Unit {0}
-IsTextFailure text LostStop = Unit {0}
 IsTextFailure text failure = ⊥

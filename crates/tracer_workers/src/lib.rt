@@ -32,8 +32,14 @@ pub use worker_thread::{Worked, run_worker};
 #[cfg(test)]
 mod gather_tests;
 #[cfg(test)]
+mod overlap_tests;
+#[cfg(test)]
 mod run_tests;
 #[cfg(test)]
+mod stress_tests;
+#[cfg(test)]
 mod tests;
+#[cfg(test)]
+mod thread_growth_tests;
 #[cfg(test)]
 mod thread_tests;

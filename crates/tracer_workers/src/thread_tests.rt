@@ -12,6 +12,14 @@ use std::time::Clock;
 use trace_options::CallSet;
 use trace_script::Case;
 
+/// A process that a signal kills.
+const DEADLY: &str = "tracee 200 200 200 0\nsignal 15 deadly\nexit 0\nend\n";
+
+const DEADLY_TEXT: &str = "200 --- SIGTERM ---\n200 +++ killed by SIGTERM +++\n";
+
+/// A process that handles a signal.
+const HANDLED: &str = "tracee 200 200 200 0\nsignal 15\nexit 0\nend\n";
+
 /// A gate that returns at once.
 struct Open;
 
@@ -85,24 +93,37 @@ fn threads_print_the_calls_that_are_shown(rt: HostRuntime) -> Result<(), Fail> {
     let mut shown = CallSet::none();
     // The number of write(2).
     shown.add(1);
-    let text =
-        "100 write(1, \"hi\\n\", 3) = 3\n100 +++ exited with 3 +++\n101 +++ exited with 0 +++\n";
     let config = Config { shown, ..all() };
-    assert!(rt; prints(&rt, FORK, &config, &Open, text)?);
-    assert!(rt; prints(&rt, FORK, &config, &Slow { worker: 1 }, text)?);
+    // Of these only FORK calls write(2). Signals and deaths are shown always.
+    let cases = [
+        (
+            FORK,
+            "100 write(1, \"hi\\n\", 3) = 3\n100 +++ exited with 3 +++\n101 +++ exited with 0 +++\n",
+        ),
+        (
+            THREAD,
+            "100 +++ exited with 3 +++\n101 +++ exited with 0 +++\n",
+        ),
+        (DEADLY, DEADLY_TEXT),
+        (HANDLED, "200 --- SIGTERM ---\n200 +++ exited with 0 +++\n"),
+        (MEMORY, "300 +++ exited with 0 +++\n"),
+        (EXEC, "400 +++ exited with 0 +++\n"),
+    ];
+    for (file, text) in cases {
+        assert!(rt; prints(&rt, file, &config, &Open, text)?);
+        assert!(rt; prints(&rt, file, &config, &Slow { worker: 1 }, text)?);
+    }
     Ok(())
 }
 
 #[test]
 fn threads_print_each_kind_of_case(rt: HostRuntime) -> Result<(), Fail> {
-    let deadly = "tracee 200 200 200 0\nsignal 15 deadly\nexit 0\nend\n";
-    let killed = "200 --- SIGTERM ---\n200 +++ killed by SIGTERM +++\n";
-    let handled = "tracee 200 200 200 0\nsignal 15\nexit 0\nend\n";
-    let exited = "200 --- SIGTERM ---\n200 exit(0) = ?\n200 +++ exited with 0 +++\n";
+    let handled = "200 --- SIGTERM ---\n200 exit(0) = ?\n200 +++ exited with 0 +++\n";
     let cases = [
+        (FORK, FORK_TEXT),
         (THREAD, THREAD_TEXT),
-        (deadly, killed),
-        (handled, exited),
+        (DEADLY, DEADLY_TEXT),
+        (HANDLED, handled),
         (MEMORY, MEMORY_TEXT),
         (EXEC, EXEC_TEXT),
     ];

@@ -43,3 +43,5 @@ mod tests;
 mod thread_growth_tests;
 #[cfg(test)]
 mod thread_tests;
+#[cfg(test)]
+mod worker_growth_tests;

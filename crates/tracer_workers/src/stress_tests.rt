@@ -1,4 +1,6 @@
 //! A run of the most tracees by the most workers, in which each tracee has a thousand stops, again and again.
+//!
+//! The compiled test takes seconds. `rt try --test` runs code slowly, and needs minutes for it: give it `--seconds 300`.
 
 use super::*;
 use crate::run_tests::all;
@@ -13,7 +15,7 @@ use trace_script::Case;
 const CALLS: u32 = 499;
 
 /// How often the case is run.
-const RUNS: u32 = 1;
+const RUNS: u32 = 10;
 
 /// A gate that returns at once.
 struct Open;

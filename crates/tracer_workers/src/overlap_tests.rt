@@ -49,7 +49,7 @@ impl<'a, R: Clock> Meeting<'a, R> {
         }
     }
 
-    /// Waits until there are so many calls.
+    /// Waits until there are this many calls.
     fn await_calls(&self, calls: &AtomicU32, many: u32) {
         for _ in 0..TURNS {
             if calls.load(Ordering::SeqCst) >= many {
@@ -73,8 +73,7 @@ impl<'a, R: Clock> Gate for Meeting<'a, R> {
     }
 }
 
-/// Runs the roots by two workers, of which one is held longer: both have met, each stop was claimed once, and the text
-/// is the worked one.
+/// Whether two workers, of which one is held longer, meet, serve each stop of the roots once, and print the worked text.
 fn meet<R: Threads + Wait + Clock + AllocGlobal + Sync>(
     rt: &R,
     held: u32,

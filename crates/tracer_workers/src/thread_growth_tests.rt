@@ -20,7 +20,7 @@ const ROOT_TEXT: &str = "100 exit(0) = ?\n100 +++ exited with 0 +++\n";
 /// More than a run of a small case has growths.
 const MOST: u64 = 1000;
 
-/// At least so many growths has a run of one row by one worker: its cells, two lists of handles, its list of machines,
+/// A run of one row by one worker has at least this many growths: its cells, two lists of handles, its list of machines,
 /// the list of spare tracers, four lists of threads, the worker's calls and its pieces, and the text.
 const GROWTHS: u64 = 12;
 
@@ -48,7 +48,7 @@ fn count_refusals<R: Threads + Wait + Clock + AllocGlobal + Sync>(
         let Ok(case) = Case::read(&heap, file.as_bytes()) else {
             continue;
         };
-        // Reading did without that growth, and the run would be refused none.
+        // Reading went on with a list that could not be shrunk, and the run would be refused none.
         if heap.has_refused() {
             continue;
         }

@@ -1,5 +1,5 @@
 -- The handles are those of new cells, and the tracee is that of the only row.
-use Rattle.std.proofs.Common.{refl, ◌≡◌, ◌+◌, ◌∷◌, ◌++◌, [], ℕ, List, Some, length, ◌∙◌, sym, ap, arith}
+use Rattle.std.proofs.Common.{refl, ◌≡◌, ◌+◌, ◌∷◌, ◌++◌, [], List, Some, length, ◌∙◌, sym, ap, arith}
 use Rattle.std.proofs.lemmas.List.{length_push}
 use Rattle.std.specs.List.{slice_get}
 use Rattle.stop_table.specs.Opening.{new_tracee, new_tracer}

@@ -73,7 +73,8 @@ impl<'a, R: Clock> Gate for Meeting<'a, R> {
     }
 }
 
-/// Whether two workers, of which one is held longer, meet, serve each stop of the roots once, and print the worked text.
+/// Whether two workers, of which one is held longer, meet, serve each stop of the roots once, and print the worked
+/// text.
 fn meet<R: Threads + Wait + Clock + AllocGlobal + Sync>(
     rt: &R,
     held: u32,

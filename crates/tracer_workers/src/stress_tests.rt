@@ -1,6 +1,7 @@
 //! A run of the most tracees by the most workers, in which each tracee has a thousand stops, again and again.
 //!
-//! The compiled test takes seconds. `rt try --test` runs code slowly, and needs minutes for it: give it `--seconds 300`.
+//! The compiled test takes seconds. `rt try --test` runs code slowly and needs minutes for it: give it
+//! `--seconds 300`.
 
 use super::*;
 use crate::run_tests::all;

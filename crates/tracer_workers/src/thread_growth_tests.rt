@@ -20,8 +20,8 @@ const ROOT_TEXT: &str = "100 exit(0) = ?\n100 +++ exited with 0 +++\n";
 /// More than a run of a small case has growths.
 const MOST: u64 = 1000;
 
-/// A run of one row by one worker has at least this many growths: its cells, two lists of handles, its list of machines,
-/// the list of spare tracers, four lists of threads, the worker's calls and its pieces, and the text.
+/// A run of one row by one worker has at least this many growths: its cells, two lists of handles, its list of
+/// machines, the list of spare tracers, four lists of threads, the worker's calls and its pieces, and the text.
 const GROWTHS: u64 = 12;
 
 /// A gate that returns at once.
@@ -31,9 +31,9 @@ impl Gate for Open {
     fn between(&self, _worker: u32, _tid: u32, _number: u32) {}
 }
 
-/// How many runs of a case are refused a growth, where each run has one growth more than the last, until one is granted
-/// all. None where a run does what it must not: one that is refused a growth answers `NoMemory`, and the last prints the
-/// text.
+/// How many runs of a case are refused a growth, where each run has one growth more than the last, until one is
+/// granted all. None where a run does what it must not: one that is refused a growth answers `NoMemory`, and the last
+/// prints the text.
 fn count_refusals<R: Threads + Wait + Clock + AllocGlobal + Sync>(
     rt: &R,
     file: &str,

@@ -72,10 +72,10 @@ check: kit
 	@$(MAKE) --no-print-directory refused-code
 
 test: kit
-	@echo "test: running the tests of each crate, without the proofs (seven minutes)"
+	@echo "test: running the tests of each crate, without the proofs (twelve minutes)"
 	@for crate in $(CRATES); do \
 		grep -rqs '#\[test\]' crates/$$crate/src || continue; \
-		echo "test: $$crate"; (cd crates/$$crate && $(RT) try --test) || exit 1; \
+		echo "test: $$crate"; (cd crates/$$crate && $(RT) try --test --seconds 300) || exit 1; \
 	done
 	@echo "test: every test passed"
 

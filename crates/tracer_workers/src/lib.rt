@@ -30,6 +30,8 @@ pub use tracee_thread::run_tracee;
 pub use worker_thread::{Worked, run_worker};
 
 #[cfg(test)]
+mod gate_tests;
+#[cfg(test)]
 mod gather_tests;
 #[cfg(test)]
 mod overlap_tests;

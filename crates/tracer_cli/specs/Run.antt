@@ -86,6 +86,14 @@ IsUnread before after (Err NoText) = after ≡ before
 IsUnread before after (Err (UnknownCall name)) = after ≡ before
 IsUnread before after other = Unit {0}
 
+-- nothing is read of standard input for help, nor where a file is named
+abbrev pub LeavesInput : {A : Type 0} → Request → (before after : A) → Type 0
+LeavesInput (Help text) before after = after ≡ before
+LeavesInput (Replay (Some file)) before after = after ≡ before
+LeavesInput (Replay None) before after = Unit {0}
+LeavesInput (Run options (Some file)) before after = after ≡ before
+LeavesInput (Run options None) before after = Unit {0}
+
 -- the exit status of a run
 abbrev pub run_status : Result (Unit {0}) Failure → ℕ
 run_status (Ok done) = 0

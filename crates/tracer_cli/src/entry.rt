@@ -7,7 +7,7 @@ ghost use Rattle.tracer_cli.specs.Arguments.{AskReplay, AskRun};
 ghost use Rattle.std.specs.IoError.{error_kind};
 ghost use Rattle.tracer_cli.specs.Failure.{failure_at, failure_status};
 ghost use Rattle.tracer_cli.specs.Run.{Answers, AreInRange, Ends, EndsWith, IsReadFailure, IsReadOf, IsUnread, IsUnwritten};
-ghost use Rattle.tracer_cli.specs.Run.{Prints, PrintsNamed, RunEnds};
+ghost use Rattle.tracer_cli.specs.Run.{LeavesInput, Prints, PrintsNamed, RunEnds};
 ghost use Rattle.tracer_cli.specs.Replay.{replay_of};
 ghost use Rattle.tracer_cli.specs.declared.arguments.Request.TheVariants.{Run};
 
@@ -133,6 +133,7 @@ fn answer<H: Files + AllocGlobal + Threads + Wait + Clock + Sync, R: Read, W: Wr
     requires { AreInRange request.now }
     ensures answer { Answers request.now (R.remaining input.old) (W.contents output.old) (W.contents output.new)
         result }
+    ensures named { LeavesInput request.now input.old input.new }
     ensures unwritten { IsUnwritten output.old output.new result }
     ensures unread { IsUnread input.old input.new result }
 {
@@ -166,6 +167,7 @@ fn run_case<H: Files + AllocGlobal + Threads + Wait + Clock + Sync, R: Read, W: 
     requires { (1 ≤ options.now.workers) × (options.now.workers ≤ TRACERS) }
     ensures answer { Answers (Run options.now file.entry) (R.remaining input.old) (W.contents output.old)
         (W.contents output.new) result }
+    ensures named { IfSome file.entry (λ _. input.new ≡ input.old) }
     ensures unwritten { IsUnwritten output.old output.new result }
     ensures unread { IsUnread input.old input.new result }
 {
@@ -187,13 +189,15 @@ fn print_text<W: Write>(text: &Text, output: &mut W) -> Result<(), Failure>
     }
 }
 
-/// The bytes of a file, or of standard input where none is named; one more than a file may have at most.
+/// The bytes of a file, or of standard input where none is named; one more than a file may have at most. Where a file is
+/// named nothing is read of standard input.
 fn read_file<H: Files + AllocGlobal, R: Read>(
     rt: &H,
     file: Option<&str>,
     input: &mut R,
 ) -> Result<Vec<u8>, Failure>
     ensures input { file.entry ≡ None → IfOk result (λ bytes. IsReadOf (R.remaining input.old) bytes.items) }
+    ensures named { IfSome file.entry (λ _. input.new ≡ input.old) }
     ensures failure { IfErr result IsReadFailure }
 {
     match file {

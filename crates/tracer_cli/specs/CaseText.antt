@@ -28,7 +28,7 @@ case_text_of config text = case_of text >>= λ content. Ok (text_of (plain confi
 abbrev pub HasConfig : RunOptions → Config → Type 0
 HasConfig options config = (calls : Calls) × AreShown options.names calls × (config ≡ config_of options calls)
 
--- why the text of a case file is not there: the file is refused, or there is no memory, or no thread could be started
+-- the failures of a run of a case file: the file is refused, memory ran out, or a thread could not be started
 abbrev pub IsTextFailure : (text : List ℕ) → Failure → Type 0
 IsTextFailure text (Refused error) = case_of text ≡ Err error
 IsTextFailure text NoMemory = Unit {0}

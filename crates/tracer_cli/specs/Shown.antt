@@ -49,7 +49,7 @@ abbrev pub AreShown : Option (Bor (List ℕ)) → Calls → Type 0
 AreShown None calls = (nr : ℕ) → has_call calls nr ≡ true
 AreShown (Some list) calls = AreNamed (names_in list.now) calls
 
--- why the names of a list give no calls: the first unknown name, or there is no memory
+-- the failures of reading a list of names: its first unknown name, or memory ran out
 abbrev pub IsNamesFailure : (unknown : Option (List ℕ)) → Failure → Type 0
 IsNamesFailure unknown (UnknownCall name) = unknown ≡ Some (string_bytes name)
 IsNamesFailure unknown NoMemory = Unit {0}

@@ -1,6 +1,6 @@
 //! Runs a case on threads: one for each tracee, and one for each worker.
 //!
-//! All cells, machines and lists are made first. Then the threads are started, each of which waits behind a starting
+//! First all cells, machines and lists are made. Then the threads are started, each of which waits behind a starting
 //! line, and a worker makes its calls there, since calls cannot be handed to a thread. Once all have what they need they
 //! are told to go; where a thread could not be started or a growth was refused they are told to leave. Either way all
 //! are joined, and what they give back is gathered.
@@ -89,7 +89,7 @@ struct Room<A: Allocator> {
     served: Vec<Served<A>, A>,
 }
 
-/// Makes the lists of so many tracees and workers.
+/// Makes the lists of a run with this many tracees and workers.
 fn make_room<A: Allocator + Copy>(
     alloc: A,
     rows: usize,

@@ -31,13 +31,13 @@ impl StartingLine {
         }
     }
 
-    /// A worker tells whether it is ready: otherwise it was refused memory.
+    /// Counts a worker as ready, or as one that was refused memory.
     pub fn report(&self, is_ready: bool) {
         let count = if is_ready { &self.ready } else { &self.refused };
         count.fetch_add(1, Ordering::SeqCst);
     }
 
-    /// Waits until so many workers have told; whether each of them is ready.
+    /// Waits until this many workers have reported, and returns whether each of them is ready.
     pub fn await_workers<R: Wait + Clock>(&self, rt: &R, workers: u64) -> bool {
         let mut patience = Patience::new();
         for _ in rt.forever() {

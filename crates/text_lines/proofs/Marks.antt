@@ -1,16 +1,16 @@
 -- Marks of stops: they are those of the bytes that were compared, the lowest is the first stop, and what is left of them
 -- marks the text after it.
 use Rattle.std.proofs.Common.{refl, ◌≡◌, ◌↔◌, ◌||◌, ◌+◌, ◌%◌, ◌^◌, ◌<◌, ◌≤◌, ℕ, Bool, true, false, List, length}
-use Rattle.std.proofs.Common.{get_or, take, drop, map, replicate, cond, eqb, arith, ap, sym, ◌∙◌, inl, inr, ◌⊎◌}
+use Rattle.std.proofs.Common.{◌-◌, get_or, subst, take, drop, map, replicate, cond, eqb, arith, ap, sym, ◌∙◌, inl, inr, ◌⊎◌}
 use Rattle.std.proofs.Common.{bit_or, w8}
 use Rattle.std.specs.Int.{bit_at}
 use Rattle.std.specs.Simd.Lanes.{zip2, mask_l, top}
 use Rattle.std.proofs.lemmas.Bool.{cases_lt, eqb-true, eq-eqb}
-use Rattle.std.proofs.lemmas.List.{get_or-drop, get_or_past, length-drop}
-use Rattle.std.proofs.lemmas.Nat.Bits.{bit_at-lt, bit_at_or}
+use Rattle.std.proofs.lemmas.List.{drop-drop, get_or-drop, get_or_past, length-drop}
+use Rattle.std.proofs.lemmas.Nat.Bits.{bit_at-lt, bit_at-zero, bit_at_or}
 use Rattle.std.proofs.lemmas.Simd.{bit_mask_l, get_or-chunk, get_or-replicate, get_or-zip2, length-chunk, length-replicate}
 use Rattle.std.proofs.lemmas.Simd.{length-zip2, mask_l-mod, tops_compared}
-use Rattle.text_lines.specs.Stops.{AreMarks, IsFirstStop, is_stop}
+use Rattle.text_lines.specs.Stops.{AreMarks, HasNoStop, IsFirstStop, NoStopBelow, is_stop}
 
 -- bit k is set where byte k is this one, below 64
 abbrev pub MarksByte : List ℕ → (byte : ℕ) → (marks : ℕ) → Type 0
@@ -121,3 +121,62 @@ rest_marked text marks end after are same =
       all = λ j k l h stop.
           same j ∙ are.all (end + (1 + j)) (end + (1 + k)) (omega arith) (sym (same k) ∙ h) (sym (there j) ∙ stop);
     }
+
+-- where no byte is marked there is no stop
+pub none_marked : (text : List ℕ) (a b : ℕ) → MarksByte text 32 a → MarksByte text 10 b → bit_or a b ≡ 0
+    → NoStopBelow text 64
+none_marked text a b spaces feeds none k l =
+    let zero : bit_at (bit_or a b) k ≡ 0 = ap (λ m. bit_at m k) none ∙ bit_at-zero k in
+    not_true (is_stop (get_or text k 0))
+    (λ stop. elim (either (eqb (get_or text k 0) 32) (eqb (get_or text k 0) 10) stop) [
+      | inl e ↦
+          let set : bit_at a k ≡ 1 = (spaces k).1 (l, eqb-true _ _ e) in
+          absurd (omega (arith, zero, set, bit_at_or a b k, bit_at-lt b k))
+      | inr e ↦
+          let set : bit_at b k ≡ 1 = (feeds k).1 (l, eqb-true _ _ e) in
+          absurd (omega (arith, zero, set, bit_at_or a b k, bit_at-lt a k))
+    ])
+
+-- ---- what is true of the rest of a text after a part without a stop is true of the text
+
+there : (text : List ℕ) (passed k : ℕ) → passed ≤ k
+    → is_stop (get_or (drop passed text) (k - passed) 0) ≡ is_stop (get_or text k 0)
+there text passed k l = ap is_stop (get_or-drop passed text (k - passed) 0 ∙ ap (λ i. get_or text i 0) (omega (arith, l)))
+
+pub none_further : (text rest : List ℕ) (passed n : ℕ) → rest ≡ drop passed text → NoStopBelow text passed
+    → NoStopBelow rest n → NoStopBelow text (passed + n)
+none_further text rest passed n is before after k l =
+    elim (cases_lt k passed) [
+      | inl low ↦ before k low
+      | inr high ↦
+          sym (there text passed k high) ∙ ap (λ r. is_stop (get_or r (k - passed) 0)) (sym is)
+          ∙ after (k - passed) (omega (arith, l, high))
+    ]
+
+pub none_at_all : (text rest : List ℕ) (passed : ℕ) → passed ≤ length text → rest ≡ drop passed text
+    → NoStopBelow text passed → HasNoStop rest → HasNoStop text
+none_at_all text rest passed within is before after k l =
+    none_further text rest passed (length rest) is before after k
+    (omega (arith, l, ap length is, length-drop passed text, within))
+
+pub first_further : (text rest : List ℕ) (passed end : ℕ) → passed ≤ length text → rest ≡ drop passed text
+    → NoStopBelow text passed → IsFirstStop rest end → IsFirstStop text (passed + end)
+first_further text rest passed end within is before first = record {
+  within = omega (arith, first.within, ap length is, length-drop passed text, within);
+  stop = ap (λ i. is_stop (get_or text i 0)) (omega arith) ∙ sym (ap is_stop (get_or-drop passed text end 0))
+      ∙ ap (λ r. is_stop (get_or r end 0)) (sym is) ∙ first.stop;
+  first = none_further text rest passed end is before first.first;
+}
+
+pub marks_further : (text rest : List ℕ) (passed end marks : ℕ) → rest ≡ drop passed text
+    → AreMarks (drop (end + 1) rest) marks → AreMarks (drop (passed + end + 1) text) marks
+marks_further text rest passed end marks is are =
+    subst (λ (r : List ℕ). AreMarks r marks)
+    (ap (drop (end + 1)) is ∙ drop-drop (end + 1) passed text ∙ ap (λ n. drop n text) (omega arith)) are
+
+-- no mark at all
+pub no_marks : (text : List ℕ) → AreMarks text 0
+no_marks text =
+    let none : (k : ℕ) → bit_at 0 k ≡ 1 → ⊥ =
+    λ k h. absurd (let clash : 0 ≡ 1 = sym (bit_at-zero k) ∙ h in omega arith) in
+    record { stops = λ k h. absurd (none k h); all = λ j k l h stop. absurd (none k h) }

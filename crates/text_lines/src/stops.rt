@@ -5,7 +5,7 @@
 
 ghost use Rattle.std.specs.Int.{bit_at};
 ghost use Rattle.std.specs.Prelude.{◌≡◌, ◌≢◌, ◌↔◌, ◌+◌, ◌<◌, ◌≤◌, ℕ, MatchOption, drop, length, slice_index};
-ghost use Rattle.text_lines.specs.Stops.{AreMarks, HasNoStop, IsFirstStop};
+ghost use Rattle.text_lines.specs.Stops.{AreMarks, HasNoStop, IsFirstStop, NoStopBelow};
 
 use memchr::memchr2;
 use std::simd::prelude::*;
@@ -23,18 +23,45 @@ pub fn next_stop(text: &[u8], marks: u64) -> Option<(usize, u64)>
 {
     let marks = marks_here(text, marks);
     if marks == 0 {
-        return match far_stop(text) {
-            None => None,
-            Some(end) => Some((end, 0)),
-        };
+        return far_stop(text);
     }
     let end = lowest(marks);
     Some((end, marks_after(marks, end)))
 }
 
-/// The first stop, wherever it is. It is looked for where no stop is near.
+/// The first stop, wherever it is, and the marks of the text after it. It is looked for where no stop is near.
 #[inline(never)]
-fn far_stop(text: &[u8]) -> Option<usize>
+fn far_stop(text: &[u8]) -> Option<(usize, u64)>
+    ensures { MatchOption result (HasNoStop text.now)
+        (λ next. IsFirstStop text.now next.0 × AreMarks (drop (next.0 + 1) text.now) next.1) }
+{
+    let mut passed = 0;
+    'parts: while text.len() - passed >= MARKED {
+        let marks = marks_of(text_from(text, passed));
+        if marks != 0 {
+            let end = lowest(marks);
+            return Some((passed + end, marks_after(marks, end)));
+        }
+        passed += MARKED;
+    }
+    match last_stop(text_from(text, passed)) {
+        None => None,
+        Some(end) => Some((passed + end, 0)),
+    }
+}
+
+/// A text from a place on.
+#[inline(always)]
+#[tactic(auto, using(crate::proofs::Cuts::whole_rest))]
+fn text_from(text: &[u8], place: usize) -> &[u8]
+    requires { place ≤ length text.now }
+    ensures { result.now ≡ drop place text.now }
+{
+    &text[place..]
+}
+
+/// The first stop of a text that has too few bytes to be marked.
+fn last_stop(text: &[u8]) -> Option<usize>
     ensures { MatchOption result (HasNoStop text.now) (λ end. IsFirstStop text.now end) }
 {
     memchr2(b' ', b'\n', text)
@@ -52,7 +79,8 @@ fn marks_here(text: &[u8], marks: u64) -> u64
 /// The marks of the stops among the next bytes; none where there are too few bytes.
 #[inline(always)]
 fn marks_of(text: &[u8]) -> u64
-    ensures { AreMarks text.now result }
+    ensures marks { AreMarks text.now result }
+    ensures none { result ≡ 0 → MARKED ≤ length text.now → NoStopBelow text.now MARKED }
 {
     if text.len() < MARKED {
         return 0;

@@ -1,9 +1,11 @@
 pub mod Arrival
+pub mod CallParts
 pub mod Early
 pub mod Finishing
 mod FoldedLines
 pub mod Folders
 pub mod Following
+pub mod HexDigits
 mod Indices
 pub mod Joined
 pub mod KeptRows

@@ -1,15 +1,14 @@
 -- The fold of a row as the program keeps it, and the room that it needs for its texts to grow.
-use Rattle.std.specs.Prelude.{◌+◌, ◌≤◌, ℕ, Option, Some, None, List, length, option_map}
+use Rattle.std.specs.Prelude.{◌+◌, ◌≤◌, ℕ, Option, Some, None, List, length}
 use Rattle.std.specs.Vec.{vec_capacity, vec_len}
 use Rattle.record_printer.specs.Note.{CallStart, CallEnd, Note, Enter, Seccomp, Exit, Signal, Birth, Quiet}
-use Rattle.record_printer.specs.NoteOf.{start_of}
 use Rattle.record_printer.specs.RowFold.{Fold}
 use Rattle.record_printer.specs.declared.row_fold.RowFold.{RowFold}
 
 abbrev pub fold_of : {Z : Type 0} → RowFold Z → Fold
 fold_of fold = record {
   text = fold.text.items;
-  pending = option_map start_of fold.pending;
+  pending = fold.pending;
   behind = fold.behind.items;
   entered = fold.entered;
 }

@@ -1,4 +1,5 @@
 pub mod Arguments
+pub mod CallParts
 pub mod CallStarts
 pub mod Came
 pub mod Chain

@@ -1,11 +1,12 @@
 //! The arguments of a system call, as strace(1) prints them.
 
-ghost use Rattle.std.specs.Prelude.{◌≡◌, ◌++◌, ◌+◌, ◌≤◌, IfOk, OnOk, length, option_map};
+ghost use Rattle.std.specs.Option.{is_some, unwrap_or};
+ghost use Rattle.std.specs.Prelude.{◌≡◌, ◌++◌, ◌+◌, ◌≤◌, [], IfOk, OnOk, length};
 ghost use Rattle.record_printer.specs.Arguments.{argument_at, argument_text, arguments_text, bytes_out};
 ghost use Rattle.record_printer.specs.StopNote.{argument_word};
 
-use crate::buffers::{buffer, write_buffer, write_string};
-use crate::iovecs::{array, write_array, write_separator};
+use crate::buffers::{write_buffer, write_string, write_whole};
+use crate::iovecs::{write_array, write_separator, write_whole_array};
 use crate::numbers::{write_address, write_decimal, write_hexadecimal, write_int, write_mode};
 use mem_views::Views;
 use std::alloc::Allocator;
@@ -82,21 +83,26 @@ fn write_argument<A: Allocator, B: Allocator>(
     }
 }
 
-/// The bytes that came out of a call that answered `count`, as they are printed, or None where they are not all there.
-pub fn bytes_out<A: Allocator, B: Allocator>(
-    alloc: A,
+/// Writes the bytes that came out of a call that answered `count`, or nothing where they are not all there; whether they
+/// are.
+pub fn write_bytes_out<A: Allocator, B: Allocator>(
+    text: &mut Vec<u8, A>,
     stop: &StopRecord<B>,
     limit: u32,
     kind: ArgumentKind,
     word: u64,
     count: u64,
-) -> Result<Option<Vec<u8, A>>, NoMemory>
-    ensures { IfOk result (λ made. option_map (λ text. text.items) made ≡ bytes_out limit stop.now kind word count) }
+) -> Result<bool, NoMemory>
+    ensures text { OnOk result (text.new.items
+        ≡ text.old.items ++ unwrap_or (bytes_out limit stop.now kind word count) []) }
+    ensures whole { IfOk result (λ whole. whole ≡ is_some (bytes_out limit stop.now kind word count)) }
 {
     let views = Views::of(stop);
     match kind {
-        ArgumentKind::OutBuffer => buffer(alloc, &views, limit, word, count),
-        ArgumentKind::OutIovecs => array(alloc, &views, limit, count, word, stop.regs.rdx),
-        _ => Ok(None),
+        ArgumentKind::OutBuffer => write_whole(text, &views, limit, word, count),
+        ArgumentKind::OutIovecs => {
+            write_whole_array(text, &views, limit, Some(count), word, stop.regs.rdx)
+        }
+        _ => Ok(false),
     }
 }

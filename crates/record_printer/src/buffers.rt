@@ -1,11 +1,11 @@
 //! Buffers and strings in memory, as strace(1) prints them.
 
-ghost use Rattle.std.specs.Prelude.{◌≡◌, ◌++◌, IfOk, OnOk, option_map};
+ghost use Rattle.std.specs.Option.{is_some, unwrap_or};
+ghost use Rattle.std.specs.Prelude.{◌≡◌, ◌++◌, [], IfOk, OnOk};
 ghost use Rattle.record_printer.specs.Arguments.{buffer, or_address, string};
 
 use crate::numbers::write_address;
 use crate::quote::{write_quoted, write_shortened};
-use crate::room::LINE_ROOM;
 use mem_views::{End, Views};
 use std::alloc::Allocator;
 use trace_pages::NoMemory;
@@ -21,31 +21,32 @@ pub fn write_buffer<A: Allocator, B: Allocator>(
 ) -> Result<(), NoMemory>
     ensures { OnOk result (text.new.items ≡ text.old.items ++ or_address addr (buffer limit views.now addr len)) }
 {
-    let cut = views.bytes(addr, u64::from(limit).min(len));
-    match cut.end() {
-        End::Full => write_shortened(text, cut, u64::from(limit) < len),
-        _ => write_address(text, addr),
+    if write_whole(text, views, limit, addr, len)? {
+        Ok(())
+    } else {
+        write_address(text, addr)
     }
 }
 
-/// The first bytes of a buffer in quotes, with dots after them where it has more, or None where one of them is absent.
-pub fn buffer<A: Allocator, B: Allocator>(
-    alloc: A,
+/// Writes the first bytes of a buffer in quotes, with dots after them where it has more, or nothing where one of them is
+/// absent; whether they are all there.
+pub fn write_whole<A: Allocator, B: Allocator>(
+    text: &mut Vec<u8, A>,
     views: &Views<'_, B>,
     limit: u32,
     addr: u64,
     len: u64,
-) -> Result<Option<Vec<u8, A>>, NoMemory>
-    ensures { IfOk result (λ made. option_map (λ text. text.items) made ≡ buffer limit views.now addr len) }
+) -> Result<bool, NoMemory>
+    ensures text { OnOk result (text.new.items ≡ text.old.items ++ unwrap_or (buffer limit views.now addr len) []) }
+    ensures whole { IfOk result (λ whole. whole ≡ is_some (buffer limit views.now addr len)) }
 {
     let cut = views.bytes(addr, u64::from(limit).min(len));
     match cut.end() {
         End::Full => {
-            let mut text = Vec::with_capacity(alloc, LINE_ROOM)?;
-            write_shortened(&mut text, cut, u64::from(limit) < len)?;
-            Ok(Some(text))
+            write_shortened(text, cut, u64::from(limit) < len)?;
+            Ok(true)
         }
-        _ => Ok(None),
+        _ => Ok(false),
     }
 }
 

@@ -1,16 +1,18 @@
 //! The end of a call: the bytes that came out of it, and its result.
 
-ghost use Rattle.std.specs.Prelude.{◌≡◌, IfOk, option_map};
-ghost use Rattle.record_printer.specs.NoteOf.{end_of};
-ghost use Rattle.record_printer.specs.StopNote.{call_end, out_bytes};
+ghost use Rattle.std.specs.Int.{w64, cast_signed};
+ghost use Rattle.std.specs.Option.{is_some, unwrap_or};
+ghost use Rattle.std.specs.Prelude.{◌≡◌, ◌++◌, ◌<◌, [], IfOk, IfSome, OnOk, int_lt, length, pos, if◌then◌else◌};
+ghost use Rattle.record_printer.specs.StopNote.{call_end, out_at};
 
-use crate::arguments::{argument_word, bytes_out};
+use crate::arguments::{argument_word, write_bytes_out};
+use crate::call_parts::CallEnd;
 use crate::calls::{kinds_of, out_place};
-use crate::note::CallEnd;
 use crate::numbers::write_result;
-use crate::room::REST_ROOM;
+use crate::room::{LINE_ROOM, REST_ROOM};
 use crate::show::Show;
 use std::alloc::Allocator;
+use trace_options::ArgumentKind;
 use trace_pages::NoMemory;
 use trace_record::StopRecord;
 
@@ -20,34 +22,43 @@ pub fn call_end<A: Allocator + Copy, B: Allocator>(
     stop: &StopRecord<B>,
     show: &Show,
 ) -> Result<CallEnd<A>, NoMemory>
-    ensures { IfOk result (λ end. end_of end ≡ call_end show.now stop.now) }
+    ensures { IfOk result (λ end. end ≡ call_end show.now stop.now) }
 {
-    let out = out_bytes(alloc, stop, show.limit)?;
-    let mut text = Vec::with_capacity(alloc, REST_ROOM)?;
+    let number = stop.regs.nr();
+    let kinds = kinds_of(number);
+    let place = out_place(kinds);
+    let room = match place {
+        Some(_) => LINE_ROOM,
+        None => REST_ROOM,
+    };
+    let mut text = Vec::with_capacity(alloc, room)?;
     write_result(&mut text, &stop.regs)?;
-    Ok(CallEnd {
-        number: stop.regs.nr(),
-        out,
-        result: text,
-    })
+    let end = text.len();
+    let is_whole = write_out_bytes(&mut text, stop, show.limit, kinds, place)?;
+    Ok(CallEnd::new(number, text, is_whole.then_some(end)))
 }
 
-/// The bytes that came out of a call, as they are printed, or None where it failed or they are not all there.
-pub fn out_bytes<A: Allocator, B: Allocator>(
-    alloc: A,
+/// Writes the bytes that came out of a call, or nothing where it failed or they are not all there; whether they are.
+fn write_out_bytes<A: Allocator, B: Allocator>(
+    text: &mut Vec<u8, A>,
     stop: &StopRecord<B>,
     limit: u32,
-) -> Result<Option<Vec<u8, A>>, NoMemory>
-    ensures { IfOk result (λ made. option_map (λ text. text.items) made ≡ out_bytes limit stop.now) }
+    kinds: &[ArgumentKind],
+    place: Option<usize>,
+) -> Result<bool, NoMemory>
+    requires { IfSome place (λ place. place < length kinds.now) }
+    ensures text { OnOk result (text.new.items ≡ text.old.items ++ unwrap_or
+        (if int_lt (cast_signed w64 stop.now.regs.rax) (pos 0) then None else out_at limit stop.now kinds.now place) []) }
+    ensures whole { IfOk result (λ whole. whole ≡ is_some
+        (if int_lt (cast_signed w64 stop.now.regs.rax) (pos 0) then None else out_at limit stop.now kinds.now place)) }
 {
     if stop.regs.rax.cast_signed() < 0 {
-        return Ok(None);
+        return Ok(false);
     }
-    let kinds = kinds_of(stop.regs.nr());
-    match out_place(kinds) {
+    match place {
         Some(place) => {
-            bytes_out(
-                alloc,
+            write_bytes_out(
+                text,
                 stop,
                 limit,
                 kinds[place],
@@ -55,6 +66,6 @@ pub fn out_bytes<A: Allocator, B: Allocator>(
                 stop.regs.rax,
             )
         }
-        None => Ok(None),
+        None => Ok(false),
     }
 }

@@ -1,16 +1,16 @@
 //! The start of a call: its line up to the result.
 
-ghost use Rattle.std.specs.Prelude.{◌≡◌, ◌++◌, ◌<◌, IfOk, IfSome, OnOk, length, option_map};
-ghost use Rattle.record_printer.specs.NoteOf.{start_of};
+ghost use Rattle.std.specs.Option.{is_some, unwrap_or};
+ghost use Rattle.std.specs.Prelude.{◌≡◌, ◌++◌, ◌<◌, [], IfOk, IfSome, OnOk, length};
 ghost use Rattle.record_printer.specs.StopNote.{arguments_after, arguments_before, call_start, line_head, out_address};
 ghost use Rattle.record_printer.specs.StopNote.{printed_start};
 
 use crate::arguments::{argument_word, write_arguments};
+use crate::call_parts::CallStart;
 use crate::calls::{kinds_of, out_place, write_name};
 use crate::iovecs::write_separator;
-use crate::note::CallStart;
 use crate::numbers::{write_address, write_decimal};
-use crate::room::{LINE_ROOM, REST_ROOM};
+use crate::room::LINE_ROOM;
 use crate::show::Show;
 use std::alloc::Allocator;
 use trace_options::ArgumentKind;
@@ -23,19 +23,13 @@ pub fn call_start<A: Allocator + Copy, B: Allocator>(
     stop: &StopRecord<B>,
     show: &Show,
 ) -> Result<CallStart<A>, NoMemory>
-    ensures { IfOk result (λ start. start_of start ≡ call_start show.now stop.now) }
+    ensures { IfOk result (λ start. start ≡ call_start show.now stop.now) }
 {
     let number = stop.regs.nr();
     if show.calls.contains(number) {
         printed_start(alloc, stop, show.limit, kinds_of(number))
     } else {
-        Ok(CallStart {
-            shown: false,
-            number,
-            before: Vec::new(alloc),
-            out: None,
-            after: Vec::new(alloc),
-        })
+        Ok(CallStart::hidden(alloc, number))
     }
 }
 
@@ -46,23 +40,18 @@ fn printed_start<A: Allocator + Copy, B: Allocator>(
     limit: u32,
     kinds: &[ArgumentKind],
 ) -> Result<CallStart<A>, NoMemory>
-    ensures { IfOk result (λ start. start_of start ≡ printed_start limit stop.now kinds.now) }
+    ensures { IfOk result (λ start. start ≡ printed_start limit stop.now kinds.now) }
 {
     let place = out_place(kinds);
-    let mut before = Vec::with_capacity(alloc, LINE_ROOM)?;
-    write_head(&mut before, stop)?;
-    write_before(&mut before, stop, limit, kinds, place)?;
-    let out = out_address(alloc, stop, place)?;
-    let mut after = Vec::with_capacity(alloc, REST_ROOM)?;
-    write_after(&mut after, stop, limit, kinds, place)?;
-    after.extend_from_slice(b") = ".as_slice())?;
-    Ok(CallStart {
-        shown: true,
-        number: stop.regs.nr(),
-        before,
-        out,
-        after,
-    })
+    let mut text = Vec::with_capacity(alloc, LINE_ROOM)?;
+    write_head(&mut text, stop)?;
+    write_before(&mut text, stop, limit, kinds, place)?;
+    let gap = text.len();
+    write_after(&mut text, stop, limit, kinds, place)?;
+    text.extend_from_slice(b") = ".as_slice())?;
+    let end = text.len();
+    let has_address = write_out_address(&mut text, stop, place)?;
+    Ok(CallStart::printed(stop.regs.nr(), text, gap, has_address.then_some(end)))
 }
 
 /// Writes the thread and the name of its call.
@@ -121,20 +110,20 @@ fn write_after<A: Allocator, B: Allocator>(
     }
 }
 
-/// The address of the argument whose bytes come out.
-fn out_address<A: Allocator, B: Allocator>(
-    alloc: A,
+/// Writes the address of the argument whose bytes come out, if there is one; whether there is.
+fn write_out_address<A: Allocator, B: Allocator>(
+    text: &mut Vec<u8, A>,
     stop: &StopRecord<B>,
     place: Option<usize>,
-) -> Result<Option<Vec<u8, A>>, NoMemory>
-    ensures { IfOk result (λ made. option_map (λ text. text.items) made ≡ out_address stop.now place) }
+) -> Result<bool, NoMemory>
+    ensures text { OnOk result (text.new.items ≡ text.old.items ++ unwrap_or (out_address stop.now place) []) }
+    ensures there { IfOk result (λ there. there ≡ is_some (out_address stop.now place)) }
 {
     match place {
         Some(place) => {
-            let mut text = Vec::with_capacity(alloc, REST_ROOM)?;
-            write_address(&mut text, argument_word(stop, place))?;
-            Ok(Some(text))
+            write_address(text, argument_word(stop, place))?;
+            Ok(true)
         }
-        None => Ok(None),
+        None => Ok(false),
     }
 }

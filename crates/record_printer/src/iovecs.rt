@@ -1,13 +1,13 @@
 //! Arrays of iovecs, as strace(1) prints them.
 
-ghost use Rattle.std.specs.Prelude.{◌≡◌, ◌++◌, IfOk, OnOk, option_map, true};
+ghost use Rattle.std.specs.Option.{is_some, unwrap_or};
+ghost use Rattle.std.specs.Prelude.{◌≡◌, ◌++◌, [], IfOk, OnOk, true};
 ghost use Rattle.std.specs.List.{list_any};
 ghost use Rattle.record_printer.specs.Arguments.{array, array_text, entries_text, entry_text, is_array, is_broken};
 ghost use Rattle.record_printer.specs.Arguments.{left_after, more_entries, or_address, separator, share};
 
 use crate::buffers::write_buffer;
 use crate::numbers::{write_address, write_decimal};
-use crate::room::LINE_ROOM;
 use mem_views::{IOV_MAX, Iovecs, Item, Views};
 use std::alloc::Allocator;
 use trace_pages::NoMemory;
@@ -24,32 +24,32 @@ pub fn write_array<A: Allocator, B: Allocator>(
     ensures { OnOk result (text.new.items
         ≡ text.old.items ++ or_address addr (array limit views.now None addr count)) }
 {
-    if is_array(views, limit, addr, count) {
-        write_in_brackets(text, views, limit, None, addr, count)
+    if write_whole_array(text, views, limit, None, addr, count)? {
+        Ok(())
     } else {
         write_address(text, addr)
     }
 }
 
-/// The first entries of an array whose bytes came out of a call, which share its result in order, with dots after them
-/// where it has more, or None where the array cannot be shown.
-pub fn array<A: Allocator, B: Allocator>(
-    alloc: A,
+/// Writes the first entries of an array, with dots after them where it has more, or nothing where the array cannot be
+/// shown; whether it can. Where its bytes came out of a call they share its result in order.
+pub fn write_whole_array<A: Allocator, B: Allocator>(
+    text: &mut Vec<u8, A>,
     views: &Views<'_, B>,
     limit: u32,
-    result_len: u64,
+    left: Option<u64>,
     addr: u64,
     count: u64,
-) -> Result<Option<Vec<u8, A>>, NoMemory>
-    ensures { IfOk result (λ made. option_map (λ text. text.items) made
-        ≡ array limit views.now (Some result_len) addr count) }
+) -> Result<bool, NoMemory>
+    ensures text { OnOk result (text.new.items
+        ≡ text.old.items ++ unwrap_or (array limit views.now left addr count) []) }
+    ensures whole { IfOk result (λ whole. whole ≡ is_some (array limit views.now left addr count)) }
 {
     if !is_array(views, limit, addr, count) {
-        return Ok(None);
+        return Ok(false);
     }
-    let mut text = Vec::with_capacity(alloc, LINE_ROOM)?;
-    write_in_brackets(&mut text, views, limit, Some(result_len), addr, count)?;
-    Ok(Some(text))
+    write_in_brackets(text, views, limit, left, addr, count)?;
+    Ok(true)
 }
 
 /// Whether there are no more entries than a call takes, and those that are printed are wholly there.

@@ -7,6 +7,7 @@
 mod arguments;
 mod buffers;
 mod call_end;
+mod call_parts;
 mod call_start;
 mod calls;
 mod chain;

@@ -4,6 +4,7 @@ ghost use Rattle.std.specs.Prelude.{◌≡◌};
 ghost use Rattle.record_printer.specs.Came.{child_of};
 ghost use Rattle.record_printer.specs.NoteOf.{note_of};
 
+use crate::call_parts::{CallEnd, CallStart};
 use std::alloc::{Allocator, Global};
 
 /// What is noted of a stop.
@@ -33,28 +34,4 @@ impl<A: Allocator> Note<A> {
             _ => None,
         }
     }
-}
-
-/// How a call starts: its line up to its end.
-#[derive(Drop)]
-pub struct CallStart<A: Allocator = Global> {
-    /// Whether calls of this number are printed.
-    pub(crate) shown: bool,
-    pub(crate) number: u64,
-    /// The line up to the argument whose bytes come out of the call, or up to the result where there is none.
-    pub(crate) before: Vec<u8, A>,
-    /// The address of that argument, which is printed where the bytes are not all there.
-    pub(crate) out: Option<Vec<u8, A>>,
-    /// The line from there to the result.
-    pub(crate) after: Vec<u8, A>,
-}
-
-/// How a call ends.
-#[derive(Drop)]
-pub struct CallEnd<A: Allocator = Global> {
-    pub(crate) number: u64,
-    /// The bytes that came out of the call, as they are printed, where they are all there.
-    pub(crate) out: Option<Vec<u8, A>>,
-    /// The result, without a line feed.
-    pub(crate) result: Vec<u8, A>,
 }

@@ -41,15 +41,19 @@ pub fn write_int<A: Allocator>(text: &mut Vec<u8, A>, word: u64) -> Result<(), N
     Ok(())
 }
 
-/// Writes a number in hexadecimal after `0x`, in lower case and without leading zeros. A vector refuses a write only
-/// where memory runs out.
+/// Writes a number in hexadecimal after `0x`, in lower case and without leading zeros.
 pub fn write_hexadecimal<A: Allocator>(text: &mut Vec<u8, A>, word: u64) -> Result<(), NoMemory>
     ensures { OnOk result (text.new.items ≡ text.old.items ++ hexadecimal word) }
 {
-    match write!(text, "0x{word:x}") {
-        Ok(()) => Ok(()),
-        Err(_) => Err(NoMemory),
-    }
+    // The sixteen digits come after room for `0x`, which then takes the place of the last two leading zeros.
+    let mut digits = [0; 18];
+    hex::encode_to_slice(word.to_be_bytes(), &mut digits[2..]).unwrap();
+    // Each digit has four bits. The number 0 has one digit, as 1 has.
+    let start = (word.max(1).leading_zeros() / 4) as usize;
+    digits[start] = b'0';
+    digits[start + 1] = b'x';
+    text.extend_from_slice(&digits[start..])?;
+    Ok(())
 }
 
 /// Writes an address: `NULL`, or in hexadecimal.
@@ -78,7 +82,7 @@ pub fn write_mode<A: Allocator>(text: &mut Vec<u8, A>, word: u64) -> Result<(), 
     write_octal_digits(text, mode)
 }
 
-/// Writes a number in octal, without leading zeros.
+/// Writes a number in octal, without leading zeros. A vector refuses a write only where memory runs out.
 fn write_octal_digits<A: Allocator>(text: &mut Vec<u8, A>, number: u64) -> Result<(), NoMemory>
     ensures { OnOk result (text.new.items ≡ text.old.items ++ digits 8 false number) }
 {

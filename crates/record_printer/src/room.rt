@@ -2,15 +2,15 @@
 
 ghost use Rattle.std.specs.Prelude.{◌≡◌, ◌+◌, IfSome, length};
 ghost use Rattle.record_printer.specs.KeptFold.{behind_len, end_len, note_len, start_len, text_len};
-ghost use Rattle.record_printer.specs.NoteOf.{end_of, note_of, start_of};
-ghost use Rattle.std.specs.Option.{option_copied};
+ghost use Rattle.record_printer.specs.NoteOf.{note_of};
 ghost use Rattle.std.specs.Prelude.{option_map};
 
-use crate::note::{CallEnd, CallStart, Note};
+use crate::call_parts::{CallEnd, CallStart};
+use crate::note::Note;
 use std::alloc::Allocator;
 
-/// Room for a part of a line that may be long. Few are longer, and those grow.
-pub const LINE_ROOM: usize = 128;
+/// Room for a part of a line that may be long, as one with 32 bytes in quotes. Few are longer, and those grow.
+pub const LINE_ROOM: usize = 192;
 
 /// Room for a part of a line that is short, as an address or a result.
 pub const REST_ROOM: usize = 24;
@@ -67,26 +67,26 @@ fn with_behind<A: Allocator>(behind: usize, note: &Note<A>) -> Option<usize>
 
 /// The room for the parts of the line of a call that its start has.
 pub fn with_start<A: Allocator>(lines: usize, start: &CallStart<A>) -> Option<usize>
-    ensures { IfSome result (λ more. more ≡ lines + start_len (start_of start.now)) }
+    ensures { IfSome result (λ more. more ≡ lines + start_len start.now) }
 {
-    let before = lines.checked_add(start.before.as_slice().len())?;
-    let out = with_text(before, &start.out)?;
-    out.checked_add(start.after.as_slice().len())
+    let before = lines.checked_add(start.before().len())?;
+    let out = with_text(before, start.out())?;
+    out.checked_add(start.after().len())
 }
 
 fn with_end<A: Allocator>(lines: usize, end: &CallEnd<A>) -> Option<usize>
-    ensures { IfSome result (λ more. more ≡ lines + end_len (end_of end.now)) }
+    ensures { IfSome result (λ more. more ≡ lines + end_len end.now) }
 {
-    let out = with_text(lines, &end.out)?;
-    let result = out.checked_add(end.result.as_slice().len())?;
+    let out = with_text(lines, end.out())?;
+    let result = out.checked_add(end.result().len())?;
     result.checked_add(1)
 }
 
-fn with_text<A: Allocator>(lines: usize, text: &Option<Vec<u8, A>>) -> Option<usize>
-    ensures { IfSome result (λ more. more ≡ lines + text_len (option_map (λ t. t.items) text.now)) }
+fn with_text(lines: usize, text: Option<&[u8]>) -> Option<usize>
+    ensures { IfSome result (λ more. more ≡ lines + text_len (option_map (λ t. t.now) text.entry)) }
 {
     match text {
-        Some(text) => lines.checked_add(text.as_slice().len()),
+        Some(text) => lines.checked_add(text.len()),
         None => Some(lines),
     }
 }

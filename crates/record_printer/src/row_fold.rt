@@ -7,11 +7,12 @@ ghost use Rattle.record_printer.specs.DeathLine.{death_text};
 ghost use Rattle.record_printer.specs.KeptFold.{HasRoom, behind_len, end_len, fold_of, held_len, note_len};
 ghost use Rattle.record_printer.specs.KeptFold.{start_len, text_len};
 ghost use Rattle.record_printer.specs.Note.{ended_line, line_with, out_text, came_out, unfinished_line};
-ghost use Rattle.record_printer.specs.NoteOf.{end_of, note_of, start_of};
+ghost use Rattle.record_printer.specs.NoteOf.{note_of};
 ghost use Rattle.record_printer.specs.RowFold.{empty_fold, ended, fold_after, fold_text, pending_line, started};
 
+use crate::call_parts::{CallEnd, CallStart};
 use crate::death::write_death;
-use crate::note::{CallEnd, CallStart, Note};
+use crate::note::Note;
 use crate::room::{LINE_ROOM, Room, with_start};
 use std::alloc::{Allocator, Global};
 use trace_pages::NoMemory;
@@ -117,8 +118,8 @@ impl<A: Allocator> RowFold<A> {
     #[inline(always)]
     fn start(&mut self, entered: bool, start: CallStart<A>)
         requires { HasRoom self.old 0 0 }
-        ensures fold { fold_of self.new ≡ started (fold_of self.old) entered (start_of start) }
-        ensures room { (lines behind : ℕ) → HasRoom self.old (start_len (start_of start) + lines) behind
+        ensures fold { fold_of self.new ≡ started (fold_of self.old) entered start }
+        ensures room { (lines behind : ℕ) → HasRoom self.old (start_len start + lines) behind
             → HasRoom self.new lines behind }
     {
         put(&mut self.text, self.behind.as_slice());
@@ -130,9 +131,9 @@ impl<A: Allocator> RowFold<A> {
     /// The pending call ends, if there is one.
     #[inline(always)]
     fn end(&mut self, end: CallEnd<A>)
-        requires { HasRoom self.old (end_len (end_of end)) 0 }
-        ensures fold { fold_of self.new ≡ ended (fold_of self.old) (end_of end) }
-        ensures room { (lines behind : ℕ) → HasRoom self.old (end_len (end_of end) + lines) behind
+        requires { HasRoom self.old (end_len end) 0 }
+        ensures fold { fold_of self.new ≡ ended (fold_of self.old) end }
+        ensures room { (lines behind : ℕ) → HasRoom self.old (end_len end + lines) behind
             → HasRoom self.new lines behind }
     {
         if let Some(start) = self.pending.take() {
@@ -146,28 +147,28 @@ impl<A: Allocator> RowFold<A> {
 
 /// Writes the line of a call that has ended, where there is room for its parts.
 fn put_ended<A: Allocator>(text: &mut Vec<u8, A>, start: &CallStart<A>, end: &CallEnd<A>)
-    requires { vec_len text.old + (start_len (start_of start.now) + end_len (end_of end.now)) ≤ vec_capacity text.old }
-    ensures items { text.new.items ≡ text.old.items ++ ended_line (start_of start.now) (end_of end.now) }
-    ensures len { vec_len text.new ≤ vec_len text.old + (start_len (start_of start.now) + end_len (end_of end.now)) }
+    requires { vec_len text.old + (start_len start.now + end_len end.now) ≤ vec_capacity text.old }
+    ensures items { text.new.items ≡ text.old.items ++ ended_line start.now end.now }
+    ensures len { vec_len text.new ≤ vec_len text.old + (start_len start.now + end_len end.now) }
     ensures capacity { vec_capacity text.old ≤ vec_capacity text.new }
 {
-    if start.shown {
-        put(text, start.before.as_slice());
+    if start.is_shown() {
+        put(text, start.before());
         put(text, out_of(start, end));
-        put(text, start.after.as_slice());
-        put(text, end.result.as_slice());
+        put(text, start.after());
+        put(text, end.result());
         put(text, b"\n");
     }
 }
 
 /// What is printed of the argument whose bytes come out of a call.
 fn out_of<'a, A: Allocator>(start: &'a CallStart<A>, end: &'a CallEnd<A>) -> &'a [u8]
-    ensures out { result.now ≡ out_text (start_of start.now).out (came_out (start_of start.now) (end_of end.now)) }
-    ensures len { length result.now ≤ text_len (start_of start.now).out + text_len (end_of end.now).out }
+    ensures out { result.now ≡ out_text start.now.out (came_out start.now end.now) }
+    ensures len { length result.now ≤ text_len start.now.out + text_len end.now.out }
 {
-    match (&start.out, &end.out) {
-        (Some(_), Some(bytes)) if start.number == end.number => bytes.as_slice(),
-        (Some(address), _) => address.as_slice(),
+    match (start.out(), end.out()) {
+        (Some(_), Some(bytes)) if start.number() == end.number() => bytes,
+        (Some(address), _) => address,
         (None, _) => &[],
     }
 }
@@ -190,14 +191,14 @@ fn write_unfinished<A: Allocator>(
     text: &mut Vec<u8, A>,
     start: &CallStart<A>,
 ) -> Result<(), NoMemory>
-    ensures { OnOk result (text.new.items ≡ text.old.items ++ unfinished_line (start_of start.now)) }
+    ensures { OnOk result (text.new.items ≡ text.old.items ++ unfinished_line start.now) }
 {
-    if start.shown {
-        text.extend_from_slice(start.before.as_slice())?;
-        if let Some(address) = &start.out {
-            text.extend_from_slice(address.as_slice())?;
+    if start.is_shown() {
+        text.extend_from_slice(start.before())?;
+        if let Some(address) = start.out() {
+            text.extend_from_slice(address)?;
         }
-        text.extend_from_slice(start.after.as_slice())?;
+        text.extend_from_slice(start.after())?;
         text.extend_from_slice(b"?\n")?;
     }
     Ok(())

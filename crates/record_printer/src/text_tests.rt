@@ -1,7 +1,8 @@
 //! The texts of single stops, each worked out by hand.
 
 use crate::Show;
-use crate::note::{CallEnd, CallStart, Note};
+use crate::call_parts::{CallEnd, CallStart};
+use crate::note::Note;
 use crate::notes::stop_note;
 use std::alloc::Global;
 use trace_options::CallSet;
@@ -93,14 +94,14 @@ fn line_of(
 
 /// Writes the line of a call without its line feed.
 fn write_line(line: &mut Vec<u8>, start: &CallStart, end: &CallEnd) -> Result<(), NoMemory> {
-    line.extend_from_slice(start.before.as_slice())?;
-    if let Some(address) = &start.out {
-        match &end.out {
-            Some(bytes) => line.extend_from_slice(bytes.as_slice())?,
-            None => line.extend_from_slice(address.as_slice())?,
+    line.extend_from_slice(start.before())?;
+    if let Some(address) = start.out() {
+        match end.out() {
+            Some(bytes) => line.extend_from_slice(bytes)?,
+            None => line.extend_from_slice(address)?,
         }
     }
-    line.extend_from_slice(start.after.as_slice())?;
-    line.extend_from_slice(end.result.as_slice())?;
+    line.extend_from_slice(start.after())?;
+    line.extend_from_slice(end.result())?;
     Ok(())
 }

@@ -1,9 +1,10 @@
 //! Folders over rows that were worked out by hand, in all orders of arrival.
 
-ghost use Rattle.std.specs.Prelude.{◌≤◌};
+ghost use Rattle.std.specs.Prelude.{◌<◌, ◌≤◌};
 ghost use Rattle.stop_history.specs.declared.limits.TheConstants.{LAST_NUMBER};
 
-use crate::note::{CallEnd, CallStart, Note};
+use crate::call_parts::{CallEnd, CallStart};
+use crate::note::Note;
 use crate::{FoldError, Folder, Piece, death_piece};
 use std::alloc::{AllocError, Allocator};
 use std::test::Fail;
@@ -33,22 +34,16 @@ fn start<A: Allocator + Copy>(
     number: u64,
     line: &str,
 ) -> Result<CallStart<A>, AllocError> {
-    Ok(CallStart {
-        shown: true,
-        number,
-        before: Vec::from_slice(alloc, line.as_bytes())?,
-        out: None,
-        after: Vec::from_slice(alloc, b" = ")?,
-    })
+    let mut text = Vec::from_slice(alloc, line.as_bytes())?;
+    let gap = text.len();
+    text.extend_from_slice(b" = ")?;
+    Ok(CallStart::printed(number, text, gap, None))
 }
 
 /// The end of a call, of which no bytes come out.
 fn end<A: Allocator + Copy>(alloc: A, number: u64, value: &str) -> Result<CallEnd<A>, AllocError> {
-    Ok(CallEnd {
-        number,
-        out: None,
-        result: Vec::from_slice(alloc, value.as_bytes())?,
-    })
+    let text = Vec::from_slice(alloc, value.as_bytes())?;
+    Ok(CallEnd::new(number, text, None))
 }
 
 fn signal<A: Allocator + Copy>(alloc: A, line: &str) -> Result<Note<A>, AllocError> {
@@ -306,22 +301,42 @@ fn a_child_that_was_not_created_has_no_line(rt: HostRuntime) -> Result<(), Fail>
     Ok(())
 }
 
+/// The start of read(2) at an address, with the number of another call or its own.
+fn read_start<A: Allocator + Copy>(alloc: A, number: u64) -> Result<CallStart<A>, AllocError> {
+    let text = Vec::from_slice(alloc, b"100 read(0, , 2) = 0x10000")?;
+    Ok(CallStart::printed(number, text, 12, Some(19)))
+}
+
+/// The end of a read(2) that has read two bytes.
+fn read_end<A: Allocator + Copy>(alloc: A) -> Result<CallEnd<A>, AllocError> {
+    let text = Vec::from_slice(alloc, b"2\"hi\"")?;
+    Ok(CallEnd::new(0, text, Some(1)))
+}
+
+/// Adds the start and the end of a read(2) of thread 100; whether both were taken.
+fn add_read<A: Allocator + Copy>(
+    alloc: A,
+    folder: &mut Folder<A>,
+    number: u32,
+    call: CallStart<A>,
+) -> Result<bool, AllocError>
+    requires { number < LAST_NUMBER }
+{
+    let done = read_end(alloc)?;
+    let starts = folder.add(stop(100, number, Note::Enter(call))).is_ok();
+    let ends = folder.add(stop(100, number + 1, Note::Exit(done))).is_ok();
+    Ok(starts && ends)
+}
+
 /// The bytes that come out of read(2), and those of a call with another number.
 #[test]
 fn bytes_come_out_of_their_own_call(rt: HostRuntime) -> Result<(), Fail> {
     let alloc = rt.alloc();
     let roster = Roster::new(alloc, &[root(100)])?;
     let mut folder = Folder::new(alloc, &roster)?;
-    for (number, call, shown) in [(1, 0, true), (3, 1, true), (5, 0, false)] {
-        let mut call = start(alloc, call, "100 read(0, ")?;
-        call.shown = shown;
-        call.out = Some(Vec::from_slice(alloc, b"0x10000")?);
-        call.after = Vec::from_slice(alloc, b", 2) = ")?;
-        assert_eq!(rt; folder.add(stop(100, number, Note::Enter(call))), Ok(()));
-        let mut done = end(alloc, 0, "2")?;
-        done.out = Some(Vec::from_slice(alloc, b"\"hi\"")?);
-        assert_eq!(rt; folder.add(stop(100, number + 1, Note::Exit(done))), Ok(()));
-    }
+    assert!(rt; add_read(alloc, &mut folder, 1, read_start(alloc, 0)?)?);
+    assert!(rt; add_read(alloc, &mut folder, 3, read_start(alloc, 1)?)?);
+    assert!(rt; add_read(alloc, &mut folder, 5, CallStart::hidden(alloc, 0))?);
     assert_eq!(rt; folder.add(death_piece(100, 6, Death::Exited(0))), Ok(()));
     let text = folder.finish()?;
     let lines =

@@ -1,7 +1,8 @@
 //! The notes of stops that are no whole call.
 
 use super::{Call, stopped};
-use crate::note::{CallStart, Note};
+use crate::call_parts::CallStart;
+use crate::note::Note;
 use crate::notes::stop_note;
 use crate::{Show, piece_of};
 use std::alloc::Global;
@@ -68,16 +69,19 @@ fn a_call_starts_at_its_entry(rt: HostRuntime) -> Result<(), Fail> {
 
 /// Whether this is the start of `exit(3)`.
 fn is_exit(start: &CallStart) -> bool {
-    start.shown
-        && start.number == 60
-        && start.before.as_slice() == b"100 exit(3".as_slice()
-        && start.out.is_none()
-        && start.after.as_slice() == b") = ".as_slice()
+    start.is_shown()
+        && start.number() == 60
+        && start.before() == b"100 exit(3".as_slice()
+        && start.out().is_none()
+        && start.after() == b") = ".as_slice()
 }
 
 /// Whether this is the start of an `exit` that is not printed.
 fn is_hidden(start: &CallStart) -> bool {
-    !start.shown && start.number == 60 && start.before.is_empty() && start.after.is_empty()
+    !start.is_shown()
+        && start.number() == 60
+        && start.before().is_empty()
+        && start.after().is_empty()
 }
 
 #[test]

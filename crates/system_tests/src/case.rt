@@ -14,17 +14,18 @@ fn refusal(rt: &impl AllocGlobal, file: &[u8]) -> Option<CaseError> {
     Case::read(rt.alloc(), file).err()
 }
 
-/// The number, the arguments, the word of the answer, and the address and length of the fill of a call.
-type Called = (u64, [u64; 6], u64, Option<(u64, usize)>);
+/// The number, the arguments, the word of the answer, and the address and the bytes of the fill of a call.
+type Called<'a> = (u64, [u64; 6], u64, Option<(u64, &'a [u8])>);
 
 /// The call that a step is.
-fn called(script: &Script, at: usize) -> Option<Called> {
+fn called(script: &Script, at: usize) -> Option<Called<'_>> {
     match script.steps.as_slice().get(at) {
         Some(Step::Call(call)) => Some((
             call.nr,
             call.args,
             call.answer,
-            call.fill.as_ref().map(|fill| (fill.addr, fill.bytes.len())),
+            call.fill
+                .map(|fill| (fill.addr, fill.bytes(script.filled.as_slice()))),
         )),
         _ => None,
     }
@@ -78,7 +79,7 @@ fn each_line_is_read_in_its_free_forms(rt: HostRuntime) -> Result<(), Fail> {
         called(script, 0),
         Some((39, [0; 6], 0xffff_ffff_ffff_fffe, None))
     );
-    let fill = Some((0x20ffb, 5));
+    let fill = Some((0x20ffb, b"hi\t\n\xff".as_slice()));
     assert_eq!(rt;
         called(script, 1),
         Some((0, [0, 0x20000, 16, 4, 5, 6], 5, fill))

@@ -1,7 +1,6 @@
 -- A byte word has two digits for each of its bytes.
-use Rattle.std.proofs.Common.{◌≡◌, ◌∙◌, ◌++◌, ◌/◌, ◌%◌, [], ℕ, true, List, length, ap, sym, arith, refl, take, drop}
+use Rattle.std.proofs.Common.{◌≡◌, ◌∙◌, ◌/◌, ◌%◌, [], ℕ, true, List, length, ap, sym, arith, refl}
 use Rattle.std.proofs.Common.{◌+◌, ◌*◌, ◌<◌, ◌∷◌, false, get_or, Option, Some, None, is_some, Result, Ok, nat_le, eqb-true, ◌&&◌, ◌==◌}
-use Rattle.std.proofs.Math.Seq.{take-append_seam}
 use Rattle.std.specs.List.{list_all}
 use Rattle.std.specs.Result.{result_unwrap_or}
 use Rattle.std.proofs.lemmas.Bool.{and_parts}
@@ -68,11 +67,3 @@ even_word word is = (word_parts word is).0
 pub pairs_are : (word bytes : List ℕ) → is_byte_word word ≡ true → decode_pairs 0 word ≡ Ok bytes
     → bytes ≡ bytes_written word
 pairs_are word bytes is pairs = written_is word bytes (decode_of-even word (word_parts word is).0 ∙ pairs)
-
--- the room is filled to its end
-pub fills_room : (word out room : List ℕ) (n : ℕ) → is_byte_word word ≡ true → n ≡ length word / 2
-    → out ≡ bytes_written word → take n (out ++ drop (length out) room) ≡ bytes_written word
-fills_room word out room n is size same =
-    let long : length out ≡ length (bytes_written word) = ap (λ (bytes : List ℕ). length bytes) same in
-    let whole : n ≡ length out = omega (arith, long, bytes_are_halves word is, size) in
-    ap (λ k. take k (out ++ drop (length out) room)) whole ∙ take-append_seam out (drop (length out) room) ∙ same

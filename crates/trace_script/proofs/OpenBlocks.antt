@@ -1,9 +1,10 @@
 -- What is counted in an open block: its last exec, and its births.
 use Rattle.std.proofs.Common.{refl, ◌≡◌, ◌+◌, ◌≤◌, ◌++◌, ◌∷◌, [], ℕ, suc, List, length, ap}
-use Rattle.std.proofs.Common.{sym, ◌∙◌, arith, Option, Some, None, map, slice_get, length-append}
-use Rattle.std.proofs.lemmas.List.{map-append}
+use Rattle.std.proofs.Common.{sym, ◌∙◌, arith, Option, Some, None, drop, slice_get, take, append_assoc, length-append}
+use Rattle.std.proofs.Math.Seq.{drop-append_seam, take-append_seam}
+use Rattle.std.proofs.lemmas.List.{append-nil, map-append}
 use Rattle.trace_script.specs.declared.script.Step.{Step as KeptStep}
-use Rattle.trace_script.specs.Kept.{step_of}
+use Rattle.trace_script.specs.Kept.{step_of, steps_of}
 use Rattle.trace_script.specs.CaseFile.{born_by, children_of, image_after, in_force}
 use Rattle.trace_script.specs.OpenBlock.{exec_after, first_exec, last_exec, or_first}
 use Rattle.trace_script.specs.Script.{Image, Step}
@@ -90,9 +91,41 @@ counted_births births before after s births_is after_is =
     ap (λ n. n + length (children_of s)) births_is ∙ sym (births_more before s)
     ∙ ap (λ (steps : List Step). length (born_by steps)) (sym after_is)
 
--- the steps that are kept, with one more
-pub kept_more : {Z : Type 0} (old new : List (KeptStep Z)) (kept : KeptStep Z) (before : List Step) (s : Step)
-    → map step_of old ≡ before → step_of kept ≡ s → new ≡ old ++ kept ∷ [] → map step_of new ≡ before ++ s ∷ []
-kept_more old new kept before s old_is kept_is new_is =
-    ap (λ steps. map step_of steps) new_is ∙ map-append step_of old (kept ∷ [])
-    ∙ ap (λ steps. steps ++ step_of kept ∷ []) old_is ∙ ap (λ x. before ++ x ∷ []) kept_is
+-- ---- the bytes of fills
+
+-- a fill whose bytes were added to those of the fills before it
+pub fill_added : (filled bytes all more : List ℕ) (start len : ℕ) → all ≡ filled ++ bytes → start ≡ length filled
+    → len ≡ length bytes → take len (drop start (all ++ more)) ≡ bytes
+fill_added filled bytes all more start len all_is start_is len_is =
+    ap (λ n. take n (drop start (all ++ more))) len_is
+    ∙ ap (λ n. take (length bytes) (drop n (all ++ more))) start_is
+    ∙ ap (λ b. take (length bytes) (drop (length filled) (b ++ more))) all_is
+    ∙ ap (λ b. take (length bytes) (drop (length filled) b)) (append_assoc filled bytes more)
+    ∙ ap (take (length bytes)) (drop-append_seam filled (bytes ++ more))
+    ∙ take-append_seam bytes more
+
+-- the steps that are kept, with one more, whose bytes are added to theirs
+module _ {Z : Type 0} (filled bytes all : List ℕ) (old closed new : List (KeptStep Z)) (kept : KeptStep Z) (s : Step)
+    (all_is : all ≡ filled ++ bytes) (new_is : new ≡ closed ++ kept ∷ [])
+    (same : (filled : List ℕ) → steps_of filled closed ≡ steps_of filled old)
+    (whole : (more : List ℕ) → steps_of (filled ++ more) old ≡ steps_of filled old)
+    (kept_is : (more : List ℕ) → step_of (all ++ more) kept ≡ s) where
+  before_it : (more : List ℕ) → steps_of (all ++ more) closed ≡ steps_of filled old
+  before_it more =
+      same (all ++ more)
+      ∙ ap (λ b. steps_of (b ++ more) old) all_is
+      ∙ ap (λ b. steps_of b old) (append_assoc filled bytes more)
+      ∙ whole (bytes ++ more)
+
+  with_more : (more : List ℕ) → steps_of (all ++ more) new ≡ steps_of filled old ++ s ∷ []
+  with_more more =
+      ap (λ steps. steps_of (all ++ more) steps) new_is
+      ∙ map-append (step_of (all ++ more)) closed (kept ∷ [])
+      ∙ ap (λ steps. steps ++ step_of (all ++ more) kept ∷ []) (before_it more)
+      ∙ ap (λ x. steps_of filled old ++ x ∷ []) (kept_is more)
+
+  pub kept_more : steps_of all new ≡ steps_of filled old ++ s ∷ []
+  kept_more = ap (λ b. steps_of b new) (sym (append-nil all)) ∙ with_more []
+
+  pub still_whole : (more : List ℕ) → steps_of (all ++ more) new ≡ steps_of all new
+  still_whole more = with_more more ∙ sym kept_more

@@ -1,6 +1,6 @@
 -- What a new part of an image leaves of the steps: the last one may be an exec of another image, and nothing else is
 -- changed.
-use Rattle.std.proofs.Common.{refl, ◌≡◌, ◌++◌, ◌∷◌, [], ℕ, Bool, true, false, List, length, ap, cond, eqb, IfOk}
+use Rattle.std.proofs.Common.{refl, ◌≡◌, ◌++◌, ◌∷◌, [], ℕ, Bool, true, false, List, length, ap, cond, eqb, IfOk, IsOk}
 use Rattle.std.proofs.Common.{OnOk, Result, Ok, Err, sym, ◌∙◌}
 use Rattle.text_lines.specs.Ranges.{◌>>=◌}
 use Rattle.trace_script.specs.declared.case.block.Block.{Block}
@@ -8,7 +8,7 @@ use Rattle.trace_script.specs.declared.cause.Cause.{Cause}
 use Rattle.trace_script.specs.declared.script.Script.{Script as KeptScript}
 use Rattle.trace_script.specs.CaseFile.{born_by, children_of, part_loaded, part_of_last, part_of_script, part_of_step}
 use Rattle.trace_script.specs.CaseLine.{Part}
-use Rattle.trace_script.specs.Kept.{script_of}
+use Rattle.trace_script.specs.Kept.{image_of, script_by, script_of, steps_of}
 use Rattle.trace_script.specs.OpenBlock.{IsCounted, first_exec, last_exec, or_first}
 use Rattle.trace_script.specs.Reading.{TakesLine}
 use Rattle.trace_script.specs.Script.{Image, Script, Step}
@@ -84,14 +84,50 @@ counts_by script part false =
 counts_of_script : (script : Script) (part : Part) → IfOk (part_of_script script part) (SameScript script)
 counts_of_script script part = counts_by script part (eqb (length script.steps) 0)
 
+abbrev read : Result Script Cause → Result Script Cause
+read r = r
+
+-- what a part makes of equal scripts is equal
+same_new : (result : Result (Unit {0}) Cause) (part : Part) (one other new new_other : Script) → IsOk result
+    → one ≡ other → TakesLine result new (part_of_script one part)
+    → TakesLine result new_other (part_of_script other part) → new ≡ new_other
+same_new (Ok done) part one other new new_other ok same takes takes_other =
+    let both : read (Ok new) ≡ read (Ok new_other) =
+    sym takes ∙ ap (λ script. part_of_script script part) same ∙ takes_other in
+    cc both
+same_new (Err cause) part one other new new_other ok same takes takes_other =
+    absurd (let clash : false ≡ true = ok in cc)
+
 -- a block is counted after a part was loaded
 pub still_counted : {Z : Type 0} (result : Result (Unit {0}) Cause) (block : Block Z) (new : KeptScript Z) (part : Part)
-    → IsCounted block → TakesLine result (script_of new) (part_of_script (script_of block.script) part)
+    → IsCounted block
+    → ((filled : List ℕ)
+    → TakesLine result (script_by filled new) (part_of_script (script_by filled block.script) part))
+    → new.filled.items ≡ block.script.filled.items
     → OnOk result (IsCounted (record { script = new; exec = block.exec; births = block.births }))
-still_counted (Ok done) block new part counted takes =
-    let same = rw takes at (counts_of_script (script_of block.script) part) in
+still_counted (Ok done) block new part counted takes same_bytes =
+    let filled = block.script.filled.items in
+    let same = rw (takes filled) at (counts_of_script (script_of block.script) part) in
+    let now : steps_of new.filled.items new.steps.items ≡ steps_of filled new.steps.items =
+    ap (λ (b : List ℕ). steps_of b new.steps.items) same_bytes in
     record {
-      exec = counted.exec ∙ sym same.0;
-      births = counted.births ∙ ap (λ (born : List ℕ). length born) (sym same.1);
+      exec = counted.exec ∙ sym same.0 ∙ ap last_exec (sym now);
+      births = counted.births ∙ ap (λ (born : List ℕ). length born) (sym same.1)
+          ∙ ap (λ (steps : List Step). length (born_by steps)) (sym now);
+      whole = λ more.
+          ap (λ (b : List ℕ). steps_of (b ++ more) new.steps.items) same_bytes
+          ∙ ap (λ (script : Script). script.steps)
+          (same_new (Ok done) part (script_by (filled ++ more) block.script) (script_by filled block.script)
+          (script_by (filled ++ more) new) (script_by filled new) refl
+          (ap (λ (steps : List Step). record { image = image_of block.script.image; steps = steps })
+          (counted.whole more)) (takes (filled ++ more)) (takes filled))
+          ∙ sym now;
     }
-still_counted (Err cause) block new part counted takes = tt
+still_counted (Err cause) block new part counted takes same_bytes = tt
+
+-- a script with the same bytes, and the same steps whatever the bytes are
+pub same_script : {Z : Type 0} (old new : KeptScript Z)
+    → ((filled : List ℕ) → script_by filled new ≡ script_by filled old) → new.filled.items ≡ old.filled.items
+    → script_of new ≡ script_of old
+same_script old new same same_bytes =
+    same new.filled.items ∙ ap (λ (b : List ℕ). script_by b old) same_bytes

@@ -1,6 +1,6 @@
 -- How many stops acts can make: each stop leaves fewer, a step makes four at most, and no number passes the last one.
 use Rattle.std.proofs.Common.{◌≡◌, ◌+◌, ◌*◌, ◌≤◌, ◌∷◌, ◌++◌, [], ℕ, Bool, true, false, List, Some, None}
-use Rattle.std.proofs.Common.{length, map, drop, cond, eqb, arith, ap, sym, ◌∙◌, subst}
+use Rattle.std.proofs.Common.{length, drop, cond, eqb, arith, ap, sym, ◌∙◌, subst}
 use Rattle.std.proofs.lemmas.List.{length-map}
 use Rattle.trace_pages.specs.FlatMemory.{RunEnd, Full, Absent, Top, run_end, stored}
 use Rattle.trace_pages.specs.Memory.{store_answer}
@@ -8,7 +8,7 @@ use Rattle.trace_record.specs.declared.death.Death.{Death}
 use Rattle.trace_record.specs.declared.resume.Resume.{Resume}
 use Rattle.trace_record.specs.declared.stop.Stop.{Stop}
 use Rattle.stop_history.specs.declared.limits.TheConstants.{LAST_NUMBER}
-use Rattle.trace_script.specs.Kept.{step_of}
+use Rattle.trace_script.specs.Kept.{step_of, steps_of}
 use Rattle.trace_script.specs.Left.{left_by, left_in}
 use Rattle.trace_script.specs.Script.{Fill, Script, Step}
 use Rattle.trace_script.specs.Script as step
@@ -124,33 +124,33 @@ opening_within s script = let all = four_each s script.steps in omega (arith, al
 -- ---- the numbers of a machine
 
 module _ {Z : Type 0} where
-  pub new_within : (s : Setting) (image : KeptImage Z) (copies steps : List (KeptStep Z))
-      → map step_of copies ≡ map step_of steps → length steps ≤ 65536
-      → IsWithin LAST_NUMBER (position s 0 (left_by s progress.New image copies))
-  new_within s image copies steps same few =
-      let all = four_each s (map step_of copies) in
-      let long : length (map step_of copies) ≡ length steps = ap length same ∙ length-map steps step_of in
+  pub new_within : (s : Setting) (image : KeptImage Z) (filled : List ℕ) (copies steps : List (KeptStep Z))
+      → steps_of filled copies ≡ steps_of filled steps → length steps ≤ 65536
+      → IsWithin LAST_NUMBER (position s 0 (left_by s progress.New image filled copies))
+  new_within s image filled copies steps same few =
+      let all = four_each s (steps_of filled copies) in
+      let long : length (steps_of filled copies) ≡ length steps = ap length same ∙ length-map steps (step_of filled) in
       omega (arith, all, long, few)
 
-  pub loaded_within : (s : Setting) (at : Progress) (image : KeptImage Z) (steps : List (KeptStep Z)) (number : ℕ)
-      → at ≡ progress.New → IsWithin LAST_NUMBER (position s number (left_by s at image steps))
-      → IsWithin LAST_NUMBER (position s (number + 1) (left_in s steps stages.Before))
-  loaded_within s at image steps number new within =
-      let opened : IsWithin LAST_NUMBER (position s number (left_by s progress.New image steps)) =
-      subst (λ p. IsWithin LAST_NUMBER (position s number (left_by s p image steps))) new within in
-      subst (λ acts. IsWithin LAST_NUMBER (position s (number + 1) acts)) (sym (left_before s steps))
+  pub loaded_within : (s : Setting) (at : Progress) (image : KeptImage Z) (filled : List ℕ) (steps : List (KeptStep Z))
+      (number : ℕ) → at ≡ progress.New → IsWithin LAST_NUMBER (position s number (left_by s at image filled steps))
+      → IsWithin LAST_NUMBER (position s (number + 1) (left_in s filled steps stages.Before))
+  loaded_within s at image filled steps number new within =
+      let opened : IsWithin LAST_NUMBER (position s number (left_by s progress.New image filled steps)) =
+      subst (λ p. IsWithin LAST_NUMBER (position s number (left_by s p image filled steps))) new within in
+      subst (λ acts. IsWithin LAST_NUMBER (position s (number + 1) acts)) (sym (left_before s filled steps))
       (omega (arith, opened))
 
-  pub stopped_within : (s : Setting) (how : Resume) (was : Progress) (image : KeptImage Z)
+  pub stopped_within : (s : Setting) (how : Resume) (was : Progress) (image : KeptImage Z) (filled : List ℕ)
       (steps : List (KeptStep Z)) (number place : ℕ) (stage : Stage) (left : List Act) (at : Stop) (x y : Context)
       → was ≡ progress.Going place stage
-      → advance s how (left_in s (drop place steps) stage) x ≡ Stopped left at y
-      → IsWithin LAST_NUMBER (position s number (left_by s was image steps))
+      → advance s how (left_in s filled (drop place steps) stage) x ≡ Stopped left at y
+      → IsWithin LAST_NUMBER (position s number (left_by s was image filled steps))
       → IsWithin LAST_NUMBER (position s (number + 1) left)
-  stopped_within s how was image steps number place stage left at x y going is within =
-      let acts = left_in s (drop place steps) stage in
+  stopped_within s how was image filled steps number place stage left at x y going is within =
+      let acts = left_in s filled (drop place steps) stage in
       let less : stops_in left + 1 ≤ stops_in acts =
       subst (λ o. LeavesLess o (stops_in acts)) is (leaves_less s how acts x) in
       let before : IsWithin LAST_NUMBER (position s number acts) =
-      subst (λ p. IsWithin LAST_NUMBER (position s number (left_by s p image steps))) going within in
+      subst (λ p. IsWithin LAST_NUMBER (position s number (left_by s p image filled steps))) going within in
       omega (arith, before, less)

@@ -21,20 +21,23 @@ came_to arrival.Through left stop x = Through x
 came_to (arrival.Died death) left stop x = Died death
 
 -- the step at a place of a list
-abbrev pub steps_came : {Z : Type 0} → Setting → Resume → Arrival → (place : ℕ) → List (KeptStep Z) → Stop → Context
-    → Outcome
-steps_came s how (arrival.Stopped at) place steps stop x = Stopped (left_in s (drop place steps) at) stop x
-steps_came s how arrival.Through place steps stop x =
-    advance s how (left_in s (drop (place + 1) steps) stage.Before) x
-steps_came s how (arrival.Died death) place steps stop x = Died death
+abbrev pub steps_came : {Z : Type 0} → Setting → Resume → Arrival → (place : ℕ) → (filled : List ℕ)
+    → List (KeptStep Z) → Stop → Context → Outcome
+steps_came s how (arrival.Stopped at) place filled steps stop x =
+    Stopped (left_in s filled (drop place steps) at) stop x
+steps_came s how arrival.Through place filled steps stop x =
+    advance s how (left_in s filled (drop (place + 1) steps) stage.Before) x
+steps_came s how (arrival.Died death) place filled steps stop x = Died death
 
 -- steps in a row
-abbrev pub reached : {Z : Type 0} → Setting → Reached → List (KeptStep Z) → Stop → Context → Outcome
-reached s (reached_at.Stopped place at) steps stop x = Stopped (left_in s (drop place steps) at) stop x
-reached s reached_at.Through steps stop x = Through x
-reached s (reached_at.Died death) steps stop x = Died death
+abbrev pub reached : {Z : Type 0} → Setting → Reached → (filled : List ℕ) → List (KeptStep Z) → Stop → Context
+    → Outcome
+reached s (reached_at.Stopped place at) filled steps stop x = Stopped (left_in s filled (drop place steps) at) stop x
+reached s reached_at.Through filled steps stop x = Through x
+reached s (reached_at.Died death) filled steps stop x = Died death
 
 -- the same, or the fault that was found before
-abbrev pub went_on : {Z : Type 0} → Setting → Result Reached ℕ → List (KeptStep Z) → Stop → Context → Outcome
-went_on s (Ok came) steps stop x = reached s came steps stop x
-went_on s (Err address) steps stop x = Faulted address
+abbrev pub went_on : {Z : Type 0} → Setting → Result Reached ℕ → (filled : List ℕ) → List (KeptStep Z) → Stop
+    → Context → Outcome
+went_on s (Ok came) filled steps stop x = reached s came filled steps stop x
+went_on s (Err address) filled steps stop x = Faulted address

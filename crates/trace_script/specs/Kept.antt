@@ -1,5 +1,5 @@
 -- A script as the program keeps it, with vectors and pages, read as the plain data of a script.
-use Rattle.std.specs.Prelude.{map, Option, Some, None, Result, Ok, Err}
+use Rattle.std.specs.Prelude.{ℕ, List, drop, map, take, Option, Some, None, Result, Ok, Err}
 use denote.Ref.{Bor}
 use Rattle.trace_script.specs.Script.{Fill, Image, Script, Step}
 use Rattle.trace_script.specs.Script as step
@@ -12,23 +12,31 @@ use Rattle.trace_script.specs.declared.script.Step.TheVariants as kept
 abbrev pub image_of : {Z : Type 0} → KeptImage Z → Image
 image_of image = record { memory = image.memory; rip = image.rip; rsp = image.rsp }
 
-abbrev pub fill_of : {Z : Type 0} → KeptFill Z → Fill
-fill_of fill = record { address = fill.addr; bytes = fill.bytes.items }
+-- the bytes of a fill are among those of all fills of its script
+abbrev pub fill_of : (filled : List ℕ) → KeptFill → Fill
+fill_of filled fill = record { address = fill.addr; bytes = take fill.len (drop fill.start filled) }
 
-abbrev pub fill_in : {Z : Type 0} → Option (KeptFill Z) → Option Fill
-fill_in None = None
-fill_in (Some fill) = Some (fill_of fill)
+abbrev pub fill_in : (filled : List ℕ) → Option KeptFill → Option Fill
+fill_in filled None = None
+fill_in filled (Some fill) = Some (fill_of filled fill)
 
-abbrev pub step_of : {Z : Type 0} → KeptStep Z → Step
-step_of (kept.Call call) = step.Call call.nr call.args call.answer (fill_in call.fill)
-step_of (kept.Fork child) = step.Fork child
-step_of (kept.Thread child) = step.Thread child
-step_of (kept.Exec path image) = step.Exec path (image_of image)
-step_of (kept.Signal signal deadly) = step.Signal signal deadly
-step_of (kept.Exit status) = step.Exit status
+abbrev pub step_of : {Z : Type 0} → (filled : List ℕ) → KeptStep Z → Step
+step_of filled (kept.Call call) = step.Call call.nr call.args call.answer (fill_in filled call.fill)
+step_of filled (kept.Fork child) = step.Fork child
+step_of filled (kept.Thread child) = step.Thread child
+step_of filled (kept.Exec path image) = step.Exec path (image_of image)
+step_of filled (kept.Signal signal deadly) = step.Signal signal deadly
+step_of filled (kept.Exit status) = step.Exit status
+
+abbrev pub steps_of : {Z : Type 0} → (filled : List ℕ) → List (KeptStep Z) → List Step
+steps_of filled steps = map (step_of filled) steps
+
+-- a script whose fills have their bytes among these
+abbrev pub script_by : {Z : Type 0} → (filled : List ℕ) → KeptScript Z → Script
+script_by filled script = record { image = image_of script.image; steps = steps_of filled script.steps.items }
 
 abbrev pub script_of : {Z : Type 0} → KeptScript Z → Script
-script_of script = record { image = image_of script.image; steps = map step_of script.steps.items }
+script_of script = script_by script.filled.items script
 
 -- a result with this made of what it holds
 abbrev pub if_said : {A B E : Type 0} → (A → B) → Result A E → Result B E

@@ -1,10 +1,10 @@
-//! Copies of a script's steps and images: a machine changes its own.
+//! Copies of a script's steps and images: a machine changes its own. A step takes memory for an image alone, since the
+//! bytes of fills are the script's.
 
-ghost use Rattle.std.specs.Prelude.{◌≡◌, IfOk, map};
-ghost use Rattle.trace_script.specs.Kept.{fill_of, fill_in, image_of, step_of};
-ghost use Rattle.trace_script.specs.Script as step;
+ghost use Rattle.std.specs.Prelude.{◌≡◌, ℕ, IfOk, List};
+ghost use Rattle.trace_script.specs.Kept.{image_of, step_of, steps_of};
 
-use crate::script::{Call, Fill, Image, Step};
+use crate::script::{Image, Step};
 use std::alloc::Allocator;
 use trace_pages::NoMemory;
 
@@ -13,7 +13,7 @@ pub fn copy_steps<A: Allocator + Copy>(
     alloc: A,
     steps: &[Step<A>],
 ) -> Result<Vec<Step<A>, A>, NoMemory>
-    ensures { IfOk result (λ copies. map step_of copies.items ≡ map step_of steps.now) }
+    ensures { (filled : List ℕ) → IfOk result (λ copies. steps_of filled copies.items ≡ steps_of filled steps.now) }
 {
     let mut copies = Vec::with_capacity(alloc, steps.len())?;
     for step in steps {
@@ -36,10 +36,10 @@ pub fn copy_image<A: Allocator + Copy>(image: &Image<A>) -> Result<Image<A>, NoM
 }
 
 fn copy_step<A: Allocator + Copy>(alloc: A, step: &Step<A>) -> Result<Step<A>, NoMemory>
-    ensures { IfOk result (λ copy. step_of copy ≡ step_of step.now) }
+    ensures { (filled : List ℕ) → IfOk result (λ copy. step_of filled copy ≡ step_of filled step.now) }
 {
     match step {
-        Step::Call(call) => copy_call(alloc, call),
+        Step::Call(call) => Ok(Step::Call(*call)),
         Step::Fork(child) => Ok(Step::Fork(*child)),
         Step::Thread(child) => Ok(Step::Thread(*child)),
         Step::Exec { path, image } => {
@@ -52,29 +52,4 @@ fn copy_step<A: Allocator + Copy>(alloc: A, step: &Step<A>) -> Result<Step<A>, N
         }),
         Step::Exit(status) => Ok(Step::Exit(*status)),
     }
-}
-
-fn copy_call<A: Allocator + Copy>(alloc: A, call: &Call<A>) -> Result<Step<A>, NoMemory>
-    ensures { IfOk result (λ copy. step_of copy ≡ step.Call call.now.nr call.now.args call.now.answer (fill_in call.now.fill)) }
-{
-    let fill = match &call.fill {
-        None => None,
-        Some(fill) => Some(copy_fill(alloc, fill)?),
-    };
-    Ok(Step::Call(Call {
-        nr: call.nr,
-        args: call.args,
-        answer: call.answer,
-        fill,
-    }))
-}
-
-fn copy_fill<A: Allocator + Copy>(alloc: A, fill: &Fill<A>) -> Result<Fill<A>, NoMemory>
-    ensures { IfOk result (λ copy. fill_of copy ≡ fill_of fill.now) }
-{
-    let bytes = Vec::from_slice(alloc, fill.bytes.as_slice())?;
-    Ok(Fill {
-        addr: fill.addr,
-        bytes,
-    })
 }

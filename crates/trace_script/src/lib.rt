@@ -5,6 +5,7 @@ mod calls;
 mod case;
 mod cause;
 mod copies;
+mod fill;
 mod found;
 mod laws;
 mod limits;

@@ -3,10 +3,10 @@
 //! There is a function for each place in a step at which a tracee can be; each passes on to the next place. The
 //! answer is the memory with which the look goes on, or what was found.
 
-ghost use Rattle.std.specs.Prelude.{◌≡◌, ◌<◌, ◌+◌, Ok, Err, if◌then◌else◌, drop, length};
+ghost use Rattle.std.specs.Prelude.{◌≡◌, ◌<◌, ◌+◌, ℕ, List, Ok, Err, if◌then◌else◌, drop, length};
 ghost use Rattle.trace_pages.specs.FlatMemory.{run_end};
 ghost use Rattle.trace_pages.specs.Memory.{store_answer};
-ghost use Rattle.trace_script.specs.Kept.{seen, step_of};
+ghost use Rattle.trace_script.specs.Kept.{fill_of, seen, step_of};
 ghost use Rattle.trace_script.specs.Left.{acts_at, is_deadly, left_in};
 ghost use Rattle.trace_script.specs.LookAhead.{fault_in, fill_check, look_on, look_over};
 ghost use Rattle.trace_script.specs.StepStops.{acts_of, after_enter, after_event, after_filter, after_signal};
@@ -29,16 +29,17 @@ use trace_record::{Kind, Resume};
 /// of them on.
 pub fn fault_ahead<A: Allocator>(
     steps: &[Step<A>],
+    filled: &[u8],
     from: usize,
     stage: Stage,
     setting: &Setting,
     how: Resume,
     memory: &Memory<A>,
 ) -> Option<u64>
-    ensures { result ≡ fault_in (look_over setting.now how (left_in setting.now (drop from steps.now) stage)
+    ensures { result ≡ fault_in (look_over setting.now how (left_in setting.now filled.now (drop from steps.now) stage)
         memory.now) }
 {
-    match look_ahead(steps, from, stage, setting, how, memory) {
+    match look_ahead(steps, filled, from, stage, setting, how, memory) {
         Err(Found::Fault(addr)) => Some(addr),
         Err(Found::Halt) => None,
         Ok(_) => None,
@@ -48,19 +49,21 @@ pub fn fault_ahead<A: Allocator>(
 /// Looks at what is left of steps from a place in one of them on.
 fn look_ahead<'a, A: Allocator>(
     steps: &'a [Step<A>],
+    filled: &[u8],
     from: usize,
     stage: Stage,
     setting: &Setting,
     how: Resume,
     memory: &'a Memory<A>,
 ) -> Result<&'a Memory<A>, Found>
-    ensures { seen result ≡ look_over setting.now how (left_in setting.now (drop from steps.now) stage) memory.now }
+    ensures { seen result ≡ look_over setting.now how (left_in setting.now filled.now (drop from steps.now) stage)
+        memory.now }
 {
     let mut place = from;
     let mut at = stage;
     let mut now = memory;
     while place < steps.len() {
-        now = look_here(steps, place, at, setting, how, now)?;
+        now = look_here(steps, filled, place, at, setting, how, now)?;
         at = Stage::Before;
         place += 1;
     }
@@ -70,6 +73,7 @@ fn look_ahead<'a, A: Allocator>(
 /// Looks at what is left of the step at a place.
 fn look_here<'a, A: Allocator>(
     steps: &'a [Step<A>],
+    filled: &[u8],
     place: usize,
     stage: Stage,
     setting: &Setting,
@@ -77,27 +81,30 @@ fn look_here<'a, A: Allocator>(
     memory: &'a Memory<A>,
 ) -> Result<&'a Memory<A>, Found>
     requires { place < length steps.now }
-    ensures { look_over setting.now how (left_in setting.now (drop place steps.now) stage) memory.now
-        ≡ look_on (seen result) setting.now how (left_in setting.now (drop (place + 1) steps.now) stages.Before) }
+    ensures { look_over setting.now how (left_in setting.now filled.now (drop place steps.now) stage) memory.now
+        ≡ look_on (seen result) setting.now how
+        (left_in setting.now filled.now (drop (place + 1) steps.now) stages.Before) }
 {
-    look_at_step(&steps[place], stage, setting, how, memory)
+    look_at_step(&steps[place], filled, stage, setting, how, memory)
 }
 
 /// Looks at what is left of a step from a place on.
 fn look_at_step<'a, A: Allocator>(
     step: &'a Step<A>,
+    filled: &[u8],
     stage: Stage,
     setting: &Setting,
     how: Resume,
     memory: &'a Memory<A>,
 ) -> Result<&'a Memory<A>, Found>
-    ensures { seen result ≡ look_over setting.now how (acts_at setting.now (step_of step.now) stage) memory.now }
+    ensures { seen result ≡ look_over setting.now how (acts_at setting.now (step_of filled.now step.now) stage)
+        memory.now }
 {
     match stage {
-        Stage::Before => before(step, setting, how, memory),
-        Stage::Entered => enter(step, setting, how, memory),
-        Stage::Filtered => filter(step, setting, how, memory),
-        Stage::Event => event(step, how, memory),
+        Stage::Before => before(step, filled, setting, how, memory),
+        Stage::Entered => enter(step, filled, setting, how, memory),
+        Stage::Filtered => filter(step, filled, setting, how, memory),
+        Stage::Event => event(step, filled, how, memory),
         Stage::Signaled => signal(step, how, memory),
         Stage::Done => Ok(memory),
     }
@@ -106,63 +113,70 @@ fn look_at_step<'a, A: Allocator>(
 /// The whole step.
 fn before<'a, A: Allocator>(
     step: &'a Step<A>,
+    filled: &[u8],
     setting: &Setting,
     how: Resume,
     memory: &'a Memory<A>,
 ) -> Result<&'a Memory<A>, Found>
-    ensures { seen result ≡ look_over setting.now how (acts_of setting.now (step_of step.now)) memory.now }
+    ensures { seen result ≡ look_over setting.now how (acts_of setting.now (step_of filled.now step.now)) memory.now }
 {
     match step {
         Step::Signal { .. } => Err(Found::Halt),
-        Step::Call(_) => entry(step, setting, how, memory),
-        Step::Fork(_) => entry(step, setting, how, memory),
-        Step::Thread(_) => entry(step, setting, how, memory),
-        Step::Exec { .. } => entry(step, setting, how, memory),
-        Step::Exit(_) => entry(step, setting, how, memory),
+        Step::Call(_) => entry(step, filled, setting, how, memory),
+        Step::Fork(_) => entry(step, filled, setting, how, memory),
+        Step::Thread(_) => entry(step, filled, setting, how, memory),
+        Step::Exec { .. } => entry(step, filled, setting, how, memory),
+        Step::Exit(_) => entry(step, filled, setting, how, memory),
     }
 }
 
 /// From the entry to the call on.
 fn entry<'a, A: Allocator>(
     step: &'a Step<A>,
+    filled: &[u8],
     setting: &Setting,
     how: Resume,
     memory: &'a Memory<A>,
 ) -> Result<&'a Memory<A>, Found>
-    ensures { seen result ≡ look_over setting.now how (from_entry setting.now (step_of step.now)) memory.now }
+    ensures { seen result ≡ look_over setting.now how (from_entry setting.now (step_of filled.now step.now))
+        memory.now }
 {
     if is_traced(how.kind) {
         return Err(Found::Halt);
     }
-    enter(step, setting, how, memory)
+    enter(step, filled, setting, how, memory)
 }
 
 /// After the syscall-enter-stop.
 fn enter<'a, A: Allocator>(
     step: &'a Step<A>,
+    filled: &[u8],
     setting: &Setting,
     how: Resume,
     memory: &'a Memory<A>,
 ) -> Result<&'a Memory<A>, Found>
-    ensures { seen result ≡ look_over setting.now how (after_enter setting.now (step_of step.now)) memory.now }
+    ensures { seen result ≡ look_over setting.now how (after_enter setting.now (step_of filled.now step.now))
+        memory.now }
 {
     if is_filtered(nr_of(step), setting) {
         return Err(Found::Halt);
     }
-    filter(step, setting, how, memory)
+    filter(step, filled, setting, how, memory)
 }
 
 /// After the seccomp stop.
 fn filter<'a, A: Allocator>(
     step: &'a Step<A>,
+    filled: &[u8],
     setting: &Setting,
     how: Resume,
     memory: &'a Memory<A>,
 ) -> Result<&'a Memory<A>, Found>
-    ensures { seen result ≡ look_over setting.now how (after_filter setting.now (step_of step.now)) memory.now }
+    ensures { seen result ≡ look_over setting.now how (after_filter setting.now (step_of filled.now step.now))
+        memory.now }
 {
     match step {
-        Step::Call(_) => event(step, how, memory),
+        Step::Call(_) => event(step, filled, how, memory),
         Step::Fork(_) => {
             if has_option(setting, Options::TRACEFORK) {
                 return Err(Found::Halt);
@@ -189,15 +203,16 @@ fn filter<'a, A: Allocator>(
 /// After the event of a fork, a clone or an exec; the rest of any other call.
 fn event<'a, A: Allocator>(
     step: &'a Step<A>,
+    filled: &[u8],
     how: Resume,
     memory: &'a Memory<A>,
 ) -> Result<&'a Memory<A>, Found>
-    ensures { (s : Setting) → seen result ≡ look_over s how (after_event (step_of step.now)) memory.now }
+    ensures { (s : Setting) → seen result ≡ look_over s how (after_event (step_of filled.now step.now)) memory.now }
 {
     match step {
         Step::Call(call) => {
-            if let Some(fill) = &call.fill {
-                check(fill, memory)?;
+            if let Some(fill) = call.fill {
+                check(fill, filled, memory)?;
             }
             answer(how, memory)
         }
@@ -210,10 +225,11 @@ fn event<'a, A: Allocator>(
 }
 
 /// The bytes that a call writes.
-fn check<A: Allocator>(fill: &Fill<A>, memory: &Memory<A>) -> Result<(), Found>
-    ensures { result ≡ fill_check (store_answer (run_end memory.now fill.now.addr (length fill.now.bytes.items))) }
+fn check<A: Allocator>(fill: Fill, filled: &[u8], memory: &Memory<A>) -> Result<(), Found>
+    ensures { let bytes = (fill_of filled.now fill).bytes in
+        result ≡ fill_check (store_answer (run_end memory.now fill.addr (length bytes))) }
 {
-    match memory.check_run(fill.addr, fill.bytes.len()) {
+    match memory.check_run(fill.addr, fill.bytes(filled).len()) {
         Ok(()) => Ok(()),
         Err(fault) => Err(Found::Fault(fault.addr)),
     }
@@ -235,7 +251,8 @@ fn signal<'a, A: Allocator>(
     how: Resume,
     memory: &'a Memory<A>,
 ) -> Result<&'a Memory<A>, Found>
-    ensures { (s : Setting) → seen result ≡ look_over s how (after_signal (is_deadly (step_of step.now))) memory.now }
+    ensures { (filled : List ℕ) (s : Setting) →
+        seen result ≡ look_over s how (after_signal (is_deadly (step_of filled step.now))) memory.now }
 {
     match step {
         Step::Signal { deadly, .. } => {
@@ -254,7 +271,7 @@ fn signal<'a, A: Allocator>(
 
 /// The number of a step's system call; a signal is none.
 pub fn nr_of<A: Allocator>(step: &Step<A>) -> u64
-    ensures { result ≡ nr_of (step_of step.now) }
+    ensures { (filled : List ℕ) → result ≡ nr_of (step_of filled step.now) }
 {
     match step {
         Step::Call(call) => call.nr,

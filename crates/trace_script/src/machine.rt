@@ -25,6 +25,8 @@ pub struct Machine<A: Allocator = Global> {
     /// The first program, until it is loaded.
     image: Image<A>,
     steps: Vec<Step<A>, A>,
+    /// The bytes of all fills.
+    filled: Vec<u8, A>,
 }
 
 impl<A: Allocator> Model for Machine<A> {
@@ -40,8 +42,9 @@ impl<A: Allocator> Model for Machine<A> {
     ghost use Rattle.trace_script.specs.StopNumbers.{IsWithin};
     ghost use Rattle.stop_history.specs.declared.limits.TheConstants.{LAST_NUMBER};
 
-    ghost view = { λ m. position m.setting m.number (left_by m.setting m.progress m.image m.steps.items) };
+    ghost view = { λ m. position m.setting m.number
+        (left_by m.setting m.progress m.image m.filled.items m.steps.items) };
 
     ghost invariant = { λ m. IsWithin LAST_NUMBER
-        (position m.setting m.number (left_by m.setting m.progress m.image m.steps.items)) };
+        (position m.setting m.number (left_by m.setting m.progress m.image m.filled.items m.steps.items)) };
 }

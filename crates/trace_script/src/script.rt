@@ -13,16 +13,19 @@ pub struct Image<A: Allocator = Global> {
     pub rsp: u64,
 }
 
-/// Bytes that a call writes to the tracee's memory before it returns.
-#[derive(Drop)]
-pub struct Fill<A: Allocator = Global> {
+/// Bytes that a call writes to the tracee's memory before it returns. They are among its script's (`Fill::bytes`).
+#[derive(Clone, Copy, Debug, PartialEq, Eq)]
+pub struct Fill {
     pub addr: u64,
-    pub bytes: Vec<u8, A>,
+    /// How many of the script's bytes come before its own.
+    pub start: usize,
+    /// How many bytes it has.
+    pub len: usize,
 }
 
 /// A system call with its answer.
-#[derive(Drop)]
-pub struct Call<A: Allocator = Global> {
+#[derive(Clone, Copy, Debug, PartialEq, Eq)]
+pub struct Call {
     /// Its number on x86-64.
     pub nr: u64,
     /// Its arguments, first to sixth.
@@ -30,14 +33,14 @@ pub struct Call<A: Allocator = Global> {
     /// The word that it leaves in `rax`.
     pub answer: u64,
     /// What it writes.
-    pub fill: Option<Fill<A>>,
+    pub fill: Option<Fill>,
 }
 
 /// One thing that a tracee does.
 #[derive(Drop)]
 pub enum Step<A: Allocator = Global> {
     /// Any system call except those below.
-    Call(Call<A>),
+    Call(Call),
     /// A fork(2) that creates the process of this thread id.
     Fork(u32),
     /// A clone(2) that creates the thread of this id in the caller's group.
@@ -55,4 +58,7 @@ pub enum Step<A: Allocator = Global> {
 pub struct Script<A: Allocator = Global> {
     pub image: Image<A>,
     pub steps: Vec<Step<A>, A>,
+    /// The bytes of all fills, one after the other. They are in one block, so that neither reading a script nor copying
+    /// it takes memory for each fill.
+    pub filled: Vec<u8, A>,
 }

@@ -3,14 +3,14 @@
 //! There is a function for each place in a step at which a tracee can be; each passes on to the next place. All are
 //! called only where no store on the way faults (`look_ahead`), so that none has to be taken back.
 
-ghost use Rattle.std.specs.Prelude.{◌≡◌, None, true, length, if◌then◌else◌};
+ghost use Rattle.std.specs.Prelude.{◌≡◌, ℕ, List, None, true, length, if◌then◌else◌};
 ghost use Rattle.trace_pages.specs.FlatMemory as flat;
 ghost use Rattle.trace_pages.specs.FlatMemory.{run_end, stored};
 ghost use Rattle.trace_record.specs.declared.stop.Stop.TheVariants as stop;
 ghost use Rattle.trace_script.specs.Arrivals.{came_to};
 ghost use Rattle.trace_script.specs.declared.stage.Stage.TheVariants as stage;
 ghost use Rattle.trace_script.specs.declared.step_run.Arrival.TheVariants as arrival;
-ghost use Rattle.trace_script.specs.Kept.{step_of};
+ghost use Rattle.trace_script.specs.Kept.{fill_of, step_of};
 ghost use Rattle.trace_script.specs.Left.{acts_at, is_deadly};
 ghost use Rattle.trace_script.specs.LookAhead.{fault_in, look_over};
 ghost use Rattle.trace_script.specs.Registers.{with_answer, with_call, with_start};
@@ -43,20 +43,22 @@ pub enum Arrival {
 /// Does what is left of a step from a place on.
 pub fn run_from<A: Allocator>(
     step: &mut Step<A>,
+    filled: &[u8],
     stage: Stage,
     setting: &Setting,
     how: Resume,
     held: &mut StopRecord<A>,
 ) -> Arrival
-    requires { fault_in (look_over setting.now how (acts_at setting.now (step_of step.old) stage) held.old.memory) ≡ None }
-    ensures { advance setting.now how (acts_at setting.now (step_of step.old) stage) (context_of held.old)
-        ≡ came_to result (acts_at setting.now (step_of step.new)) held.new.stop (context_of held.new) }
+    requires { fault_in (look_over setting.now how (acts_at setting.now (step_of filled.now step.old) stage)
+        held.old.memory) ≡ None }
+    ensures { advance setting.now how (acts_at setting.now (step_of filled.now step.old) stage) (context_of held.old)
+        ≡ came_to result (acts_at setting.now (step_of filled.now step.new)) held.new.stop (context_of held.new) }
 {
     match stage {
-        Stage::Before => from_before(step, setting, how, held),
-        Stage::Entered => from_enter(step, setting, how, held),
-        Stage::Filtered => from_filter(step, setting, how, held),
-        Stage::Event => from_event(step, setting, how, held),
+        Stage::Before => from_before(step, filled, setting, how, held),
+        Stage::Entered => from_enter(step, filled, setting, how, held),
+        Stage::Filtered => from_filter(step, filled, setting, how, held),
+        Stage::Event => from_event(step, filled, setting, how, held),
         Stage::Signaled => from_signal(step, how),
         Stage::Done => Arrival::Through,
     }
@@ -65,13 +67,15 @@ pub fn run_from<A: Allocator>(
 /// The whole step.
 fn from_before<A: Allocator>(
     step: &mut Step<A>,
+    filled: &[u8],
     setting: &Setting,
     how: Resume,
     held: &mut StopRecord<A>,
 ) -> Arrival
-    requires { fault_in (look_over setting.now how (acts_of setting.now (step_of step.old)) held.old.memory) ≡ None }
-    ensures { advance setting.now how (acts_of setting.now (step_of step.old)) (context_of held.old)
-        ≡ came_to result (acts_at setting.now (step_of step.new)) held.new.stop (context_of held.new) }
+    requires { fault_in (look_over setting.now how (acts_of setting.now (step_of filled.now step.old)) held.old.memory)
+        ≡ None }
+    ensures { advance setting.now how (acts_of setting.now (step_of filled.now step.old)) (context_of held.old)
+        ≡ came_to result (acts_at setting.now (step_of filled.now step.new)) held.new.stop (context_of held.new) }
 {
     match step {
         Step::Signal { signal, .. } => {
@@ -80,23 +84,23 @@ fn from_before<A: Allocator>(
         }
         Step::Call(call) => {
             enter_call(call.nr, &call.args, held);
-            from_entry(step, setting, how, held)
+            from_entry(step, filled, setting, how, held)
         }
         Step::Fork(_) => {
             enter_call(FORK, &[0; 6], held);
-            from_entry(step, setting, how, held)
+            from_entry(step, filled, setting, how, held)
         }
         Step::Thread(_) => {
             enter_call(CLONE, &[CLONE_THREAD_FLAGS, 0, 0, 0, 0, 0], held);
-            from_entry(step, setting, how, held)
+            from_entry(step, filled, setting, how, held)
         }
         Step::Exec { path, .. } => {
             enter_call(EXECVE, &[*path, 0, 0, 0, 0, 0], held);
-            from_entry(step, setting, how, held)
+            from_entry(step, filled, setting, how, held)
         }
         Step::Exit(status) => {
             enter_call(EXIT, &[*status, 0, 0, 0, 0, 0], held);
-            from_entry(step, setting, how, held)
+            from_entry(step, filled, setting, how, held)
         }
     }
 }
@@ -112,52 +116,58 @@ fn enter_call<A: Allocator>(nr: u64, args: &[u64; 6], held: &mut StopRecord<A>)
 /// From the entry to the call on.
 fn from_entry<A: Allocator>(
     step: &mut Step<A>,
+    filled: &[u8],
     setting: &Setting,
     how: Resume,
     held: &mut StopRecord<A>,
 ) -> Arrival
-    requires { fault_in (look_over setting.now how (from_entry setting.now (step_of step.old)) held.old.memory) ≡ None }
-    ensures { advance setting.now how (from_entry setting.now (step_of step.old)) (context_of held.old)
-        ≡ came_to result (acts_at setting.now (step_of step.new)) held.new.stop (context_of held.new) }
+    requires { fault_in (look_over setting.now how (from_entry setting.now (step_of filled.now step.old))
+        held.old.memory) ≡ None }
+    ensures { advance setting.now how (from_entry setting.now (step_of filled.now step.old)) (context_of held.old)
+        ≡ came_to result (acts_at setting.now (step_of filled.now step.new)) held.new.stop (context_of held.new) }
 {
     if is_traced(how.kind) {
         held.stop = Stop::Enter;
         return Arrival::Stopped(Stage::Entered);
     }
-    from_enter(step, setting, how, held)
+    from_enter(step, filled, setting, how, held)
 }
 
 /// After the syscall-enter-stop.
 fn from_enter<A: Allocator>(
     step: &mut Step<A>,
+    filled: &[u8],
     setting: &Setting,
     how: Resume,
     held: &mut StopRecord<A>,
 ) -> Arrival
-    requires { fault_in (look_over setting.now how (after_enter setting.now (step_of step.old)) held.old.memory) ≡ None }
-    ensures { advance setting.now how (after_enter setting.now (step_of step.old)) (context_of held.old)
-        ≡ came_to result (acts_at setting.now (step_of step.new)) held.new.stop (context_of held.new) }
+    requires { fault_in (look_over setting.now how (after_enter setting.now (step_of filled.now step.old))
+        held.old.memory) ≡ None }
+    ensures { advance setting.now how (after_enter setting.now (step_of filled.now step.old)) (context_of held.old)
+        ≡ came_to result (acts_at setting.now (step_of filled.now step.new)) held.new.stop (context_of held.new) }
 {
     if is_filtered(nr_of(step), setting) {
         held.stop = Stop::Seccomp(setting.filter.ret_data);
         return Arrival::Stopped(Stage::Filtered);
     }
-    from_filter(step, setting, how, held)
+    from_filter(step, filled, setting, how, held)
 }
 
 /// After the seccomp stop.
 fn from_filter<A: Allocator>(
     step: &mut Step<A>,
+    filled: &[u8],
     setting: &Setting,
     how: Resume,
     held: &mut StopRecord<A>,
 ) -> Arrival
-    requires { fault_in (look_over setting.now how (after_filter setting.now (step_of step.old)) held.old.memory) ≡ None }
-    ensures { advance setting.now how (after_filter setting.now (step_of step.old)) (context_of held.old)
-        ≡ came_to result (acts_at setting.now (step_of step.new)) held.new.stop (context_of held.new) }
+    requires { fault_in (look_over setting.now how (after_filter setting.now (step_of filled.now step.old))
+        held.old.memory) ≡ None }
+    ensures { advance setting.now how (after_filter setting.now (step_of filled.now step.old)) (context_of held.old)
+        ≡ came_to result (acts_at setting.now (step_of filled.now step.new)) held.new.stop (context_of held.new) }
 {
     match step {
-        Step::Call(_) => from_event(step, setting, how, held),
+        Step::Call(_) => from_event(step, filled, setting, how, held),
         Step::Fork(child) => {
             if has_option(setting, Options::TRACEFORK) {
                 held.stop = Stop::Fork(*child);
@@ -188,18 +198,19 @@ fn from_filter<A: Allocator>(
 /// After the event of a fork, a clone or an exec; the rest of any other call.
 fn from_event<A: Allocator>(
     step: &mut Step<A>,
+    filled: &[u8],
     setting: &Setting,
     how: Resume,
     held: &mut StopRecord<A>,
 ) -> Arrival
-    requires { fault_in (look_over setting.now how (after_event (step_of step.old)) held.old.memory) ≡ None }
-    ensures { advance setting.now how (after_event (step_of step.old)) (context_of held.old)
-        ≡ came_to result (acts_at setting.now (step_of step.new)) held.new.stop (context_of held.new) }
+    requires { fault_in (look_over setting.now how (after_event (step_of filled.now step.old)) held.old.memory) ≡ None }
+    ensures { advance setting.now how (after_event (step_of filled.now step.old)) (context_of held.old)
+        ≡ came_to result (acts_at setting.now (step_of filled.now step.new)) held.new.stop (context_of held.new) }
 {
     match step {
         Step::Call(call) => {
-            if let Some(fill) = &call.fill {
-                store(fill, &mut held.memory);
+            if let Some(fill) = call.fill {
+                store(fill, filled, &mut held.memory);
             }
             answer(call.answer, how, held)
         }
@@ -213,7 +224,8 @@ fn from_event<A: Allocator>(
 
 /// After the signal-delivery-stop.
 fn from_signal<A: Allocator>(step: &Step<A>, how: Resume) -> Arrival
-    ensures { (s : _) (x : _) (left : _) (at : _) → advance s how (after_signal (is_deadly (step_of step.now))) x
+    ensures { (filled : List ℕ) (s : _) (x : _) (left : _) (at : _) →
+        advance s how (after_signal (is_deadly (step_of filled step.now))) x
         ≡ came_to result left at x }
 {
     match step {
@@ -250,11 +262,11 @@ fn answer<A: Allocator>(answer: u64, how: Resume, held: &mut StopRecord<A>) -> A
 }
 
 /// Writes what a call writes, where all its addresses are mapped.
-fn store<A: Allocator>(fill: &Fill<A>, memory: &mut Memory<A>)
-    requires { run_end memory.old fill.now.addr (length fill.now.bytes.items) ≡ flat.Full }
-    ensures { memory.new ≡ stored memory.old fill.now.addr fill.now.bytes.items }
+fn store<A: Allocator>(fill: Fill, filled: &[u8], memory: &mut Memory<A>)
+    requires { run_end memory.old fill.addr (length (fill_of filled.now fill).bytes) ≡ flat.Full }
+    ensures { memory.new ≡ stored memory.old fill.addr (fill_of filled.now fill).bytes }
 {
-    match memory.store(fill.addr, fill.bytes.as_slice()) {
+    match memory.store(fill.addr, fill.bytes(filled)) {
         Ok(()) => (),
         Err(_) => unreachable!(),
     }

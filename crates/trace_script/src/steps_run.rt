@@ -29,22 +29,23 @@ pub enum Reached {
 /// Does what is left of steps from a place in one of them on, where no store on the way faults.
 pub fn run_steps<A: Allocator>(
     steps: &mut [Step<A>],
+    filled: &[u8],
     from: usize,
     stage: Stage,
     setting: &Setting,
     how: Resume,
     held: &mut StopRecord<A>,
 ) -> Reached
-    requires { fault_in (look_over setting.now how (left_in setting.now (drop from steps.old) stage) held.old.memory)
-        ≡ None }
-    ensures reached { advance setting.now how (left_in setting.now (drop from steps.old) stage) (context_of held.old)
-        ≡ reached setting.now result steps.new held.new.stop (context_of held.new) }
+    requires { fault_in (look_over setting.now how (left_in setting.now filled.now (drop from steps.old) stage)
+        held.old.memory) ≡ None }
+    ensures reached { advance setting.now how (left_in setting.now filled.now (drop from steps.old) stage)
+        (context_of held.old) ≡ reached setting.now result filled.now steps.new held.new.stop (context_of held.new) }
     ensures len { length steps.new ≡ length steps.old }
 {
     let mut place = from;
     let mut at = stage;
     while place < steps.len() {
-        match run_step(steps, place, at, setting, how, held) {
+        match run_step(steps, filled, place, at, setting, how, held) {
             Arrival::Stopped(stage) => return Reached::Stopped(place, stage),
             Arrival::Died(death) => return Reached::Died(death),
             Arrival::Through => {}
@@ -58,6 +59,7 @@ pub fn run_steps<A: Allocator>(
 /// Does what is left of the step at a place.
 fn run_step<A: Allocator>(
     steps: &mut [Step<A>],
+    filled: &[u8],
     place: usize,
     stage: Stage,
     setting: &Setting,
@@ -65,14 +67,15 @@ fn run_step<A: Allocator>(
     held: &mut StopRecord<A>,
 ) -> Arrival
     requires within { place < length steps.old }
-    requires clear { fault_in (look_over setting.now how (left_in setting.now (drop place steps.old) stage)
+    requires clear { fault_in (look_over setting.now how (left_in setting.now filled.now (drop place steps.old) stage)
         held.old.memory) ≡ None }
-    ensures came { advance setting.now how (left_in setting.now (drop place steps.old) stage) (context_of held.old)
-        ≡ steps_came setting.now how result place steps.new held.new.stop (context_of held.new) }
+    ensures came { advance setting.now how (left_in setting.now filled.now (drop place steps.old) stage)
+        (context_of held.old)
+        ≡ steps_came setting.now how result place filled.now steps.new held.new.stop (context_of held.new) }
     ensures clear { result ≡ arrival.Through →
-        fault_in (look_over setting.now how (left_in setting.now (drop (place + 1) steps.new) stages.Before)
+        fault_in (look_over setting.now how (left_in setting.now filled.now (drop (place + 1) steps.new) stages.Before)
         held.new.memory) ≡ None }
     ensures len { length steps.new ≡ length steps.old }
 {
-    run_from(&mut steps[place], stage, setting, how, held)
+    run_from(&mut steps[place], filled, stage, setting, how, held)
 }

@@ -1,15 +1,15 @@
 //! The block that is open while a case file is read: its script so far, and what the next step is tested against.
 
-ghost use Rattle.std.specs.Prelude.{◌≡◌, ◌<◌, ◌≤◌, ◌++◌, ◌∷◌, [], IfOk, None, OnOk, length, map, option_to_list, true};
+ghost use Rattle.std.specs.Prelude.{◌≡◌, ◌<◌, ◌≤◌, ◌++◌, ◌∷◌, [], ℕ, IfOk, List, None, OnOk, length};
+ghost use Rattle.std.specs.Prelude.{option_to_list};
 ghost use Rattle.trace_script.specs.CaseFile.{children_of, fill_fault, late_of, next_step_fault, no_script};
 ghost use Rattle.trace_script.specs.CaseFile.{place_after, step_fault};
 ghost use Rattle.trace_script.specs.CaseFile as file;
-ghost use Rattle.trace_script.specs.Kept.{fill_of, image_of, script_of, step_of};
-ghost use Rattle.trace_script.specs.OpenBlock.{IsCounted, IsSmallStep, exec_after};
-ghost use Rattle.trace_script.specs.CaseLine.{is_byte_word};
+ghost use Rattle.trace_script.specs.Kept.{fill_in, image_of, script_by, script_of, step_of};
+ghost use Rattle.trace_script.specs.OpenBlock.{IsCounted, IsSmallStep, exec_after, fill_bytes, filled_by};
 ghost use Rattle.trace_script.specs.RawLine.{IsTestedCall, IsTestedFill, IsTestedStep, call_said, fill_said, step_said};
 
-use crate::case::image::{close_image, decode, no_image};
+use crate::case::image::{close_image, decode_onto, no_image};
 use crate::case::keyword::Place;
 use crate::case::late::{Late, LateStep};
 use crate::case::raw_line::{RawCall, RawFill, RawStep};
@@ -39,6 +39,7 @@ pub fn new_block<A: Allocator + Copy>(alloc: A) -> Block<A>
         script: Script {
             image: no_image(alloc),
             steps: Vec::new(alloc),
+            filled: Vec::new(alloc),
         },
         exec: None,
         births: 0,
@@ -62,7 +63,7 @@ pub fn next_step_fault<A: Allocator>(block: &Block<A>, step: RawStep) -> Option<
 fn in_force<A: Allocator>(block: &Block<A>) -> &Image<A>
     requires { IsCounted block.now }
     ensures { image_of result.now
-        ≡ file.in_force (image_of block.now.script.image) (map step_of block.now.script.steps.items) }
+        ≡ file.in_force (image_of block.now.script.image) (script_of block.now.script).steps }
 {
     match block.exec {
         None => &block.script.image,
@@ -72,7 +73,8 @@ fn in_force<A: Allocator>(block: &Block<A>) -> &Image<A>
 
 /// The image of an exec, or else the other one.
 fn image_in<'a, A: Allocator>(step: &'a Step<A>, other: &'a Image<A>) -> &'a Image<A>
-    ensures { image_of result.now ≡ file.image_after (image_of other.now) (step_of step.now) }
+    ensures { (filled : List ℕ) →
+        image_of result.now ≡ file.image_after (image_of other.now) (step_of filled step.now) }
 {
     match step {
         Step::Exec { image, .. } => image,
@@ -125,12 +127,12 @@ pub fn add_step<A: Allocator + Copy>(
     ensures steps { OnOk result (script_of block.new.script
         ≡ record {
           image = image_of block.old.script.image;
-          steps = map step_of block.old.script.steps.items ++ step_said step.entry ∷ [];
+          steps = (script_of block.old.script).steps ++ step_said step.entry ∷ [];
         }) }
     ensures counted { OnOk result (IsCounted block.new) }
 {
     close_loaded(place, &mut block.script);
-    let kept = keep_step(alloc, step)?;
+    let kept = keep_step(alloc, &mut block.script.filled, step)?;
     let at = block.script.steps.len();
     block.script.steps.push(kept)?;
     block.exec = exec_after(block.exec, at, step);
@@ -140,7 +142,8 @@ pub fn add_step<A: Allocator + Copy>(
 
 /// Closes the image that the lines before this place have described.
 pub fn close_loaded<A: Allocator>(place: Place, script: &mut Script<A>)
-    ensures { script_of script.new ≡ script_of script.old }
+    ensures script { (filled : List ℕ) → script_by filled script.new ≡ script_by filled script.old }
+    ensures filled { script.new.filled.items ≡ script.old.filled.items }
 {
     if place == Place::Loading {
         close_image(script);
@@ -197,14 +200,20 @@ pub fn late_of(line: u32, row: u32, births: u32, step: RawStep) -> Option<Late>
     })
 }
 
-/// The step as it is kept, its bytes decoded.
-fn keep_step<A: Allocator + Copy>(alloc: A, step: RawStep) -> Result<Step<A>, NoMemory>
+/// The step as it is kept; the bytes that it writes are added to those of the steps before it.
+fn keep_step<A: Allocator + Copy>(
+    alloc: A,
+    filled: &mut Vec<u8, A>,
+    step: RawStep,
+) -> Result<Step<A>, NoMemory>
     requires tested { IsTestedStep step }
     requires small { IsSmallStep step }
-    ensures { IfOk result (λ kept. step_of kept ≡ step_said step.entry) }
+    ensures filled { OnOk result (filled.new.items ≡ filled.old.items ++ filled_by (step_said step.entry)) }
+    ensures step { (more : List ℕ) →
+        IfOk result (λ kept. step_of (filled.new.items ++ more) kept ≡ step_said step.entry) }
 {
     match step {
-        RawStep::Call(call) => keep_call(alloc, call),
+        RawStep::Call(call) => keep_call(filled, call),
         RawStep::Fork(child) => Ok(Step::Fork(child)),
         RawStep::Thread(child) => Ok(Step::Thread(child)),
         RawStep::Exec(path) => Ok(Step::Exec {
@@ -219,14 +228,13 @@ fn keep_step<A: Allocator + Copy>(alloc: A, step: RawStep) -> Result<Step<A>, No
     }
 }
 
-fn keep_call<A: Allocator + Copy>(alloc: A, call: RawCall) -> Result<Step<A>, NoMemory>
+fn keep_call<A: Allocator>(filled: &mut Vec<u8, A>, call: RawCall) -> Result<Step<A>, NoMemory>
     requires { IsTestedCall call }
-    ensures { IfOk result (λ kept. step_of kept ≡ call_said call.entry) }
+    ensures filled { OnOk result (filled.new.items ≡ filled.old.items ++ filled_by (call_said call.entry)) }
+    ensures step { (more : List ℕ) →
+        IfOk result (λ kept. step_of (filled.new.items ++ more) kept ≡ call_said call.entry) }
 {
-    let fill = match call.fill {
-        None => None,
-        Some(fill) => Some(keep_fill(alloc, fill)?),
-    };
+    let fill = keep_fill(filled, call.fill)?;
     Ok(Step::Call(Call {
         nr: call.nr,
         args: call.args,
@@ -235,13 +243,23 @@ fn keep_call<A: Allocator + Copy>(alloc: A, call: RawCall) -> Result<Step<A>, No
     }))
 }
 
-fn keep_fill<A: Allocator + Copy>(alloc: A, fill: RawFill) -> Result<Fill<A>, NoMemory>
-    requires { is_byte_word fill.bytes.now ≡ true }
-    ensures { IfOk result (λ kept. Some (fill_of kept) ≡ fill_said (Some fill.entry)) }
+fn keep_fill<A: Allocator>(
+    filled: &mut Vec<u8, A>,
+    fill: Option<RawFill>,
+) -> Result<Option<Fill>, NoMemory>
+    requires { IsTestedFill fill }
+    ensures filled { OnOk result (filled.new.items ≡ filled.old.items ++ fill_bytes (fill_said fill.entry)) }
+    ensures fill { (more : List ℕ) →
+        IfOk result (λ kept. fill_in (filled.new.items ++ more) kept ≡ fill_said fill.entry) }
 {
-    let bytes = decode(alloc, fill.bytes)?;
-    Ok(Fill {
+    let Some(fill) = fill else {
+        return Ok(None);
+    };
+    let start = filled.len();
+    decode_onto(fill.bytes, filled)?;
+    Ok(Some(Fill {
         addr: fill.addr,
-        bytes,
-    })
+        start,
+        len: fill.bytes.len() / 2,
+    }))
 }

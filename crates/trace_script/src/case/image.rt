@@ -1,11 +1,11 @@
 //! The image that the lines after `tracee` and `exec` describe, part by part.
 
 ghost use Rattle.hex.specs.Hex.{is_hex_digit, pair_value};
-ghost use Rattle.std.specs.Prelude.{◌≡◌, ◌/◌, ◌%◌, ℕ, Ok, true, IfOk, length};
+ghost use Rattle.std.specs.Prelude.{◌≡◌, ◌++◌, ◌/◌, ◌%◌, ℕ, List, Ok, OnOk, true, IfOk, length};
 ghost use Rattle.trace_script.specs.CaseFile.{page_loaded, part_loaded, part_of_last, part_of_script, part_of_step};
 ghost use Rattle.trace_script.specs.CaseLine as line;
 ghost use Rattle.trace_script.specs.CaseLine.{bytes_written, is_byte_word, no_image};
-ghost use Rattle.trace_script.specs.Kept.{image_of, script_of, step_of};
+ghost use Rattle.trace_script.specs.Kept.{image_of, script_by, step_of};
 ghost use Rattle.trace_script.specs.RawLine.{IsTestedPart, part_said};
 ghost use Rattle.trace_script.specs.Reading.{TakesLine};
 ghost use Rattle.trace_pages.specs.Memory.{map_refusal};
@@ -33,9 +33,20 @@ pub fn decode<A: Allocator + Copy>(alloc: A, word: &[u8]) -> Result<Vec<u8, A>, 
     requires { is_byte_word word.now ≡ true }
     ensures { IfOk result (λ bytes. bytes.items ≡ bytes_written word.now) }
 {
-    let mut bytes = vec![in alloc; 0u8; word.len() / 2]?;
-    decode_into(word, bytes.as_mut_slice());
+    let mut bytes = Vec::new(alloc);
+    decode_onto(word, &mut bytes)?;
     Ok(bytes)
+}
+
+/// Adds the bytes that a byte word writes to others.
+pub fn decode_onto<A: Allocator>(word: &[u8], bytes: &mut Vec<u8, A>) -> Result<(), NoMemory>
+    requires { is_byte_word word.now ≡ true }
+    ensures { OnOk result (bytes.new.items ≡ bytes.old.items ++ bytes_written word.now) }
+{
+    let count = bytes.len();
+    bytes.resize(count + word.len() / 2, 0)?;
+    decode_into(word, &mut bytes[count..]);
+    Ok(())
 }
 
 /// Writes the bytes of a byte word to room for them. No pair of digits ends the loop early, so that it is compiled to
@@ -72,7 +83,9 @@ pub fn load_part<A: Allocator + Copy>(
     part: RawPart,
 ) -> Result<(), Cause>
     requires { IsTestedPart part }
-    ensures { TakesLine result (script_of script.new) (part_of_script (script_of script.old) (part_said part.entry)) }
+    ensures script { (filled : List ℕ) → TakesLine result (script_by filled script.new)
+        (part_of_script (script_by filled script.old) (part_said part.entry)) }
+    ensures filled { script.new.filled.items ≡ script.old.filled.items }
 {
     let count = script.steps.len();
     if count == 0 {
@@ -88,7 +101,8 @@ fn load_in_step<A: Allocator + Copy>(
     part: RawPart,
 ) -> Result<(), Cause>
     requires { IsTestedPart part }
-    ensures { TakesLine result (step_of step.new) (part_of_step (step_of step.old) (part_said part.entry)) }
+    ensures { (filled : List ℕ) → TakesLine result (step_of filled step.new)
+        (part_of_step (step_of filled step.old) (part_said part.entry)) }
 {
     match step {
         Step::Exec { image, .. } => load_in_image(alloc, image, part),
@@ -154,7 +168,8 @@ fn put_bytes<A: Allocator + Copy>(
 
 /// Gives back the room that the image described now has kept for further pages.
 pub fn close_image<A: Allocator>(script: &mut Script<A>)
-    ensures { script_of script.new ≡ script_of script.old }
+    ensures script { (filled : List ℕ) → script_by filled script.new ≡ script_by filled script.old }
+    ensures filled { script.new.filled.items ≡ script.old.filled.items }
 {
     let count = script.steps.len();
     if count == 0 {
@@ -165,7 +180,7 @@ pub fn close_image<A: Allocator>(script: &mut Script<A>)
 }
 
 fn close_step<A: Allocator>(step: &mut Step<A>)
-    ensures { step_of step.new ≡ step_of step.old }
+    ensures { (filled : List ℕ) → step_of filled step.new ≡ step_of filled step.old }
 {
     match step {
         Step::Exec { image, .. } => image.memory.shrink_to_fit(),

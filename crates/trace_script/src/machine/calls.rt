@@ -61,19 +61,22 @@ impl<A: Allocator + Copy> Machine<A> {
     {
         let image = copy_image(&script.image)?;
         let steps = copy_steps(alloc, script.steps.as_slice())?;
+        let filled = Vec::from_slice(alloc, script.filled.as_slice())?;
         Ok(Machine {
             setting,
             number: 0,
             progress: Progress::New,
             image,
             steps,
+            filled,
         })
     }
 }
 
 impl<A: Allocator> Machine<A> {
     /// Runs the tracee on, to its next stop or its death. The first call ignores the restart and what the record
-    /// holds: it loads the program. It takes no memory, and at the death it gives back that of the steps.
+    /// holds: it loads the program. It takes no memory, and at the death it gives back that of the steps and of the
+    /// bytes of fills.
     pub fn next(&mut self, how: Resume, held: &mut StopRecord<A>) -> Next
         ensures element { IsAnswer (next_element self.old how (context_of held.old)) result held.old held.new }
         ensures position { self.new ≡ next_position self.old how (context_of held.old) }
@@ -91,7 +94,8 @@ impl<A: Allocator> Machine<A> {
             }
             Progress::Going { place, stage } => {
                 let steps = self.steps.as_mut_slice();
-                let came = match go_on(steps, place, stage, &self.setting, how, held) {
+                let filled = self.filled.as_slice();
+                let came = match go_on(steps, filled, place, stage, &self.setting, how, held) {
                     Ok(came) => came,
                     Err(addr) => return Next::Fault(addr),
                 };
@@ -105,11 +109,13 @@ impl<A: Allocator> Machine<A> {
                     Reached::Through => {
                         self.progress = Progress::Ended(Death::Exited(0));
                         let_go(&mut self.steps);
+                        let_go(&mut self.filled);
                         Next::Death(Death::Exited(0))
                     }
                     Reached::Died(death) => {
                         self.progress = Progress::Ended(death);
                         let_go(&mut self.steps);
+                        let_go(&mut self.filled);
                         Next::Death(death)
                     }
                 }
@@ -119,12 +125,12 @@ impl<A: Allocator> Machine<A> {
     }
 }
 
-/// Lets the steps go, of which none is left after the death, and their memory with them.
-fn let_go<A: Allocator>(steps: &mut Vec<Step<A>, A>)
-    ensures { steps.new.items ≡ [] }
+/// Lets steps or bytes go, of which none is left after the death, and their memory with them.
+fn let_go<T: Drop, A: Allocator>(items: &mut Vec<T, A>)
+    ensures { items.new.items ≡ [] }
 {
-    steps.clear();
-    steps.shrink_to_fit();
+    items.clear();
+    items.shrink_to_fit();
 }
 
 /// Loads the program, for the first stop.
@@ -149,19 +155,20 @@ fn sign<A: Allocator>(tid: u32, number: u32, held: &mut StopRecord<A>)
 /// Goes on with steps, or returns the address of the first store on the way that faults.
 fn go_on<A: Allocator>(
     steps: &mut [Step<A>],
+    filled: &[u8],
     place: usize,
     stage: Stage,
     setting: &Setting,
     how: Resume,
     held: &mut StopRecord<A>,
 ) -> Result<Reached, u64>
-    ensures outcome { advance setting.now how (left_in setting.now (drop place steps.old) stage) (context_of held.old)
-        ≡ went_on setting.now result steps.new held.new.stop (context_of held.new) }
+    ensures outcome { advance setting.now how (left_in setting.now filled.now (drop place steps.old) stage)
+        (context_of held.old) ≡ went_on setting.now result filled.now steps.new held.new.stop (context_of held.new) }
     ensures len { length steps.new ≡ length steps.old }
     ensures fault { OnErr result ((steps.new ≡ steps.old) × (held.new ≡ held.old)) }
 {
-    if let Some(addr) = fault_ahead(steps, place, stage, setting, how, &held.memory) {
+    if let Some(addr) = fault_ahead(steps, filled, place, stage, setting, how, &held.memory) {
         return Err(addr);
     }
-    Ok(run_steps(steps, place, stage, setting, how, held))
+    Ok(run_steps(steps, filled, place, stage, setting, how, held))
 }

@@ -1,8 +1,9 @@
--- The copies, and the steps that are left, are the steps.
-use Rattle.std.proofs.Common.{◌≡◌, ◌++◌, drop, map}
-use Rattle.trace_script.specs.Kept.{step_of}
+-- The copies, and the steps that are left, are the steps, whatever the bytes of their fills.
+use Rattle.std.proofs.Common.{◌≡◌, ◌++◌, ℕ, List, drop}
+use Rattle.trace_script.specs.Kept.{steps_of}
 use Rattle.trace_script.proofs.copies.copy_steps.Given as goal
 
 abbrev pub invariant-loop-step : goal.invariant-loop-step
 invariant-loop-step g l =
-    map step_of l.copies.items ++ map step_of (drop l.step-index l.steps) ≡ map step_of l.steps
+    (filled : List ℕ) → steps_of filled l.copies.items ++ steps_of filled (drop l.step-index l.steps)
+    ≡ steps_of filled l.steps

@@ -6,8 +6,8 @@ use Rattle.trace_script.proofs.look_ahead.look_ahead.Given as goal
 
 abbrev pub invariant-loop-place : goal.invariant-loop-place
 invariant-loop-place g l =
-    look_over l.setting l.how (left_in l.setting (drop l.place l.steps) l.at) l.now
-    ≡ look_over l.setting l.how (left_in l.setting (drop l.fn.from l.fn.steps) l.fn.stage) l.fn.memory
+    look_over l.setting l.how (left_in l.setting l.filled (drop l.place l.steps) l.at) l.now
+    ≡ look_over l.setting l.how (left_in l.setting l.filled (drop l.fn.from l.fn.steps) l.fn.stage) l.fn.memory
 
 abbrev pub decreases-loop-place : goal.decreases-loop-place
 decreases-loop-place g l = length l.steps - l.place

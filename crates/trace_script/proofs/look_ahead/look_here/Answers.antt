@@ -13,10 +13,11 @@ returns g c =
     let s = c.args.setting.now in
     let how = c.args.how in
     let m = c.args.memory.now in
+    let filled = c.args.filled.now in
     let step = c.index-steps-place.result in
-    let rest = left_in s (drop (c.args.place + 1) c.args.steps.now) stage.Before in
-    ap (λ acts. look_over s how acts m) (left_at s c.args.steps.now c.args.place step c.args.stage c.requires)
-    ∙ look_append s how (acts_at s (step_of (get_or c.args.steps.now c.args.place step)) c.args.stage) rest m
+    let rest = left_in s filled (drop (c.args.place + 1) c.args.steps.now) stage.Before in
+    ap (λ acts. look_over s how acts m) (left_at s filled c.args.steps.now c.args.place step c.args.stage c.requires)
+    ∙ look_append s how (acts_at s (step_of filled (get_or c.args.steps.now c.args.place step)) c.args.stage) rest m
     ∙ ap (λ found. look_on found s how rest)
-    (ap (λ q. look_over s how (acts_at s (step_of q) c.args.stage) m) (sym c.index-steps-place.is)
+    (ap (λ q. look_over s how (acts_at s (step_of filled q) c.args.stage) m) (sym c.index-steps-place.is)
     ∙ sym c.look_at_step.ensures)

@@ -6,5 +6,5 @@ use Rattle.trace_script.proofs.step_run.store.Goals as goal
 
 pub returns : goal.returns
 returns g c =
-    stored_is c.args.memory.now c.store.new.self c.args.fill.now.addr c.as_slice.result.now c.in-Ok.ensures.ok
-    ∙ ap (stored c.args.memory.now c.args.fill.now.addr) c.as_slice.ensures.value
+    stored_is c.args.memory.now c.store.new.self c.args.fill.addr c.bytes.result.now c.in-Ok.ensures.ok
+    ∙ ap (stored c.args.memory.now c.args.fill.addr) c.bytes.ensures

@@ -8,9 +8,11 @@ use Rattle.trace_script.proofs.steps_run.run_steps.Given as goal
 abbrev pub invariant-loop-place : goal.invariant-loop-place
 invariant-loop-place g l = record {
   len : length l.steps ≡ length l.fn.steps;
-  clear : fault_in (look_over l.setting l.how (left_in l.setting (drop l.place l.steps) l.at) l.held.memory) ≡ None;
-  on : advance l.setting l.how (left_in l.setting (drop l.place l.steps) l.at) (context_of l.held)
-      ≡ advance l.setting l.how (left_in l.setting (drop l.fn.from l.fn.steps) l.fn.stage) (context_of l.fn.held);
+  clear : fault_in (look_over l.setting l.how (left_in l.setting l.filled (drop l.place l.steps) l.at) l.held.memory)
+      ≡ None;
+  on : advance l.setting l.how (left_in l.setting l.filled (drop l.place l.steps) l.at) (context_of l.held)
+      ≡ advance l.setting l.how (left_in l.setting l.filled (drop l.fn.from l.fn.steps) l.fn.stage)
+      (context_of l.fn.held);
 }
 
 abbrev pub decreases-loop-place : goal.decreases-loop-place

@@ -11,26 +11,34 @@ use Rattle.trace_script.proofs.machine.Machine.next.Goals as goal
 
 pub invariant_of-self : goal.invariant_of-self
 invariant_of-self g c =
-    loaded_within c.self.inside.setting c.self.inside.progress c.self.inside.image c.self.inside.steps.items
-    c.self.inside.number c.in-New.is c.self.invariant
+    loaded_within c.self.inside.setting c.self.inside.progress c.self.inside.image c.self.inside.filled.items
+    c.self.inside.steps.items c.self.inside.number c.in-New.is c.self.invariant
 
 pub invariant_of-self-in-Stopped : goal.invariant_of-self-in-Stopped
 invariant_of-self-in-Stopped g c =
     let s = c.self.inside.setting in
-    let kept = written_back c.go_on.new.steps c.self.inside.steps.items c.self.inside.steps.len (c.go_on.ensures.len ∙ c.as_mut_slice-steps.ensures.len) in
+    let filled = c.self.inside.filled.items in
+    let seen = c.as_slice-filled.result.now in
+    let kept = written_back c.go_on.new.steps c.self.inside.steps.items c.self.inside.steps.len
+    (c.go_on.ensures.len ∙ c.as_mut_slice-steps.ensures.len) in
     subst (λ steps. IsWithin LAST_NUMBER (position s (c.self.inside.number + 1)
-    (left_in s (drop c.in-Stopped.place steps) c.in-Stopped.stage))) (sym kept)
-    (stopped_within s c.args.how c.self.inside.progress c.self.inside.image c.self.inside.steps.items
-    c.self.inside.number c.in-Going.place c.in-Going.stage
-    (left_in s (drop c.in-Stopped.place c.go_on.new.steps) c.in-Stopped.stage) c.go_on.new.held.stop
+    (left_in s filled (drop c.in-Stopped.place steps) c.in-Stopped.stage))) (sym kept)
+    (stopped_within s c.args.how c.self.inside.progress c.self.inside.image c.self.inside.filled.items
+    c.self.inside.steps.items c.self.inside.number c.in-Going.place c.in-Going.stage
+    (left_in s filled (drop c.in-Stopped.place c.go_on.new.steps) c.in-Stopped.stage) c.go_on.new.held.stop
     (context_of c.args.held.now) (context_of c.go_on.new.held) c.in-Going.is
-    (ap (λ steps. advance s c.args.how (left_in s (drop c.in-Going.place steps) c.in-Going.stage)
+    (ap (λ b. advance s c.args.how (left_in s b (drop c.in-Going.place c.self.inside.steps.items) c.in-Going.stage)
+    (context_of c.args.held.now)) (sym c.as_slice-filled.ensures.value)
+    ∙ ap (λ steps. advance s c.args.how (left_in s seen (drop c.in-Going.place steps) c.in-Going.stage)
     (context_of c.args.held.now)) (sym c.as_mut_slice-steps.ensures.value) ∙ c.in-Ok.ensures.outcome
-    ∙ ap (λ came. reached s came c.go_on.new.steps c.go_on.new.held.stop (context_of c.go_on.new.held)) c.in-Stopped.is)
+    ∙ ap (λ b. reached s c.in-Ok.came b c.go_on.new.steps c.go_on.new.held.stop (context_of c.go_on.new.held))
+    c.as_slice-filled.ensures.value
+    ∙ ap (λ came. reached s came filled c.go_on.new.steps c.go_on.new.held.stop (context_of c.go_on.new.held))
+    c.in-Stopped.is)
     c.self.invariant)
 
 pub returns-in-New-clause-position : goal.returns-in-New-clause-position
 returns-in-New-clause-position g c =
     rw (← c.self.view_is, c.in-New.is)
     (ap (position c.self.inside.setting (c.self.inside.number + 1))
-    (left_before c.self.inside.setting c.self.inside.steps.items))
+    (left_before c.self.inside.setting c.self.inside.filled.items c.self.inside.steps.items))

@@ -6,6 +6,7 @@ mod fault;
 mod gate;
 mod gathering;
 mod laws;
+mod machine;
 mod one_thread;
 mod patience;
 mod run_error;

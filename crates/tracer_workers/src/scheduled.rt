@@ -110,6 +110,8 @@ impl<'a, A: Allocator + Copy> TracedRow<'a, A> {
 struct Run<'a, A: Allocator = Global> {
     alloc: A,
     config: Config,
+    /// What the configuration prints. It is made once, and not at each stop.
+    show: Show,
     world: World<A>,
     folder: Folder<A>,
     rows: Vec<TracedRow<'a, A>, A>,
@@ -118,6 +120,8 @@ struct Run<'a, A: Allocator = Global> {
 impl<'a, A: Allocator> Model for Run<'a, A> {
     ghost use Rattle.std.specs.Coded.{codes};
     ghost use Rattle.trace_pages.specs.FlatMemory.{flat_code};
+    ghost use Rattle.std.specs.Prelude.{◌≡◌};
+    ghost use Rattle.tracer_workers.specs.Config.{show_of};
     ghost use Rattle.tracer_workers.specs.Scheduled.{RunState};
 
     ghost Value = { RunState };
@@ -125,6 +129,8 @@ impl<'a, A: Allocator> Model for Run<'a, A> {
     ghost coded = { Prim.hlevel (codes, flat_code) };
 
     ghost view = { λ r. record { config = r.config; world = r.world; folder = r.folder; rows = r.rows.items } };
+
+    ghost invariant = { λ r. r.show ≡ show_of r.config };
 }
 
 /// Adds a piece that no folder refuses. It is compiled into its callers, so that a piece is moved less often.
@@ -231,7 +237,6 @@ impl<'a, A: Allocator + Copy> Run<'a, A> {
             OnOk result (Moved content self.old self.new h) }
         ensures config { self.new.config ≡ self.old.config }
     {
-        let show = self.config.show();
         let traced = &mut self.rows[row as usize];
         publish_stop(
             self.alloc,
@@ -239,7 +244,7 @@ impl<'a, A: Allocator + Copy> Run<'a, A> {
             &mut self.folder,
             traced,
             row,
-            &show,
+            &self.show,
         )?;
         Ok(())
     }
@@ -459,6 +464,7 @@ fn new_run<'a, A: Allocator + Copy>(
     Ok(Run {
         alloc,
         config: *config,
+        show: config.show(),
         world,
         folder,
         rows,

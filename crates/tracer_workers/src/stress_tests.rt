@@ -5,6 +5,7 @@
 
 use super::*;
 use crate::run_tests::all;
+use crate::thread_tests::Open;
 use std::sync::Wait;
 use std::test::Fail;
 use std::thread::Threads;
@@ -17,13 +18,6 @@ const CALLS: u32 = 499;
 
 /// How often the case is run.
 const RUNS: u32 = 10;
-
-/// A gate that returns at once.
-struct Open;
-
-impl Gate for Open {
-    fn between(&self, _worker: u32, _tid: u32, _number: u32) {}
-}
 
 /// A case of 64 roots.
 fn file_of<R: AllocGlobal>(rt: &R) -> Result<String, Fail> {

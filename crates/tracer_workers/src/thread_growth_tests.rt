@@ -5,6 +5,7 @@ ghost use Rattle.stop_history.specs.declared.limits.TheConstants.{TRACERS};
 
 use super::*;
 use crate::run_tests::{FORK, FORK_TEXT, all};
+use crate::thread_tests::Open;
 use refusing_allocator::RefusingAllocator;
 use std::sync::Wait;
 use std::test::Fail;
@@ -23,13 +24,6 @@ const MOST: u64 = 1000;
 /// A run of one row by one worker has at least this many growths: its cells, two lists of handles, its list of
 /// machines, the list of spare tracers, four lists of threads, the worker's calls and its pieces, and the text.
 const GROWTHS: u64 = 12;
-
-/// A gate that returns at once.
-struct Open;
-
-impl Gate for Open {
-    fn between(&self, _worker: u32, _tid: u32, _number: u32) {}
-}
 
 /// How many runs of a case are refused a growth, where each run has one growth more than the last, until one is
 /// granted all. None where a run does what it must not: one that is refused a growth answers `NoMemory`, and the last

@@ -21,7 +21,7 @@ const DEADLY_TEXT: &str = "200 --- SIGTERM ---\n200 +++ killed by SIGTERM +++\n"
 const HANDLED: &str = "tracee 200 200 200 0\nsignal 15\nexit 0\nend\n";
 
 /// A gate that returns at once.
-struct Open;
+pub struct Open;
 
 impl Gate for Open {
     fn between(&self, _worker: u32, _tid: u32, _number: u32) {}

@@ -6,7 +6,7 @@
 //! are joined, and what they give back is gathered.
 
 ghost use denote.Param.Send.{Frees, IsSend, IsSync};
-ghost use Rattle.std.specs.Prelude.{◌≡◌, ◌≢◌, ◌++◌, ◌<◌, ◌≤◌, [], All, IfErr, IfOk, OnOk, false, length, map, reverse};
+ghost use Rattle.std.specs.Prelude.{◌≡◌, ◌≢◌, ◌++◌, ◌≤◌, [], All, IfErr, IfOk, OnOk, false, length, map, reverse};
 ghost use Rattle.std.specs.Prelude.{true};
 ghost use Rattle.std.specs.List.{AllZip, flat_map};
 ghost use Rattle.std.specs.Vec.{vec_capacity, vec_len};
@@ -14,8 +14,7 @@ ghost use Rattle.atomic_table.specs.Seated.{TableId};
 ghost use Rattle.stop_history.specs.declared.limits.TheConstants.{TRACERS};
 ghost use Rattle.stop_table.specs.Opening.{AreTracees};
 ghost use Rattle.stop_table.specs.Tracer.{held_rows};
-ghost use Rattle.tracer_workers.specs.Config.{plain, plan_of, text_of};
-ghost use Rattle.tracer_workers.specs.Plan.{opening_of};
+ghost use Rattle.tracer_workers.specs.Config.{plain, text_of};
 ghost use Rattle.tracer_workers.specs.Threaded.{CanRun, HasRun, HasWorked};
 ghost use Rattle.tracer_workers.specs.TraceeThread.{IsToStart};
 ghost use Rattle.tracer_workers.specs.declared.run_error.RunError.TheVariants as run_error;
@@ -28,6 +27,7 @@ use crate::config::Config;
 use crate::gate::Gate;
 use crate::gathering::gather;
 use crate::laws::{runs_print_their_case, the_mode_changes_no_text};
+use crate::machine::new_machine;
 use crate::run_error::RunError;
 use crate::threaded::starting_line::StartingLine;
 use crate::threaded::tracee_threads::{Scripted, TraceeThread, join_tracees, start_tracees};
@@ -41,22 +41,7 @@ use std::time::Clock;
 use stop_history::{Roster, TRACERS};
 use stop_table::{Tracee, Tracer, open};
 use trace_pages::NoMemory;
-use trace_script::{Case, Machine};
-
-/// The machine of a row of a case, before its first stop.
-fn new_machine<A: Allocator + Copy>(
-    alloc: A,
-    case: &Case<A>,
-    row: u32,
-    config: &Config,
-) -> Result<Machine<A>, NoMemory>
-    requires { row < length case.now.rows }
-    ensures { IfOk result (λ machine. machine ≡ opening_of (plan_of config.now case.now) row) }
-{
-    let (options, filter) = (config.options(), config.filter());
-    let machine = Machine::new(alloc, case, row, options, &filter)?;
-    Ok(machine)
-}
+use trace_script::Case;
 
 /// The tracees of a case, each with its machine.
 fn with_machines<A: Allocator + Copy>(

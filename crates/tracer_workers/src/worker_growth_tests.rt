@@ -1,12 +1,11 @@
 //! A worker over an allocator that refuses one growth: it serves all stops all the same.
 
-ghost use Rattle.std.specs.Prelude.{◌≡◌, ◌<◌, [], IfOk, IfSome, length};
+ghost use Rattle.std.specs.Prelude.{◌≡◌, [], IfSome};
 ghost use Rattle.stop_table.specs.Tracer.{held_rows};
-ghost use Rattle.tracer_workers.specs.Config.{plan_of};
-ghost use Rattle.tracer_workers.specs.Plan.{opening_of};
 ghost use Rattle.tracer_workers.specs.Threaded.{CanRun};
 
 use super::*;
+use crate::machine::new_machine;
 use crate::run_tests::all;
 use refusing_allocator::RefusingAllocator;
 use std::alloc::Allocator;
@@ -19,7 +18,6 @@ use std::time::Clock;
 use stop_history::Roster;
 use stop_table::{Tracee, Tracer, open};
 use trace_calls::Calls;
-use trace_pages::NoMemory;
 use trace_script::{Case, Machine};
 
 /// A root that makes one call and exits.
@@ -63,20 +61,6 @@ struct Outcome {
     stops: u32,
 }
 
-/// The machine of the first row, before its first stop.
-fn new_machine<A: Allocator + Copy>(
-    alloc: A,
-    case: &Case<A>,
-    config: &Config,
-) -> Result<Machine<A>, NoMemory>
-    requires { 0 < length case.now.rows }
-    ensures { IfOk result (λ machine. machine ≡ opening_of (plan_of config.now case.now) 0) }
-{
-    let (options, filter) = (config.options(), config.filter());
-    let machine = Machine::new(alloc, case, 0, options, &filter)?;
-    Ok(machine)
-}
-
 /// The tracee of a case of one row, its machine, and a tracer; None where a growth is refused.
 fn new_party<A: Allocator + Copy>(
     alloc: A,
@@ -89,7 +73,7 @@ fn new_party<A: Allocator + Copy>(
     if case.roster().len() != 1 {
         return None;
     }
-    let Ok(machine) = new_machine(alloc, case, config) else {
+    let Ok(machine) = new_machine(alloc, case, 0, config) else {
         return None;
     };
     let Ok(mut ends) = open(alloc, case.roster(), 1) else {

@@ -2,13 +2,14 @@
 //!
 //! Its machine copies the script, and so is made at the tracee's first turn.
 
-ghost use Rattle.std.specs.Prelude.{◌≡◌, ◌<◌, IfOk, length};
+ghost use Rattle.std.specs.Prelude.{◌≡◌, ◌<◌, IfOk, OnOk, Some, length};
 ghost use Rattle.trace_script.specs.Machine.{IsAnswer};
 ghost use Rattle.trace_script.specs.StopTrace.{context_of, next_element, next_position};
 ghost use Rattle.tracer_workers.specs.Config.{plan_of};
 ghost use Rattle.tracer_workers.specs.Plan.{opening_of};
 
 use crate::config::Config;
+use crate::machine::new_machine;
 use std::alloc::{Allocator, Global};
 use std::marker::Model;
 use trace_pages::NoMemory;
@@ -68,13 +69,29 @@ impl<'a, A: Allocator + Copy> Tracee<'a, A> {
             IsAnswer (next_element self.old how (context_of held.old)) next held.old held.new) }
         ensures position { IfOk result (λ next. self.new ≡ next_position self.old how (context_of held.old)) }
     {
-        if let Some(machine) = &mut self.machine {
-            return Ok(machine.next(how, held));
+        if self.machine.is_none() {
+            start(alloc, self.case, self.row, &self.config, &mut self.machine)?;
         }
-        let (options, filter) = (self.config.options(), self.config.filter());
-        let mut machine = Machine::new(alloc, self.case, self.row, options, &filter)?;
-        let next = machine.next(how, held);
-        self.machine = Some(machine);
-        Ok(next)
+        match &mut self.machine {
+            Some(machine) => Ok(machine.next(how, held)),
+            None => unreachable!(),
+        }
     }
+}
+
+/// Puts the machine of a row in, before its first stop. It is not compiled into its caller, which needs it once for each
+/// row and else has no use for a machine of its own.
+#[inline(never)]
+fn start<A: Allocator + Copy>(
+    alloc: A,
+    case: &Case<A>,
+    row: u32,
+    config: &Config,
+    machine: &mut Option<Machine<A>>,
+) -> Result<(), NoMemory>
+    requires { row < length case.now.rows }
+    ensures { OnOk result (machine.new ≡ Some (opening_of (plan_of config.now case.now) row)) }
+{
+    *machine = Some(new_machine(alloc, case, row, config)?);
+    Ok(())
 }

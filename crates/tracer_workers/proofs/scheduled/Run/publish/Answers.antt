@@ -54,8 +54,8 @@ publish_stop-requires-clause-taken g c =
     let came = pieces_of (show_of c.self.inside.config) c.requires.0.rows c.requires.1 in (
       came,
       can.folder,
-      subst (λ (k : KeptRow). refusal c.self.inside.folder.rows came (stop_piece (show_of c.self.inside.config) k.content)
-          ≡ None) (sym is) can.taken,
+      subst (λ (p : Show × KeptRow). refusal c.self.inside.folder.rows came (stop_piece p.0 p.1.content)
+          ≡ None) (λ i. (sym c.self.invariant i, sym is i)) can.taken,
     )
 
 pub returns-clause-moved : goal.returns-clause-moved
@@ -75,6 +75,6 @@ returns-clause-moved g c =
     c.in_ok-publish_stop.ensures.rows.0
     (subst (λ (p : Show × KeptRow). HasCome c.publish_stop.new.folder
     (stop_piece p.0 p.1.content ∷ pieces_of (show_of c.self.inside.config) content.rows h))
-    (λ i. (c.show-show.ensures i, is i)) came)
+    (λ i. (c.self.invariant i, is i)) came)
     c.in_ok-publish_stop.ensures.rows.1
     (ap (λ k. slice_set c.self.inside.rows.items c.args.row k) (made.1 ∙ ap (λ k. with_number k number) is)))

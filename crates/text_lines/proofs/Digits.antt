@@ -109,3 +109,115 @@ pub digit_below : (base value digit : ℕ) → Some digit ≡ (if nat_lt value b
 digit_below base value digit is =
     let told = cond_some (nat_lt value base) value digit (sym is) in
     omega (arith, ltb-true value base told.0, told.1)
+
+-- ---- two hexadecimal digits at once
+
+some_pair : (a b : Bool) (m n : ℕ) → Some n ≡ (if a then (if b then Some m else None) else None)
+    → (a ≡ true) × ((b ≡ true) × (n ≡ m))
+some_pair true true m n is = (refl, (refl, cc is))
+some_pair true false m n is = absurd (let clash : Some n ≡ None = is in cc)
+some_pair false b m n is = absurd (let clash : Some n ≡ None = is in cc)
+
+no_pair : (a b : Bool) (n : ℕ) (more : Option ℕ) → None ≡ (if a then (if b then Some n else None) else None)
+    → (if a then (if b then more else None) else None) ≡ None
+no_pair true true n more is = absurd (let clash : None ≡ Some n = is in cc)
+no_pair true false n more is = refl
+no_pair false b n more is = refl
+
+no_digit : (a : Bool) (n : ℕ) (more : Option ℕ) → None ≡ (if a then Some n else None) → (if a then more else None) ≡ None
+no_digit true n more is = absurd (let clash : None ≡ Some n = is in cc)
+no_digit false n more is = refl
+
+pair_parts : (high low pair : ℕ) → Some pair ≡ digits_after 16 0 (high ∷ low ∷ [])
+    → (nat_lt (digit_value high) 16 ≡ true) × ((nat_lt (digit_value low) 16 ≡ true)
+    × (pair ≡ (0 + digit_value high) * 16 + digit_value low))
+pair_parts high low pair is =
+    some_pair (nat_lt (digit_value high) 16) (nat_lt (digit_value low) 16)
+    ((0 + digit_value high) * 16 + digit_value low) pair is
+
+pub pair_below : (high low pair : ℕ) → Some pair ≡ digits_after 16 0 (high ∷ low ∷ []) → pair < 256
+pair_below high low pair is =
+    let parts = pair_parts high low pair is in
+    omega (arith, parts.1.1, ltb-true (digit_value high) 16 parts.0, ltb-true (digit_value low) 16 parts.1.0)
+
+-- they take the number on as they do one after the other
+pub pair_more : (n high low pair : ℕ) (digits : List ℕ) → Some pair ≡ digits_after 16 0 (high ∷ low ∷ [])
+    → digits_after 16 n (high ∷ low ∷ digits) ≡ digits_after 16 (n * 256 + pair) digits
+pair_more n high low pair digits is =
+    let parts = pair_parts high low pair is in
+    rw (parts.0, parts.1.0) (ap (λ m. digits_after 16 m digits) (omega (arith, parts.1.1)))
+
+pub pair_none : (n high low : ℕ) (digits : List ℕ) → None ≡ digits_after 16 0 (high ∷ low ∷ [])
+    → digits_after 16 n (high ∷ low ∷ digits) ≡ None
+pair_none n high low digits is =
+    no_pair (nat_lt (digit_value high) 16) (nat_lt (digit_value low) 16)
+    ((0 + digit_value high) * 16 + digit_value low) _ is
+
+-- two digits more, and the number is still below the power of its base
+pub pair_fits : (n pair i more : ℕ) → n < 16 ^ i → pair < 256 → more ≡ suc (suc i) → n * 256 + pair < 16 ^ more
+pair_fits n pair i more small below is =
+    let all : 16 ^ more ≡ 16 ^ suc (suc i) = ap (λ k. 16 ^ k) is in
+    omega (arith, all, pow-suc 16 i, pow-suc 16 (suc i))
+
+-- so few digits fit 64 bits
+pub power_fits : (i : ℕ) → i ≤ 16 → 16 ^ i ≤ 2 ^ 64
+power_fits i few =
+    let some : 1 ≤ 16 = omega arith in
+    let up : 16 ^ i ≤ 16 ^ 16 = pow-le-pow_right some few in
+    omega (arith, up)
+
+pub first_two : (digits : List ℕ) → 2 ≤ length digits
+    → digits ≡ get_or digits 0 0 ∷ get_or digits 1 0 ∷ drop 2 digits
+first_two [] long = absurd (omega arith)
+first_two (high ∷ []) long = absurd (omega arith)
+first_two (high ∷ low ∷ digits) long = refl
+
+-- one digit more
+pub one_more : (n c digit : ℕ) → Some digit ≡ (if nat_lt (digit_value c) 16 then Some (digit_value c) else None)
+    → digits_after 16 n (c ∷ []) ≡ Some (n * 16 + digit)
+one_more n c digit is =
+    let told = cond_some (nat_lt (digit_value c) 16) (digit_value c) digit (sym is) in
+    rw told.0 (ap (λ d. Some (n * 16 + d)) told.1)
+
+pub one_none : (n c : ℕ) → None ≡ (if nat_lt (digit_value c) 16 then Some (digit_value c) else None)
+    → digits_after 16 n (c ∷ []) ≡ None
+one_none n c is = no_digit (nat_lt (digit_value c) 16) (digit_value c) (Some (n * 16 + digit_value c)) is
+
+pub only_one : (digits : List ℕ) → 1 ≤ length digits → length digits < 2 → digits ≡ get_or digits 0 0 ∷ []
+only_one [] some few = absurd (omega arith)
+only_one (c ∷ []) some few = refl
+only_one (c ∷ d ∷ digits) some few = absurd (omega arith)
+
+pub no_more : (n : ℕ) (digits : List ℕ) → length digits < 1 → digits_after 16 n digits ≡ Some n
+no_more n [] few = refl
+no_more n (c ∷ digits) few = absurd (omega arith)
+
+pub fits_u64 : (n : ℕ) → n < 2 ^ 64 → within_u64 (Some n) ≡ Some n
+fits_u64 n small = rw (lt-ltb n (2 ^ 64) small) refl
+
+pub some_digits : (digits : List ℕ) → false ≡ eqb (length digits) 0 → digits_after 16 0 digits ≡ numeral 16 digits
+some_digits [] some = absurd (let clash : false ≡ true = some in cc)
+some_digits (c ∷ cs) some = refl
+
+either_way : (a : Bool) (o : Option ℕ) → o ≡ (if a then o else o)
+either_way true o = refl
+either_way false o = refl
+
+pub pair_in_table : (high low a b : ℕ) → high < 256 → low < 256 → a ≡ get_or DIGITS high 0 → b ≡ get_or DIGITS low 0
+    → a < 16 → b < 16 → Some (a * 16 + b) ≡ digits_after 16 0 (high ∷ low ∷ [])
+pair_in_table high low a b small_high small_low a_is b_is a_below b_below =
+    let first : a ≡ digit_value high = omega (arith, a_is ∙ table_is high small_high) in
+    let second : b ≡ digit_value low = omega (arith, b_is ∙ table_is low small_low) in
+    rw (lt-ltb (digit_value high) 16 (omega (arith, first)), lt-ltb (digit_value low) 16 (omega (arith, second)))
+    (ap Some (omega (arith, first, second)))
+
+pub no_first_in_table : (high low a : ℕ) → high < 256 → a ≡ get_or DIGITS high 0 → 16 ≤ a
+    → None ≡ digits_after 16 0 (high ∷ low ∷ [])
+no_first_in_table high low a small a_is above =
+    rw (le-ltb (digit_value high) 16 (omega (arith, a_is ∙ table_is high small))) refl
+
+pub no_second_in_table : (high low b : ℕ) → low < 256 → b ≡ get_or DIGITS low 0 → 16 ≤ b
+    → None ≡ digits_after 16 0 (high ∷ low ∷ [])
+no_second_in_table high low b small b_is above =
+    rw (le-ltb (digit_value low) 16 (omega (arith, b_is ∙ table_is low small)))
+    (either_way (nat_lt (digit_value high) 16) None)

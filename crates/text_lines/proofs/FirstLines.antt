@@ -1,14 +1,15 @@
 -- The first line of a text, cut stop by stop: what a stop leaves of it and of its words.
-use Rattle.std.proofs.Common.{refl, ◌≡◌, ◌||◌, ◌++◌, ◌+◌, ◌<◌, ◌≤◌, ◌∷◌, [], ℕ, zero, suc, Bool, true, false, List, length}
+use Rattle.std.proofs.Common.{refl, ◌≡◌, ◌||◌, ◌++◌, ◌+◌, ◌-◌, ◌<◌, ◌≤◌, ◌∷◌, [], ℕ, zero, suc, Bool, true, false}
 use Rattle.std.proofs.Common.{get_or, take, drop, filter, cond, not, eqb, arith, ap, sym, ◌∙◌, inl, inr, lt-ltb, le-ltb}
-use Rattle.std.proofs.Common.{length-take, length-drop, take_all, append_assoc, eqb-true, ◌≢◌, Option, Some, None, position}
+use Rattle.std.proofs.Common.{List, length, length-take, length-drop, take_all, append_assoc, eqb-true, ◌≢◌}
+use Rattle.std.proofs.Common.{Option, Some, None, position}
 use Rattle.std.specs.List.{All, after_first, before_first, position_or_len, slice_split}
 use Rattle.std.proofs.Math.Seq.{drop-cons, take-add}
 use Rattle.std.proofs.lemmas.Bool.{cases_lt}
-use Rattle.std.proofs.lemmas.List.{drop-drop, drop_all, get_or-take, get_or_default}
+use Rattle.std.proofs.lemmas.List.{drop-drop, drop_all, get_or-drop, get_or-take, get_or_default}
 use Rattle.std.proofs.lemmas.List.Splits.{slice_split_at, slice_split_first, slice_split_none, length-slice_split}
 use Rattle.text_lines.specs.Lines.{filled, has_letters, is_feed, lines_of, without_empty_end, words_in}
-use Rattle.text_lines.specs.Stops.{HasNoStop, IsFirstStop, NoStopBelow, is_stop}
+use Rattle.text_lines.specs.Stops.{HasNoStop, IsFirstStop, IsFirstStopFrom, NoStopBelow, is_stop}
 use Rattle.memchr.specs.Find.{IsFirstByte}
 use Rattle.text_lines.proofs.Cuts.{keeps_first, line_last}
 use Rattle.text_lines.proofs.Marks.{either, not_true}
@@ -207,3 +208,21 @@ pub word_last : (so_far got words : List (List ℕ)) (text word : List ℕ) (end
     → (so_far ++ words_in (before_first is_feed text)) ≡ words → got ≡ words
 word_last so_far got words text word end at is before more read =
     more ∙ ap (λ w. so_far ++ filled w) before ∙ ap (λ ws. so_far ++ ws) (sym (words_at_feed text end at is)) ∙ read
+
+-- ---- the next stop of a window is the first of what is left of it
+
+pub left_at : (window : List ℕ) (start end : ℕ) → start ≤ end
+    → get_or (drop start window) (end - start) 0 ≡ get_or window end 0
+left_at window start end from =
+    get_or-drop start window (end - start) 0 ∙ ap (λ i. get_or window i 0) (omega (arith, from))
+
+pub left_after : (window : List ℕ) (start end : ℕ) → start ≤ end
+    → drop (end + 1) window ≡ drop (end - start + 1) (drop start window)
+left_after window start end from =
+    sym (drop-drop (end - start + 1) start window ∙ ap (λ k. drop k window) (omega (arith, from)))
+
+pub left_at_feed : (window line : List ℕ) (start end : ℕ) → IsFirstStopFrom window start end → get_or window end 0 ≡ 10
+    → after_first is_feed (drop start window) ≡ line → drop (end + 1) window ≡ line
+left_at_feed window line start end next feed after =
+    left_after window start end next.from
+    ∙ rest_at_feed (drop start window) (end - start) next.first (left_at window start end next.from ∙ feed) ∙ after

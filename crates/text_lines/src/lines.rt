@@ -5,7 +5,7 @@ ghost use Rattle.std.specs.Prelude.{◌≡◌, ◌≢◌, ◌==◌, ◌<◌, ◌
 ghost use Rattle.std.specs.Prelude.{MatchOption, drop, take};
 ghost use Rattle.text_lines.specs.Lines.{filled, is_feed, last_line, lines_of, words_in};
 
-use crate::stops::next_stop;
+use crate::stops::{Rest, after_stop, marked, next_stop, text_left, word_before};
 use memchr::memchr;
 
 /// The first line of a text that is not empty, without its line feed, and what follows it. The last line may lack the
@@ -77,32 +77,24 @@ pub fn cut_words<'a>(text: &'a [u8], words: &mut [&'a [u8]]) -> (usize, &'a [u8]
     ensures shorter { length result.1.now < length text.now }
 {
     let mut count = 0;
-    let mut rest = text;
-    let mut marks = 0u64;
+    let mut rest = Rest {
+        window: text,
+        start: 0,
+        marks: 0,
+    };
     while count < words.len() {
-        let Some((end, left)) = next_stop(rest, marks) else {
-            return (add_word(words, count, rest), &[]);
+        rest = marked(rest);
+        let Some(end) = next_stop(rest) else {
+            return (add_word(words, count, text_left(rest)), &[]);
         };
-        let (word, after) = cut_at(rest, end);
-        count = add_word(words, count, word);
-        if rest[end] == b'\n' {
-            return (count, after);
+        count = add_word(words, count, word_before(rest, end));
+        let stop = rest.window[end];
+        rest = after_stop(rest, end);
+        if stop == b'\n' {
+            return (count, text_left(rest));
         }
-        rest = after;
-        marks = left;
     }
-    (count, after_line(rest))
-}
-
-/// A text before and after the byte at a place.
-#[inline(always)]
-#[tactic(auto, using(crate::proofs::Cuts::whole_rest))]
-fn cut_at(text: &[u8], place: usize) -> (&[u8], &[u8])
-    requires { place < length text.now }
-    ensures before { result.0.now ≡ take place text.now }
-    ensures after { result.1.now ≡ drop (place + 1) text.now }
-{
-    (&text[..place], &text[place + 1..])
+    (count, after_line(text_left(rest)))
 }
 
 /// Stores a word after the first `count`, unless it is empty, and returns how many words there are then.

@@ -1,8 +1,9 @@
 //! Numbers as words: without a sign and with one.
 
-ghost use Rattle.std.specs.Prelude.{◌≡◌, ◌+◌, ◌*◌, ◌≤◌, length, nat_lt, if◌then◌else◌, IfOk};
+ghost use Rattle.std.specs.Prelude.{◌≡◌, ◌+◌, ◌*◌, ◌≤◌, ◌∷◌, [], length, nat_lt, if◌then◌else◌, IfOk};
 ghost use Rattle.std.specs.Char.{digit_value};
-ghost use Rattle.text_lines.specs.Numbers.{integer_of, negated_integer, number_of, numeral, plain_integer, within_u64};
+ghost use Rattle.text_lines.specs.Numbers.{digits_after, integer_of, negated_integer, number_of, numeral, plain_integer};
+ghost use Rattle.text_lines.specs.Numbers.{within_u64};
 ghost use Rattle.text_lines.specs.Ranges.{number_between};
 
 use crate::fault::LineFault;
@@ -130,7 +131,7 @@ fn hexadecimal(digits: &[u8]) -> Option<u64>
     }
 }
 
-/// The same of few digits, which cannot overflow.
+/// The same of few digits, which cannot overflow. They are read two at a time, since addresses have many.
 fn short_hexadecimal(digits: &[u8]) -> Option<u64>
     requires { length digits.now ≤ SHORT_HEX }
     ensures { result ≡ within_u64 (numeral 16 digits.now) }
@@ -139,10 +140,28 @@ fn short_hexadecimal(digits: &[u8]) -> Option<u64>
         return None;
     }
     let mut n = 0u64;
-    for c in digits {
-        n = n * 16 + digit(16, *c)?;
+    let mut rest = digits;
+    'pairs: while let [high, low, after @ ..] = rest {
+        n = n * 256 + two_digits(*high, *low)?;
+        rest = after;
     }
-    Some(n)
+    match rest {
+        [last] => Some(n * 16 + digit(16, *last)?),
+        _ => Some(n),
+    }
+}
+
+/// The number that two hexadecimal digits write.
+fn two_digits(high: u8, low: u8) -> Option<u64>
+    ensures { result ≡ digits_after 16 0 (high ∷ low ∷ []) }
+{
+    let high = DIGITS[usize::from(high)];
+    let low = DIGITS[usize::from(low)];
+    if high < NO_DIGIT && low < NO_DIGIT {
+        Some(u64::from(high) * 16 + u64::from(low))
+    } else {
+        None
+    }
 }
 
 /// The number that digits of a base write, if there are any and all are digits.

@@ -1,11 +1,13 @@
 //! Where the words of a text end: at its stops, the spaces and line feeds.
 //!
 //! The stops among the next 64 bytes are marked as the bits of a number, the lowest first, and the marks are used up
-//! one after the other. So most stops are found without another look at the text, however long the words are.
+//! one after the other. So most stops are found without another look at the text, however long the words are. Places
+//! are counted in the window of text that was marked, so that a stop moves no text and shifts no marks.
 
 ghost use Rattle.std.specs.Int.{bit_at};
-ghost use Rattle.std.specs.Prelude.{◌≡◌, ◌≢◌, ◌↔◌, ◌+◌, ◌<◌, ◌≤◌, ℕ, MatchOption, drop, length, slice_index};
-ghost use Rattle.text_lines.specs.Stops.{AreMarks, HasNoStop, IsFirstStop, NoStopBelow};
+ghost use Rattle.std.specs.Prelude.{◌≡◌, ◌≢◌, ◌↔◌, ◌+◌, ◌-◌, ◌<◌, ◌≤◌, ℕ, MatchOption, drop, length, slice_index, take};
+ghost use Rattle.text_lines.specs.Stops.{AreMarks, HasMarkBelow, HasNoStop, IsFirstStop, IsFirstStopFrom};
+ghost use Rattle.text_lines.specs.Stops.{NoStopBelow};
 
 use memchr::memchr2;
 use std::simd::prelude::*;
@@ -13,40 +15,104 @@ use std::simd::prelude::*;
 /// How many bytes are marked at once.
 const MARKED: usize = 64;
 
-/// The first stop of a text, and the marks of the text after it; None where there is no stop. The marks are those that
-/// the stop before left, or 0.
-#[inline(always)]
-pub fn next_stop(text: &[u8], marks: u64) -> Option<(usize, u64)>
-    requires { AreMarks text.now marks }
-    ensures { MatchOption result (HasNoStop text.now)
-        (λ next. IsFirstStop text.now next.0 × AreMarks (drop (next.0 + 1) text.now) next.1) }
-{
-    let marks = marks_here(text, marks);
-    if marks == 0 {
-        return far_stop(text);
-    }
-    let end = lowest(marks);
-    Some((end, marks_after(marks, end)))
+/// What is left of a text: its window from a place on, and the marks of the next stops there.
+#[derive(Clone, Copy)]
+pub struct Rest<'a> {
+    pub window: &'a [u8],
+    pub start: usize,
+    /// Bit k marks byte k of the window.
+    pub marks: u64,
 }
 
-/// The first stop, wherever it is, and the marks of the text after it. It is looked for where no stop is near.
+/// What is left, as a text.
+#[inline(always)]
+pub fn text_left<'a>(rest: Rest<'a>) -> &'a [u8]
+    requires { rest.start ≤ length rest.window.now }
+    ensures { result.now ≡ drop rest.entry.start rest.entry.window.now }
+{
+    text_from(rest.window, rest.start)
+}
+
+/// What is left up to a place in the window.
+#[inline(always)]
+pub fn word_before<'a>(rest: Rest<'a>, end: usize) -> &'a [u8]
+    requires from { rest.start ≤ end }
+    requires within { end ≤ length rest.window.now }
+    ensures { result.now ≡ take (end - rest.entry.start) (drop rest.entry.start rest.entry.window.now) }
+{
+    &rest.window[rest.start..end]
+}
+
+/// The same text, marked again where no mark is left, in a window that begins with what is left.
+#[inline(always)]
+pub fn marked<'a>(rest: Rest<'a>) -> Rest<'a>
+    requires within { rest.start ≤ length rest.window.now }
+    requires marks { AreMarks rest.window.now rest.start rest.marks }
+    ensures within { result.start ≤ length result.window.now }
+    ensures marks { AreMarks result.window.now result.start result.marks }
+    ensures same { drop result.start result.window.now ≡ drop rest.entry.start rest.entry.window.now }
+{
+    if rest.marks != 0 {
+        return rest;
+    }
+    let window = text_left(rest);
+    Rest {
+        window,
+        start: 0,
+        marks: marks_of(window),
+    }
+}
+
+/// The place of the next stop; None where there is none.
+#[inline(always)]
+pub fn next_stop(rest: Rest<'_>) -> Option<usize>
+    requires within { rest.start ≤ length rest.window.now }
+    requires marks { AreMarks rest.window.now rest.start rest.marks }
+    ensures { MatchOption result (HasNoStop (drop rest.entry.start rest.entry.window.now))
+        (λ end. IsFirstStopFrom rest.entry.window.now rest.entry.start end) }
+{
+    if rest.marks != 0 {
+        return Some(lowest(rest.marks));
+    }
+    match far_stop(text_left(rest)) {
+        None => None,
+        Some(end) => Some(rest.start + end),
+    }
+}
+
+/// What is left after the next stop. Its mark is the lowest, where it has one.
+#[inline(always)]
+pub fn after_stop<'a>(rest: Rest<'a>, end: usize) -> Rest<'a>
+    requires marks { AreMarks rest.window.now rest.start rest.marks }
+    requires next { IsFirstStopFrom rest.window.now rest.start end }
+    ensures within { result.start ≤ length result.window.now }
+    ensures marks { AreMarks result.window.now result.start result.marks }
+    ensures after { drop result.start result.window.now ≡ drop (end + 1) rest.entry.window.now }
+{
+    Rest {
+        window: rest.window,
+        start: end + 1,
+        marks: without_lowest(rest.marks),
+    }
+}
+
+/// The first stop of a text, wherever it is. It is looked for where no stop is near.
+#[cold]
 #[inline(never)]
-fn far_stop(text: &[u8]) -> Option<(usize, u64)>
-    ensures { MatchOption result (HasNoStop text.now)
-        (λ next. IsFirstStop text.now next.0 × AreMarks (drop (next.0 + 1) text.now) next.1) }
+fn far_stop(text: &[u8]) -> Option<usize>
+    ensures { MatchOption result (HasNoStop text.now) (λ end. IsFirstStop text.now end) }
 {
     let mut passed = 0;
     'parts: while text.len() - passed >= MARKED {
         let marks = marks_of(text_from(text, passed));
         if marks != 0 {
-            let end = lowest(marks);
-            return Some((passed + end, marks_after(marks, end)));
+            return Some(passed + lowest(marks));
         }
         passed += MARKED;
     }
     match last_stop(text_from(text, passed)) {
         None => None,
-        Some(end) => Some((passed + end, 0)),
+        Some(end) => Some(passed + end),
     }
 }
 
@@ -67,19 +133,10 @@ fn last_stop(text: &[u8]) -> Option<usize>
     memchr2(b' ', b'\n', text)
 }
 
-/// These marks of a text, or where there are none those of its next bytes.
-#[inline(always)]
-fn marks_here(text: &[u8], marks: u64) -> u64
-    requires { AreMarks text.now marks }
-    ensures { AreMarks text.now result }
-{
-    if marks == 0 { marks_of(text) } else { marks }
-}
-
 /// The marks of the stops among the next bytes; none where there are too few bytes.
 #[inline(always)]
 fn marks_of(text: &[u8]) -> u64
-    ensures marks { AreMarks text.now result }
+    ensures marks { AreMarks text.now 0 result }
     ensures none { result ≡ 0 → MARKED ≤ length text.now → NoStopBelow text.now MARKED }
 {
     if text.len() < MARKED {
@@ -110,11 +167,10 @@ fn lowest(marks: u64) -> usize
     marks.trailing_zeros() as usize
 }
 
-/// The marks after one, which are those of the text after it.
+/// The marks without the lowest: those that have another below them.
 #[inline(always)]
-fn marks_after(marks: u64, end: usize) -> u64
-    requires { end < 64 }
-    ensures { (k : ℕ) → bit_at result k ≡ bit_at marks (end + (1 + k)) }
+fn without_lowest(marks: u64) -> u64
+    ensures { (k : ℕ) → (bit_at result k ≡ 1) ↔ ((bit_at marks k ≡ 1) × HasMarkBelow marks k) }
 {
-    marks >> end >> 1
+    marks & marks.wrapping_sub(1)
 }

@@ -1,23 +1,17 @@
 -- What is found in the rest of the text is found in the text, since no stop was passed.
 use Rattle.std.proofs.Common.{arith, length, ap}
 use Rattle.std.proofs.lemmas.List.{length-drop}
-use Rattle.text_lines.proofs.Marks.{first_further, lowest_first, marks_further, no_marks, none_at_all, none_further}
-use Rattle.text_lines.proofs.Marks.{rest_marked}
+use Rattle.text_lines.proofs.Marks.{first_further, lowest_next, next_first, none_at_all, none_further}
 use Rattle.text_lines.proofs.stops.far_stop.Goals as goal
 
 pub returns-then-marks-ne0 : goal.returns-then-marks-ne0
 returns-then-marks-ne0 c =
-    let text = c.args.text.now in
     let rest = c.text_from.result.now in
-    let passed = c.parts.passed in
-    let marks = c.marks_of-marks.result in
-    let end = c.lowest-end.result in (
-      first_further text rest passed end c.parts.invariant.within c.text_from.ensures c.parts.invariant.none
-          (lowest_first rest marks end c.marks_of-marks.ensures.marks c.lowest-end.ensures.marked
-          c.lowest-end.ensures.below),
-      marks_further text rest passed end c.marks_after.result c.text_from.ensures
-          (rest_marked rest marks end c.marks_after.result c.marks_of-marks.ensures.marks c.marks_after.ensures),
-    )
+    let end = c.lowest.result in
+    let next = lowest_next rest 0 c.marks_of-marks.result end c.marks_of-marks.ensures.marks c.lowest.ensures.marked
+    c.lowest.ensures.below in
+    first_further c.args.text.now rest c.parts.passed end c.parts.invariant.within c.text_from.ensures
+    c.parts.invariant.none (next_first rest end next)
 
 pub parts-preserved : goal.parts-preserved
 parts-preserved c =
@@ -36,8 +30,6 @@ returns-in-None c =
     c.parts.invariant.none c.in-None.ensures
 
 pub returns-in-Some : goal.returns-in-Some
-returns-in-Some c = (
-  first_further c.args.text.now c.text_from-2.result.now c.parts.passed c.in-Some.end c.parts.invariant.within
-      c.text_from-2.ensures c.parts.invariant.none c.in-Some.ensures,
-  no_marks _,
-)
+returns-in-Some c =
+    first_further c.args.text.now c.text_from-2.result.now c.parts.passed c.in-Some.end c.parts.invariant.within
+    c.text_from-2.ensures c.parts.invariant.none c.in-Some.ensures

@@ -10,7 +10,7 @@ impl Fill {
     pub fn bytes(self, filled: &[u8]) -> &[u8]
         ensures { result.now ≡ (fill_of filled.now self).bytes }
     {
-        let (_, rest) = filled.split_at(self.start.min(filled.len()));
-        &rest[..self.len.min(rest.len())]
+        let (_, rest) = filled.split_at(filled.len().min(self.start as usize));
+        &rest[..rest.len().min(self.len as usize)]
     }
 }

@@ -18,9 +18,9 @@ pub struct Image<A: Allocator = Global> {
 pub struct Fill {
     pub addr: u64,
     /// How many of the script's bytes come before its own.
-    pub start: usize,
+    pub start: u32,
     /// How many bytes it has.
-    pub len: usize,
+    pub len: u32,
 }
 
 /// A system call with its answer.

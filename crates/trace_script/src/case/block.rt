@@ -1,6 +1,6 @@
 //! The block that is open while a case file is read: its script so far, and what the next step is tested against.
 
-ghost use Rattle.std.specs.Prelude.{◌≡◌, ◌<◌, ◌≤◌, ◌++◌, ◌∷◌, [], ℕ, IfOk, List, None, OnOk, length};
+ghost use Rattle.std.specs.Prelude.{◌≡◌, ◌<◌, ◌≤◌, ◌++◌, ◌^◌, ◌∷◌, [], ℕ, IfErr, IfOk, List, None, OnOk, length};
 ghost use Rattle.std.specs.Prelude.{option_to_list};
 ghost use Rattle.trace_script.specs.CaseFile.{children_of, fill_fault, late_of, next_step_fault, no_script};
 ghost use Rattle.trace_script.specs.CaseFile.{place_after, step_fault};
@@ -255,11 +255,24 @@ fn keep_fill<A: Allocator>(
     let Some(fill) = fill else {
         return Ok(None);
     };
-    let start = filled.len();
+    let start = kept_count(filled.len())?;
+    let len = kept_count(fill.bytes.len() / 2)?;
     decode_onto(fill.bytes, filled)?;
     Ok(Some(Fill {
         addr: fill.addr,
         start,
-        len: fill.bytes.len() / 2,
+        len,
     }))
+}
+
+/// A count of bytes as it is kept. A file has fewer bytes than 32 bits count, and a case has room for less memory than
+/// that.
+fn kept_count(count: usize) -> Result<u32, NoMemory>
+    ensures kept { IfOk result (λ kept. kept ≡ count) }
+    ensures refused { IfErr result (λ e. 2 ^ 32 ≤ count) }
+{
+    match u32::try_from(count) {
+        Ok(kept) => Ok(kept),
+        Err(_) => Err(NoMemory),
+    }
 }

@@ -32,13 +32,13 @@ pub enum Keyword {
     End,
 }
 
-/// The first words of lines.
+/// The first words of lines. Most lines are calls, so their word is compared first.
 const KEYWORDS: [(&str, Keyword); 11] = [
+    ("call", Keyword::Call),
     ("tracee", Keyword::Tracee),
     ("page", Keyword::Page),
     ("data", Keyword::Data),
     ("at", Keyword::At),
-    ("call", Keyword::Call),
     ("fork", Keyword::Fork),
     ("thread", Keyword::Thread),
     ("exec", Keyword::Exec),

@@ -1,5 +1,5 @@
 -- The bytes of a fill are the last ones.
-use Rattle.std.proofs.Common.{List, Some, ap, arith, sym, ℕ}
+use Rattle.std.proofs.Common.{List, Some, ap, arith, ℕ}
 use Rattle.trace_script.specs.CaseLine.{bytes_written}
 use Rattle.trace_script.specs.Script.{Fill}
 use Rattle.trace_script.proofs.ByteWords.{bytes_are_halves}
@@ -14,6 +14,6 @@ returns-clause-fill g c more =
     let with_bytes : List ℕ → Fill = λ bytes. record { address = fill.addr; bytes = bytes } in
     rw c.in-Some.is (
     ap (λ bytes. Some (with_bytes bytes))
-    (fill_added filled.items (bytes_written fill.bytes.now) c.decode_onto.new.bytes.items more c.len-start.result _
-    c.in_ok-decode_onto.ensures (omega (arith, c.len-start.ensures, filled.ok.0))
-    (sym (bytes_are_halves fill.bytes.now tested))))
+    (fill_added filled.items (bytes_written fill.bytes.now) c.decode_onto.new.bytes.items more _ _
+    c.in_ok-decode_onto.ensures (omega (arith, c.in_ok-start.ensures.kept, c.len.ensures, filled.ok.0))
+    (omega (arith, c.in_ok-len.ensures.kept, bytes_are_halves fill.bytes.now tested))))

@@ -30,10 +30,13 @@ too_large : (n : ℕ) (o : Option ℕ) → 2 ^ 64 ≤ n → AtLeast n o → with
 too_large n None h k = refl
 too_large n (Some m) h k = let above : 2 ^ 64 ≤ m = omega arith in rw (le-ltb m (2 ^ 64) above)
 
+pub fits_u64 : (n : ℕ) → n < 2 ^ 64 → within_u64 (Some n) ≡ Some n
+fits_u64 n small = rw (lt-ltb n (2 ^ 64) small) refl
+
 overflown : (n : ℕ) → within_u64 (Some n) ≡ None → 2 ^ 64 ≤ n
 overflown n h =
     elim (cases_lt n (2 ^ 64)) [
-      | inl fits ↦ let is : within_u64 (Some n) ≡ Some n = rw (lt-ltb n (2 ^ 64) fits) in cc
+      | inl fits ↦ let is = fits_u64 n fits in cc
       | inr above ↦ above
     ]
 
@@ -191,9 +194,6 @@ only_one (c ∷ d ∷ digits) some few = absurd (omega arith)
 pub no_more : (n : ℕ) (digits : List ℕ) → length digits < 1 → digits_after 16 n digits ≡ Some n
 no_more n [] few = refl
 no_more n (c ∷ digits) few = absurd (omega arith)
-
-pub fits_u64 : (n : ℕ) → n < 2 ^ 64 → within_u64 (Some n) ≡ Some n
-fits_u64 n small = rw (lt-ltb n (2 ^ 64) small) refl
 
 pub some_digits : (digits : List ℕ) → false ≡ eqb (length digits) 0 → digits_after 16 0 digits ≡ numeral 16 digits
 some_digits [] some = absurd (let clash : false ≡ true = some in cc)

@@ -265,8 +265,8 @@ fn keep_fill<A: Allocator>(
     }))
 }
 
-/// A count of bytes as it is kept. A file has fewer bytes than 32 bits count, and a case has room for less memory than
-/// that.
+/// A count of bytes as it is kept. No file is long enough for a count that 32 bits do not hold; it would be refused as want
+/// of memory.
 fn kept_count(count: usize) -> Result<u32, NoMemory>
     ensures kept { IfOk result (λ kept. kept ≡ count) }
     ensures refused { IfErr result (λ e. 2 ^ 32 ≤ count) }

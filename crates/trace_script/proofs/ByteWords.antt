@@ -33,25 +33,22 @@ some_of : (o : Option ℕ) → is_some o ≡ true → (v : ℕ) × (o ≡ Some v
 some_of (Some v) is = (v, refl)
 some_of None is = absurd (let clash : false ≡ true = is in cc)
 
-pair_is : (high low a b i : ℕ) → hex_digit_value high ≡ Some a → hex_digit_value low ≡ Some b
+-- two digits write a byte, wherever they are
+pub pair_is : (high low a b i : ℕ) → hex_digit_value high ≡ Some a → hex_digit_value low ≡ Some b
     → pair_value high low i ≡ Ok (a * 16 + b)
 pair_is high low a b i is_high is_low =
     let first : value_at high i ≡ Ok a = ap (digit_or_error high i) is_high in
     let second : value_at low (i + 1) ≡ Ok b = ap (digit_or_error low (i + 1)) is_low in
     rw (first, second) refl
 
--- two digits write a byte, wherever they are
-pub pair_read : (high low : ℕ) → is_hex_digit high ≡ true → is_hex_digit low ≡ true
-    → (v : ℕ) × ((i : ℕ) → pair_value high low i ≡ Ok v)
-pair_read high low is_high is_low =
-    let a = some_of (hex_digit_value high) is_high in
-    let b = some_of (hex_digit_value low) is_low in
-    (a.0 * 16 + b.0, λ i. pair_is high low a.0 b.0 i a.1 b.1)
-
--- and decoded alone they are this byte
-pub pair_alone : (high low v : ℕ) → pair_value high low 0 ≡ Ok v → decode_sized (high ∷ low ∷ []) 1 ≡ Ok (v ∷ [])
+-- a digit that is decoded after a 0 is its value
+pub value_alone : (digit : ℕ) → is_hex_digit digit ≡ true
+    → (v : ℕ) × (hex_digit_value digit ≡ Some v) × (decode_sized (48 ∷ digit ∷ []) 1 ≡ Ok (v ∷ []))
 unfolding decode_pairs
-pair_alone high low v is = decode_pairs-ok_pair 0 high low v [] is
+value_alone digit is =
+    let value = some_of (hex_digit_value digit) is in
+    let written : 0 * 16 + value.0 ≡ value.0 = omega arith in
+    (value.0, value.1, decode_pairs-ok_pair 0 48 digit value.0 [] (pair_is 48 digit 0 value.0 0 refl value.1 ∙ ap Ok written))
 
 word_parts : (word : List ℕ) → is_byte_word word ≡ true
     → (length word % 2 ≡ 0) × ((k : ℕ) → k < length word → is_hex_digit (get_or word k 0) ≡ true)

@@ -6,6 +6,7 @@ pub mod CaseFile
 pub mod CaseLine
 pub mod CaseSpelling
 pub mod Cause
+pub mod DigitValues
 pub mod Draft
 pub mod Fills
 pub mod Kept

@@ -14,6 +14,7 @@ ghost use Rattle.trace_script.specs.Reading.{Refuses};
 
 mod block;
 mod call;
+mod digits;
 mod draft;
 mod image;
 mod keyword;

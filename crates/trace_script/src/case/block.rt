@@ -9,6 +9,7 @@ ghost use Rattle.trace_script.specs.Kept.{fill_in, image_of, script_by, script_o
 ghost use Rattle.trace_script.specs.OpenBlock.{IsCounted, IsSmallStep, exec_after, fill_bytes, filled_by};
 ghost use Rattle.trace_script.specs.RawLine.{IsTestedCall, IsTestedFill, IsTestedStep, call_said, fill_said, step_said};
 
+use crate::case::digits::DigitValues;
 use crate::case::image::{close_image, decode_onto, no_image};
 use crate::case::keyword::Place;
 use crate::case::late::{Late, LateStep};
@@ -116,6 +117,7 @@ fn fill_fault<A: Allocator>(image: &Image<A>, fill: Option<RawFill>) -> Option<C
 /// Adds a step that has no fault to a block. The image that the lines before it described is closed.
 pub fn add_step<A: Allocator + Copy>(
     alloc: A,
+    digits: &DigitValues,
     place: Place,
     block: &mut Block<A>,
     step: RawStep,
@@ -132,7 +134,7 @@ pub fn add_step<A: Allocator + Copy>(
     ensures counted { OnOk result (IsCounted block.new) }
 {
     close_loaded(place, &mut block.script);
-    let kept = keep_step(alloc, &mut block.script.filled, step)?;
+    let kept = keep_step(alloc, digits, &mut block.script.filled, step)?;
     let at = block.script.steps.len();
     block.script.steps.push(kept)?;
     block.exec = exec_after(block.exec, at, step);
@@ -203,6 +205,7 @@ pub fn late_of(line: u32, row: u32, births: u32, step: RawStep) -> Option<Late>
 /// The step as it is kept; the bytes that it writes are added to those of the steps before it.
 fn keep_step<A: Allocator + Copy>(
     alloc: A,
+    digits: &DigitValues,
     filled: &mut Vec<u8, A>,
     step: RawStep,
 ) -> Result<Step<A>, NoMemory>
@@ -213,7 +216,7 @@ fn keep_step<A: Allocator + Copy>(
         IfOk result (λ kept. step_of (filled.new.items ++ more) kept ≡ step_said step.entry) }
 {
     match step {
-        RawStep::Call(call) => keep_call(filled, call),
+        RawStep::Call(call) => keep_call(digits, filled, call),
         RawStep::Fork(child) => Ok(Step::Fork(child)),
         RawStep::Thread(child) => Ok(Step::Thread(child)),
         RawStep::Exec(path) => Ok(Step::Exec {
@@ -228,13 +231,17 @@ fn keep_step<A: Allocator + Copy>(
     }
 }
 
-fn keep_call<A: Allocator>(filled: &mut Vec<u8, A>, call: RawCall) -> Result<Step<A>, NoMemory>
+fn keep_call<A: Allocator>(
+    digits: &DigitValues,
+    filled: &mut Vec<u8, A>,
+    call: RawCall,
+) -> Result<Step<A>, NoMemory>
     requires { IsTestedCall call }
     ensures filled { OnOk result (filled.new.items ≡ filled.old.items ++ filled_by (call_said call.entry)) }
     ensures step { (more : List ℕ) →
         IfOk result (λ kept. step_of (filled.new.items ++ more) kept ≡ call_said call.entry) }
 {
-    let fill = keep_fill(filled, call.fill)?;
+    let fill = keep_fill(digits, filled, call.fill)?;
     Ok(Step::Call(Call {
         nr: call.nr,
         args: call.args,
@@ -244,6 +251,7 @@ fn keep_call<A: Allocator>(filled: &mut Vec<u8, A>, call: RawCall) -> Result<Ste
 }
 
 fn keep_fill<A: Allocator>(
+    digits: &DigitValues,
     filled: &mut Vec<u8, A>,
     fill: Option<RawFill>,
 ) -> Result<Option<Fill>, NoMemory>
@@ -257,7 +265,7 @@ fn keep_fill<A: Allocator>(
     };
     let start = kept_count(filled.len())?;
     let len = kept_count(fill.bytes.len() / 2)?;
-    decode_onto(fill.bytes, filled)?;
+    decode_onto(digits, fill.bytes, filled)?;
     Ok(Some(Fill {
         addr: fill.addr,
         start,

@@ -11,6 +11,7 @@ ghost use Rattle.trace_script.specs.Reading.{TakesLine};
 use crate::case::block::{
     Block, add_step, close_loaded, late_of, new_block, next_step_fault, place_after,
 };
+use crate::case::digits::DigitValues;
 use crate::case::image::load_part;
 use crate::case::keyword::Place;
 use crate::case::late::Late;
@@ -36,6 +37,8 @@ pub struct Draft<A: Allocator> {
     pub block: Block<A>,
     /// The steps that are tested after the last line, in the order of lines.
     pub late: Vec<Late, A>,
+    /// What the bytes of lines are read by.
+    pub digits: DigitValues,
 }
 
 /// A draft of nothing.
@@ -49,6 +52,7 @@ pub fn new_draft<A: Allocator + Copy>(alloc: A) -> Draft<A>
         scripts: Vec::new(alloc),
         block: new_block(alloc),
         late: Vec::new(alloc),
+        digits: DigitValues::new(),
     }
 }
 
@@ -113,7 +117,7 @@ fn load_in_block<A: Allocator + Copy>(
         (with_line 0 (reading_of draft.old) (line.Loads (part_said part.entry))) }
     ensures counted { OnOk result (IsCounted draft.new.block) }
 {
-    load_part(alloc, &mut draft.block.script, part)
+    load_part(alloc, &draft.digits, &mut draft.block.script, part)
 }
 
 /// Takes one more step.
@@ -137,7 +141,7 @@ fn take_step<A: Allocator + Copy>(
     if push_late(&mut draft.late, late).is_err() {
         return Err(Cause::NoMemory);
     }
-    if add_step(alloc, draft.place, &mut draft.block, step).is_err() {
+    if add_step(alloc, &draft.digits, draft.place, &mut draft.block, step).is_err() {
         return Err(Cause::NoMemory);
     }
     draft.place = place_after(step);

@@ -1,7 +1,6 @@
 //! The image that the lines after `tracee` and `exec` describe, part by part.
 
-ghost use Rattle.hex.specs.Hex.{is_hex_digit, pair_value};
-ghost use Rattle.std.specs.Prelude.{◌≡◌, ◌++◌, ◌/◌, ◌%◌, ℕ, List, Ok, OnOk, true, IfOk, length};
+ghost use Rattle.std.specs.Prelude.{◌≡◌, ◌++◌, ◌/◌, ◌%◌, ℕ, List, OnOk, true, IfOk, length};
 ghost use Rattle.trace_script.specs.CaseFile.{page_loaded, part_loaded, part_of_last, part_of_script, part_of_step};
 ghost use Rattle.trace_script.specs.CaseLine as line;
 ghost use Rattle.trace_script.specs.CaseLine.{bytes_written, is_byte_word, no_image};
@@ -10,10 +9,10 @@ ghost use Rattle.trace_script.specs.RawLine.{IsTestedPart, part_said};
 ghost use Rattle.trace_script.specs.Reading.{TakesLine};
 ghost use Rattle.trace_pages.specs.Memory.{map_refusal};
 
+use crate::case::digits::DigitValues;
 use crate::case::raw_line::RawPart;
 use crate::cause::Cause;
 use crate::script::{Image, Script, Step};
-use hex::FromHex;
 use std::alloc::Allocator;
 use trace_pages::{MapError, Memory, NoMemory, PAGE_SIZE};
 
@@ -29,56 +28,50 @@ pub fn no_image<A: Allocator + Copy>(alloc: A) -> Image<A>
 }
 
 /// The bytes that a byte word writes.
-pub fn decode<A: Allocator + Copy>(alloc: A, word: &[u8]) -> Result<Vec<u8, A>, NoMemory>
+pub fn decode<A: Allocator + Copy>(
+    alloc: A,
+    digits: &DigitValues,
+    word: &[u8],
+) -> Result<Vec<u8, A>, NoMemory>
     requires { is_byte_word word.now ≡ true }
     ensures { IfOk result (λ bytes. bytes.items ≡ bytes_written word.now) }
 {
     let mut bytes = Vec::new(alloc);
-    decode_onto(word, &mut bytes)?;
+    decode_onto(digits, word, &mut bytes)?;
     Ok(bytes)
 }
 
 /// Adds the bytes that a byte word writes to others.
-pub fn decode_onto<A: Allocator>(word: &[u8], bytes: &mut Vec<u8, A>) -> Result<(), NoMemory>
+pub fn decode_onto<A: Allocator>(
+    digits: &DigitValues,
+    word: &[u8],
+    bytes: &mut Vec<u8, A>,
+) -> Result<(), NoMemory>
     requires { is_byte_word word.now ≡ true }
     ensures { OnOk result (bytes.new.items ≡ bytes.old.items ++ bytes_written word.now) }
 {
     let count = bytes.len();
     bytes.resize(count + word.len() / 2, 0)?;
-    decode_into(word, &mut bytes[count..]);
+    decode_into(digits, word, &mut bytes[count..]);
     Ok(())
 }
 
-/// Writes the bytes of a byte word to room for them. No pair of digits ends the loop early, so that it is compiled to
-/// steps of many pairs at once.
+/// Writes the bytes of a byte word to room for them.
 #[inline(never)]
-fn decode_into(word: &[u8], bytes: &mut [u8])
+fn decode_into(digits: &DigitValues, word: &[u8], bytes: &mut [u8])
     requires word { is_byte_word word.now ≡ true }
     requires room { length bytes.old ≡ length word.now / 2 }
     ensures { bytes.new ≡ bytes_written word.now }
 {
     for i in 0..bytes.len() {
-        bytes[i] = byte_of(word[2 * i], word[2 * i + 1]);
-    }
-}
-
-/// The byte that two digits write. Since they are digits, no error is met; one in place of a byte costs no branch.
-#[inline(always)]
-fn byte_of(high: u8, low: u8) -> u8
-    requires high { is_hex_digit high ≡ true }
-    requires low { is_hex_digit low ≡ true }
-    ensures { (i : ℕ) → pair_value high low i ≡ Ok result }
-{
-    let digits = [high, low];
-    match <[u8; 1]>::from_hex(digits.as_slice()) {
-        Ok(byte) => byte[0],
-        Err(_) => 0,
+        bytes[i] = digits.byte_of(word[2 * i], word[2 * i + 1]);
     }
 }
 
 /// Loads one more part of the image that is described now: the script's own, or that of its last step, an exec.
 pub fn load_part<A: Allocator + Copy>(
     alloc: A,
+    digits: &DigitValues,
     script: &mut Script<A>,
     part: RawPart,
 ) -> Result<(), Cause>
@@ -89,14 +82,15 @@ pub fn load_part<A: Allocator + Copy>(
 {
     let count = script.steps.len();
     if count == 0 {
-        return load_in_image(alloc, &mut script.image, part);
+        return load_in_image(alloc, digits, &mut script.image, part);
     }
-    load_in_step(alloc, &mut script.steps[count - 1], part)
+    load_in_step(alloc, digits, &mut script.steps[count - 1], part)
 }
 
 /// Loads one more part of an exec's image.
 fn load_in_step<A: Allocator + Copy>(
     alloc: A,
+    digits: &DigitValues,
     step: &mut Step<A>,
     part: RawPart,
 ) -> Result<(), Cause>
@@ -105,13 +99,14 @@ fn load_in_step<A: Allocator + Copy>(
         (part_of_step (step_of filled step.old) (part_said part.entry)) }
 {
     match step {
-        Step::Exec { image, .. } => load_in_image(alloc, image, part),
+        Step::Exec { image, .. } => load_in_image(alloc, digits, image, part),
         _ => Ok(()),
     }
 }
 
 fn load_in_image<A: Allocator + Copy>(
     alloc: A,
+    digits: &DigitValues,
     image: &mut Image<A>,
     part: RawPart,
 ) -> Result<(), Cause>
@@ -120,7 +115,7 @@ fn load_in_image<A: Allocator + Copy>(
 {
     match part {
         RawPart::Page(page) => map_page(image, page),
-        RawPart::Data(addr, bytes) => put_bytes(alloc, image, addr, bytes),
+        RawPart::Data(addr, bytes) => put_bytes(alloc, digits, image, addr, bytes),
         RawPart::Start(rip, rsp) => {
             image.rip = rip;
             image.rsp = rsp;
@@ -146,6 +141,7 @@ fn map_page<A: Allocator + Copy>(image: &mut Image<A>, page: u64) -> Result<(), 
 /// Stores the bytes of a byte word. They are decoded once it is known that their addresses are mapped.
 fn put_bytes<A: Allocator + Copy>(
     alloc: A,
+    digits: &DigitValues,
     image: &mut Image<A>,
     addr: u64,
     word: &[u8],
@@ -157,7 +153,7 @@ fn put_bytes<A: Allocator + Copy>(
     if image.memory.check_run(addr, word.len() / 2).is_err() {
         return Err(Cause::Unmapped);
     }
-    let Ok(bytes) = decode(alloc, word) else {
+    let Ok(bytes) = decode(alloc, digits, word) else {
         return Err(Cause::NoMemory);
     };
     match image.memory.store(addr, bytes.as_slice()) {

@@ -6,11 +6,11 @@ ghost use Rattle.trace_script.specs.DigitValues.{AreDigitValues};
 
 use hex::FromHex;
 
-/// How many bytes there are.
+/// How many values a byte has.
 const BYTES: usize = 256;
 
-/// The value of each byte as a hexadecimal digit; 0 of a byte that is none. The kit decodes each digit once. A file has
-/// millions of them, and the bytes that they write are put together from the values here.
+/// The value of each byte as a hexadecimal digit; 0 where it is none. The kit decodes each digit once, and the bytes of a
+/// file, which may have millions of digits, are put together from their values.
 #[derive(Drop)]
 pub struct DigitValues {
     values: [u8; BYTES],
@@ -18,6 +18,7 @@ pub struct DigitValues {
 }
 
 impl DigitValues {
+    /// The table, as the kit decodes each digit.
     pub fn new() -> DigitValues {
         let mut values = [0u8; BYTES];
         for i in 0..BYTES {

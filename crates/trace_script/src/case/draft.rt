@@ -37,7 +37,7 @@ pub struct Draft<A: Allocator> {
     pub block: Block<A>,
     /// The steps that are tested after the last line, in the order of lines.
     pub late: Vec<Late, A>,
-    /// What the bytes of lines are read by.
+    /// The values of the digits in byte words.
     pub digits: DigitValues,
 }
 

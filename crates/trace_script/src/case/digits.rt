@@ -9,8 +9,8 @@ use hex::FromHex;
 /// How many values a byte has.
 const BYTES: usize = 256;
 
-/// The value of each byte as a hexadecimal digit; 0 where it is none. The kit decodes each digit once, and the bytes of a
-/// file, which may have millions of digits, are put together from their values.
+/// The value of each hexadecimal digit, at the place that its byte says. The other places are never looked up. The kit
+/// decodes each digit once, and the bytes of a file, which may have millions of digits, are put together from their values.
 #[derive(Drop)]
 pub struct DigitValues {
     values: [u8; BYTES],
@@ -38,7 +38,7 @@ impl DigitValues {
     }
 }
 
-/// The value of a byte as a digit: that of the byte that it writes after a 0; 0 where it is none.
+/// The value of a digit: that of the byte that it writes after a 0. Of a byte that is no digit any number serves.
 fn value_of(byte: u8) -> u8
     ensures { is_hex_digit byte ≡ true → hex_digit_value byte ≡ Some result }
 {

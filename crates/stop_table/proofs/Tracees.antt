@@ -221,7 +221,7 @@ restart_ranged phase.Reaped how ranged is = cc
 pub takes_row_up : (rows : List Row) (m n o p : Seated) (row : ℕ) (word w : Word) (how : Restart) (content : Content)
     → (t : IsTracee rows m row word false) → (s : Saw m n row w) → IsWord w → restart_in w.phase ≡ Ok how → Looked n.0 o.0
     → is_born n.0.roster (history_of o.0.seen) row ≡ true → o.1 ≡ n.1 → TookUp o p row content
-    → TakesUp m.0 p.0 row how content × IsTracee rows p row (taken_up w) true
+    → TakesUp m.0 p.0 row how content × IsTracee rows p row w true
 takes_row_up rows m n o p row word w how content t s ranged is second born slots took =
     let looked = one_look m n row w s in
     let whole = looked_on m.0 n.0 o.0 looked second in
@@ -303,7 +303,7 @@ held_tracee rows m row word holds t is = subst (IsTracee rows m row word) (sym t
 -- what a handle that has its row taken up knows of it, in terms of its own view
 pub holds_row : (rows : List Row) (m : Seated) (row : ℕ) (word : Word) → IsTracee rows m row word true
     → (m.1 ≡ (place row, None) ∷ rest m.1) × (mover_of row (cell_after m.0.roster m.0.seen row).phase ≡ Some (Tracee row))
-    × (word ≡ word_of true (cell_after m.0.roster m.0.seen row))
+    × (taken_up word ≡ word_of true (cell_after m.0.roster m.0.seen row))
 holds_row rows m row word t =
     let h = t.holding refl in (
       h.0 ∙ ap (λ d. (place row, None) ∷ d) (ap rest (sym h.0)),

@@ -1,10 +1,13 @@
 -- Several claims of one tracer: their slots are turned until the one that is wanted is in front, and the rows with
--- them.
+-- them. The rows are kept with the one claimed last at the end.
 use Rattle.std.proofs.Common.{refl, ◌≡◌, ◌<◌, ◌+◌, ◌∷◌, ◌++◌, ◌||◌, ◌==◌, [], ℕ, Bool, true, false, List, Option, None}
-use Rattle.std.proofs.Common.{length, drop, take, get_or, ◌∙◌, sym, ap, subst, arith, eq-eqb, ne_eqb, inl, inr, Some}
-use Rattle.std.proofs.lemmas.Bool.{cases_eq, eqb-false, false≢true, lt-ltb, or_from, or_parts}
+use Rattle.std.proofs.Common.{IsPermutation, length, drop, take, get_or, reverse, ◌∙◌, sym, ap, subst, arith, eq-eqb, ne_eqb, inl, inr, Some}
+use Rattle.std.proofs.lemmas.Bool.{cases_eq, eqb-false, eqb-true, false≢true, lt-ltb, or_from, or_parts}
 use Rattle.std.proofs.lemmas.List.{append-nil, append_assoc, drop_more, map_push, take-append-drop}
-use Rattle.std.proofs.lemmas.List.{take_more}
+use Rattle.std.proofs.lemmas.List.{length-drop, length-reverse, reverse-append, reverse-reverse, take_more}
+use Rattle.std.proofs.lemmas.List.Quantifiers.{position-Some}
+use Rattle.std.proofs.lemmas.List.Sorted.{IsPermutation-reverse, list_any-IsPermutation}
+use Rattle.std.proofs.Math.Seq.{drop-append_seam, take-append_seam}
 use Rattle.std.proofs.lemmas.List.Folds.{list_any-append}
 use Rattle.std.specs.List.{position, position_or_len}
 use Rattle.atomic_table.specs.Table.{turned}
@@ -87,3 +90,45 @@ pub has_place : (row : ℕ) (rows : List ℕ) → is_among row rows ≡ true →
 has_place row rows among none =
     let found : position (λ n. n == row) rows ≡ Some (position_or_len (λ n. n == row) rows) =
     rw (lt-ltb _ _ (row_below row rows among)) in cc
+
+-- ---- rows that are kept the other way round
+
+pub among_reversed : (row : ℕ) (rows : List ℕ) → is_among row (reverse rows) ≡ is_among row rows
+among_reversed row rows =
+    list_any-IsPermutation (λ n. row == n) (reverse rows) rows
+    (subst (IsPermutation (reverse rows)) (reverse-reverse rows) (IsPermutation-reverse (reverse rows)))
+
+-- as many turns as there are rows behind a place bring the row there to the end
+pub turned_behind : (rows : List ℕ) (at turns : ℕ) → at < length rows → turns + at + 1 ≡ length rows
+    → reverse (drop (at + 1) rows ++ take (at + 1) rows) ≡ drop turns (reverse rows) ++ take turns (reverse rows)
+turned_behind rows at turns within count =
+    let front = reverse (drop (at + 1) rows) in
+    let back = reverse (take (at + 1) rows) in
+    let whole : reverse rows ≡ front ++ back =
+    ap reverse (sym (take-append-drop (at + 1) rows)) ∙ reverse-append (take (at + 1) rows) (drop (at + 1) rows) in
+    let long : length front ≡ turns =
+    length-reverse (drop (at + 1) rows) ∙ length-drop (at + 1) rows ∙ omega arith in
+    let later : drop turns (reverse rows) ≡ back =
+    ap (drop turns) whole ∙ ap (λ n. drop n (front ++ back)) (sym long) ∙ drop-append_seam front back in
+    let sooner : take turns (reverse rows) ≡ front =
+    ap (take turns) whole ∙ ap (λ n. take n (front ++ back)) (sym long) ∙ take-append_seam front back in
+    reverse-append (drop (at + 1) rows) (take (at + 1) rows)
+    ∙ ap (λ l. back ++ l) (sym sooner) ∙ ap (λ l. l ++ take turns (reverse rows)) (sym later)
+
+-- the place of a row has the row
+pub placed : (row : ℕ) (rows : List ℕ) (at : ℕ) → position (λ n. n == row) rows ≡ Some at
+    → (at < length rows) × (get_or rows at 0 ≡ row)
+placed row rows at is =
+    let found = position-Some (λ n. n == row) rows at 0 is in
+    (found.0, eqb-true (get_or rows at 0) row found.1)
+
+-- the row at a place is the first of those up to it
+pub first_reversed : (rows others : List ℕ) (at row : ℕ) → at < length rows → get_or rows at 0 ≡ row
+    → (more : List ℕ) × (reverse (others ++ take (at + 1) rows) ≡ row ∷ more)
+first_reversed rows others at row within is = (
+  reverse (take at rows) ++ reverse others,
+  reverse-append others (take (at + 1) rows)
+      ∙ ap (λ l. reverse l ++ reverse others) (take_more rows at 0 within)
+      ∙ ap (λ l. l ++ reverse others) (reverse-append (take at rows) (get_or rows at 0 ∷ []))
+      ∙ ap (λ r. r ∷ (reverse (take at rows) ++ reverse others)) is,
+)

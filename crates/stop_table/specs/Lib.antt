@@ -1,3 +1,4 @@
+pub mod Boxed
 pub mod Claiming
 pub mod Entry
 pub mod Group

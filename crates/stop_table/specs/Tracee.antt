@@ -4,6 +4,7 @@ use Rattle.atomic_table.specs.Seated.{TableId}
 use Rattle.stop_history.specs.declared.actor.Actor.TheVariants as actor
 use Rattle.stop_history.specs.declared.roster.Row.{Row}
 use Rattle.stop_history.specs.Actor.{mover_of}
+use Rattle.stop_history.specs.Change.{taken_up}
 use Rattle.stop_history.specs.Roster.{IsRoster}
 use Rattle.stop_history.specs.Word.{Word}
 use Rattle.stop_table.specs.Entry.{AreLegal, cell_after, word_of}
@@ -25,7 +26,8 @@ pub record IsTraceeHandle (e : TraceeHandle) : Type 0 where
   pub tracers : e.view.tracers ≡ []
   pub legal : AreLegal e.view.roster e.view.seen
 
--- what is kept of it: while it has its row taken up, the slot is out with it, empty
+-- what is kept of it: while it has its row taken up, the slot is out with it, empty, and `word` is what the row's word
+-- was before
 pub record IsTracee (rows : List Row) (me : Seated) (row : ℕ) (word : Word) (holds : Bool) : Type 0 where
   pub low : row < length rows
   pub roster_is : me.0.roster ≡ rows
@@ -36,5 +38,5 @@ pub record IsTracee (rows : List Row) (me : Seated) (row : ℕ) (word : Word) (h
   pub legal : AreLegal rows me.0.seen
   pub holding : holds ≡ true → (me.1 ≡ (place row, None) ∷ [])
       × (mover_of row (cell_after rows me.0.seen row).phase ≡ Some (actor.Tracee row))
-      × (word ≡ word_of true (cell_after rows me.0.seen row))
+      × (taken_up word ≡ word_of true (cell_after rows me.0.seen row))
   pub idle : holds ≡ false → me.1 ≡ []

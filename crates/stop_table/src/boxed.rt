@@ -1,7 +1,8 @@
 //! Records on the heap. A slot holds the address of its row's record, so that a step moves that and not the record's 280
 //! bytes; the box of a record that a tracee has stays with its handle for the next one.
 
-ghost use Rattle.std.specs.Prelude.{◌≡◌, IfOk};
+ghost use Rattle.std.specs.Prelude.{◌≡◌, true, false, IfOk};
+ghost use Rattle.stop_table.specs.Boxed.{with_memory};
 
 use std::alloc::{AllocError, Allocator};
 use std::marker::Model;
@@ -34,12 +35,6 @@ impl<A: Allocator> Model for BoxedRecord<A> {
     ghost view = { λ b. b.room.value.record };
 }
 
-/// A box whose record was taken out: it still has a record, which nobody asks for, with a memory of no pages.
-#[derive(Drop)]
-pub(crate) struct EmptyBox<A: Allocator> {
-    room: Box<Room<A>, A>,
-}
-
 impl<A: Allocator> BoxedRecord<A> {
     pub(crate) fn new(alloc: A, stop: StopRecord<A>) -> Result<BoxedRecord<A>, AllocError>
         ensures { IfOk result (λ b. b ≡ stop) }
@@ -60,38 +55,118 @@ impl<A: Allocator> BoxedRecord<A> {
         &self.room.as_ref().record
     }
 
-    /// Takes the record out. A memory comes in the place of its own.
+    /// Takes the record's memory out. Another comes in its place.
     #[inline(always)]
-    pub(crate) fn take(self, spare: Memory<A>) -> (StopRecord<A>, EmptyBox<A>)
-        ensures { result.0 ≡ self }
+    fn take_memory(&mut self, spare: Memory<A>) -> Memory<A>
+        ensures memory { result ≡ self.old.memory }
+        ensures rest { self.new ≡ with_memory self.old spare }
     {
-        let BoxedRecord { mut room } = self;
-        let record = &mut room.as_mut().record;
-        let stop = StopRecord {
+        replace(&mut self.room.as_mut().record.memory, spare)
+    }
+
+    /// The record, with this memory in the place of its own.
+    #[inline(always)]
+    fn with_memory(&self, memory: Memory<A>) -> StopRecord<A>
+        ensures { result ≡ with_memory self.now memory }
+    {
+        let record = &self.room.as_ref().record;
+        StopRecord {
             tid: record.tid,
             number: record.number,
             stop: record.stop,
             regs: record.regs,
-            memory: replace(&mut record.memory, spare),
-        };
-        (stop, EmptyBox { room })
+            memory,
+        }
     }
-}
 
-impl<A: Allocator> EmptyBox<A> {
     /// Puts a record in, and gives back the memory that was there.
     #[inline(always)]
-    pub(crate) fn put(self, stop: StopRecord<A>) -> (BoxedRecord<A>, Memory<A>)
-        ensures { result.0 ≡ stop }
+    fn put(&mut self, stop: StopRecord<A>) -> Memory<A>
+        ensures { self.new ≡ stop }
     {
-        let EmptyBox { mut room } = self;
-        let record = &mut room.as_mut().record;
+        let record = &mut self.room.as_mut().record;
         record.tid = stop.tid;
         record.number = stop.number;
         record.stop = stop.stop;
         record.regs = stop.regs;
         let StopRecord { memory, .. } = stop;
-        let spare = replace(&mut record.memory, memory);
-        (BoxedRecord { room }, spare)
+        replace(&mut record.memory, memory)
+    }
+}
+
+/// What a tracee keeps of its record: while the tracee has the record, the box that it lay in, and otherwise a memory of
+/// no pages, to leave in the box in the place of the record's. Contracts see whether it has a box.
+#[derive(Drop)]
+pub(crate) struct BoxHolder<A: Allocator> {
+    boxed: Option<BoxedRecord<A>>,
+    spare: Option<Memory<A>>,
+}
+
+impl<A: Allocator> Model for BoxHolder<A> {
+    ghost use Rattle.std.specs.Prelude.{◌≡◌, Bool, is_some, not};
+
+    ghost Value = { Bool };
+
+    ghost view = { λ h. is_some h.boxed };
+
+    ghost invariant = { λ h. is_some h.spare ≡ not (is_some h.boxed) };
+}
+
+impl<A: Allocator> BoxHolder<A> {
+    pub(crate) fn new(spare: Memory<A>) -> BoxHolder<A>
+        ensures { result ≡ false }
+    {
+        BoxHolder {
+            boxed: None,
+            spare: Some(spare),
+        }
+    }
+
+    pub(crate) fn has_box(&self) -> bool
+        ensures { result ≡ self.now }
+    {
+        self.boxed.is_some()
+    }
+
+    /// Keeps a box, and takes the record out of it.
+    // What it writes comes first, and then the record is read: so a caller that changes a field and gives the record back
+    // is compiled to a change of that field in the box.
+    #[inline(always)]
+    pub(crate) fn take(&mut self, mut boxed: BoxedRecord<A>) -> StopRecord<A>
+        requires { self.old ≡ false }
+        ensures record { result ≡ boxed }
+        ensures has_box { self.new ≡ true }
+    {
+        let Some(spare) = self.spare.take() else {
+            unreachable!()
+        };
+        let memory = boxed.take_memory(spare);
+        let None = self.boxed.replace(boxed) else {
+            unreachable!()
+        };
+        let Some(boxed) = &self.boxed else {
+            unreachable!()
+        };
+        boxed.with_memory(memory)
+    }
+
+    /// Puts a record into the box, and gives the box.
+    #[inline(always)]
+    pub(crate) fn give(&mut self, stop: StopRecord<A>) -> BoxedRecord<A>
+        requires { self.old ≡ true }
+        ensures record { result ≡ stop }
+        ensures has_box { self.new ≡ false }
+    {
+        let Some(boxed) = &mut self.boxed else {
+            unreachable!()
+        };
+        let spare = boxed.put(stop);
+        let Some(boxed) = self.boxed.take() else {
+            unreachable!()
+        };
+        let None = self.spare.replace(spare) else {
+            unreachable!()
+        };
+        boxed
     }
 }

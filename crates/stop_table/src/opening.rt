@@ -10,6 +10,7 @@ ghost use Rattle.stop_table.specs.Opening.{AreTracees, AreTracers, DealsRows, De
 
 use crate::boxed::BoxedRecord;
 use crate::cells::{Cells, PLACES, Seat};
+use crate::order::Held;
 use crate::rule::{OneRow, OneTracer};
 use crate::tracee::Tracee;
 use crate::tracer::Tracer;
@@ -164,8 +165,9 @@ fn deal_tracers<A: Allocator + Copy>(
     let mut handles = Vec::with_capacity(alloc, count as usize)?;
     for number in 0..count {
         let again = Arc::try_clone(cells)?;
-        let held = Vec::with_capacity(alloc, MOST_ROWS)?;
+        let room = Vec::with_capacity(alloc, MOST_ROWS)?;
         let one = cells.table.shared.split_seat::<OneTracer>(seat);
+        let held = Held::new(room);
         handles.push_reserved(Tracer::new(again, one, number as u8, held));
     }
     Ok(handles)

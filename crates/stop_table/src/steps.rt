@@ -14,6 +14,7 @@ ghost use Rattle.stop_history.specs.Change.{restart_in};
 ghost use Rattle.stop_history.specs.History.{creates_next};
 ghost use Rattle.stop_history.specs.Roster.{IsRoster, row_at};
 ghost use Rattle.stop_history.specs.State.{is_born};
+ghost use Rattle.stop_history.specs.Step.{published};
 ghost use Rattle.stop_table.specs.Entry.{AreLegal, cell_after, history_of, word_of};
 ghost use Rattle.stop_table.specs.Group.{IsGroupSettled};
 ghost use Rattle.stop_table.specs.Handle.{Looked, SawUnborn};
@@ -26,21 +27,50 @@ use crate::boxed::BoxedRecord;
 use crate::cells::{Cells, Seat};
 use crate::rule::{Claims, Compares, Exits, Looks, Meets, Publishes, Reaps, Resumes, TakesUp};
 use std::alloc::Allocator;
-use stop_history::{
-    Phase, Word, claimed, died, parent_place, published, rank, restarted, taken_up,
-};
+use std::marker::Model;
+use stop_history::{Phase, Word, claimed, died, parent_place, rank, restarted, taken_up};
 use trace_record::{Death, Resume};
+
+/// A word that a look found in a row, with its bits, so that an exchange that looks for them need not pack them again.
+#[derive(Drop)]
+pub(crate) struct Found {
+    pub(crate) bits: u64,
+    pub(crate) word: Word,
+}
+
+impl Model for Found {
+    ghost use Rattle.std.specs.Prelude.{◌≡◌};
+    ghost use Rattle.stop_history.specs.Layout.{raw_of};
+    ghost use Rattle.stop_history.specs.Word as words;
+
+    ghost Value = { words.Word };
+
+    ghost view = { λ f. f.word };
+
+    ghost invariant = { λ f. (f.bits ≡ raw_of f.word) × words.IsWord f.word };
+}
 
 impl<A: Allocator> Cells<A> {
     /// One look at a row's word.
     #[inline(always)]
-    pub(crate) fn see(&self, seat: &mut Seat<A>, row: usize) -> Word
+    pub(crate) fn find(&self, seat: &mut Seat<A>, row: usize) -> Found
         requires { IsSeatOf self.now seat.old × (row < length seat.old.me.0.roster) }
         ensures { IsSameSeat seat.old seat.new × Saw seat.old.me seat.new.me row result }
     {
         // A load changes nothing, whoever the row belongs to.
         let at = self.place(row);
-        Word::unpack_known(self.table.shared.load::<Looks>(seat, at))
+        let bits = self.table.shared.load::<Looks>(seat, at);
+        let word = Word::unpack_known(bits);
+        Found { bits, word }
+    }
+
+    /// The same, where the word alone is asked for.
+    #[inline(always)]
+    pub(crate) fn see(&self, seat: &mut Seat<A>, row: usize) -> Word
+        requires { IsSeatOf self.now seat.old × (row < length seat.old.me.0.roster) }
+        ensures { IsSameSeat seat.old seat.new × Saw seat.old.me seat.new.me row result }
+    {
+        self.find(seat, row).word
     }
 
     /// Whether a row is born, by a look at its parent's word if it has one.
@@ -80,7 +110,7 @@ impl<A: Allocator> Cells<A> {
 
     /// Takes a row up, whose word was seen, with its record.
     #[inline(always)]
-    pub(crate) fn take_record(&self, seat: &mut Seat<A>, row: usize, seen: Word) -> BoxedRecord<A>
+    pub(crate) fn take_record(&self, seat: &mut Seat<A>, row: usize, seen: Found) -> BoxedRecord<A>
         requires seat { IsSeatOf self.now seat.old × (row < length seat.old.me.0.roster) }
         requires tracee { (seat.old.me.0.tracees ≡ row ∷ []) × (seat.old.me.0.taken ≡ false)
             × (is_born seat.old.me.0.roster (history_of seat.old.me.0.seen) row ≡ true) }
@@ -88,8 +118,8 @@ impl<A: Allocator> Cells<A> {
             × ((how : _) × (restart_in seen.phase ≡ Ok how)) }
         ensures { IsSameSeat seat.old seat.new × TookUp seat.old.me seat.new.me row result }
     {
-        let old = seen.pack();
-        let new = taken_up(seen).pack();
+        let old = seen.bits;
+        let new = taken_up(seen.word).pack();
         let at = self.place(row);
         let shared = &self.table.shared;
         // The row is its tracee's alone: nobody can have changed the word since it was seen.
@@ -100,13 +130,14 @@ impl<A: Allocator> Cells<A> {
         record
     }
 
-    /// Publishes the next stop of a row that is taken up.
+    /// Publishes the next stop of a row that is taken up, with the word that the row has from then on.
     #[inline(always)]
     pub(crate) fn put_publish(
         &self,
         seat: &mut Seat<A>,
         row: usize,
         old: Word,
+        new: Word,
         stop: BoxedRecord<A>,
     )
         requires seat { IsSeatOf self.now seat.old × (row < length seat.old.me.0.roster)
@@ -114,18 +145,20 @@ impl<A: Allocator> Cells<A> {
         requires tracee { (seat.old.me.0.tracees ≡ row ∷ []) × (seat.old.me.0.taken ≡ true)
             × (mover_of row (cell_after seat.old.me.0.roster seat.old.me.0.seen row).phase ≡ Some (actor.Tracee row))
             × (seat.old.me.1 ≡ (place row, None) ∷ rest seat.old.me.1) }
-        requires word { old ≡ word_of true (cell_after seat.old.me.0.roster seat.old.me.0.seen row) }
+        requires word { (old ≡ word_of true (cell_after seat.old.me.0.roster seat.old.me.0.seen row))
+            × (new ≡ published old stop.stop) }
         requires stop { (stop.tid ≡ (row_at seat.old.me.0.roster row).tid) × (stop.number ≡ old.number + 1)
             × (stop.number ≤ LAST_NUMBER) × IsStop stop.stop
             × (creates_next seat.old.me.0.roster row old.births stop.stop ≡ true) }
         ensures { IsSameSeat seat.old seat.new × Published seat.old.me seat.new.me row stop }
     {
-        let new = published(old, stop.stop().stop).pack();
         let at = self.place(row);
         let shared = &self.table.shared;
         // The record is in the slot before the word says so, and nobody looks there until then.
-        shared.exchange(seat, at, Some(stop));
-        shared.compare_exchange::<Publishes>(seat, at, old.pack(), new);
+        let None = shared.exchange(seat, at, Some(stop)) else {
+            unreachable!()
+        };
+        shared.compare_exchange::<Publishes>(seat, at, old.pack(), new.pack());
     }
 
     /// Claims the stop that was seen, or finds another word.
@@ -134,7 +167,7 @@ impl<A: Allocator> Cells<A> {
         &self,
         seat: &mut Seat<A>,
         row: usize,
-        seen: Word,
+        seen: Found,
         tracer: u8,
     ) -> Result<BoxedRecord<A>, Word>
         requires seat { IsSeatOf self.now seat.old × (row < length seat.old.me.0.roster) }
@@ -146,8 +179,8 @@ impl<A: Allocator> Cells<A> {
             (λ r. TookStop seat.old.me seat.new.me row seen r)
             (λ w. MissedAt seat.old.me seat.new.me row w × (w ≢ seen)) }
     {
-        let old = seen.pack();
-        let new = claimed(seen, tracer).pack();
+        let old = seen.bits;
+        let new = claimed(seen.word, tracer).pack();
         let at = self.place(row);
         let shared = &self.table.shared;
         // Where the word is still the one seen, the stop is this tracer's, and with it the slot.
@@ -166,7 +199,7 @@ impl<A: Allocator> Cells<A> {
         &self,
         seat: &mut Seat<A>,
         row: usize,
-        seen: Word,
+        seen: Found,
         tracer: u8,
     ) -> Result<(), Word>
         requires seat { IsSeatOf self.now seat.old × (row < length seat.old.me.0.roster) }
@@ -178,8 +211,8 @@ impl<A: Allocator> Cells<A> {
             (λ _. ReapedAt seat.old.me seat.new.me row seen)
             (λ w. MissedAt seat.old.me seat.new.me row w × (w ≢ seen)) }
     {
-        let old = seen.pack();
-        let new = claimed(seen, tracer).pack();
+        let old = seen.bits;
+        let new = claimed(seen.word, tracer).pack();
         let at = self.place(row);
         let shared = &self.table.shared;
         // The record of a dead row stays in its slot: nobody asks for it.
@@ -211,7 +244,9 @@ impl<A: Allocator> Cells<A> {
         let at = self.place(row);
         let shared = &self.table.shared;
         // The record is home before the word lets its tracee take it.
-        shared.exchange(seat, at, Some(stop));
+        let None = shared.exchange(seat, at, Some(stop)) else {
+            unreachable!()
+        };
         shared.compare_exchange::<Resumes>(seat, at, word.pack(), new);
     }
 
@@ -239,7 +274,9 @@ impl<A: Allocator> Cells<A> {
         let at = self.place(row);
         let shared = &self.table.shared;
         // Nobody asks for the record of a dead row; it goes back so that the slot keeps it, and not this handle.
-        shared.exchange(seat, at, Some(stop));
+        let None = shared.exchange(seat, at, Some(stop)) else {
+            unreachable!()
+        };
         shared.compare_exchange::<Exits>(seat, at, old.pack(), new);
     }
 

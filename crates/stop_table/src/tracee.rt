@@ -16,13 +16,13 @@ ghost use Rattle.stop_table.specs.Opening.{new_view};
 ghost use Rattle.stop_table.specs.Start.{IsFinal, StartsAt};
 ghost use Rattle.stop_table.specs.Tracee.{IsTraceeHandle};
 
-use crate::boxed::EmptyBox;
+use crate::boxed::BoxHolder;
 use crate::cells::{Cells, Seat};
 use crate::start::Start;
 use std::alloc::{Allocator, Global};
 use std::marker::Model;
 use std::sync::Arc;
-use stop_history::{Phase, Word, restart_in, taken_up};
+use stop_history::{Phase, Word, published, restart_in, taken_up};
 use trace_pages::Memory;
 use trace_record::{Death, Resume, StopRecord};
 
@@ -33,15 +33,14 @@ pub struct Tracee<A: Allocator = Global> {
     cells: Arc<Cells<A>, A>,
     seat: Seat<A>,
     row: u32,
-    /// While it has its row taken up, the row's word.
+    /// While it has its row taken up, the word that the row had before.
     word: Word,
-    /// Then also the box that its record lay in; otherwise a memory of no pages, to leave in the box.
-    empty: Option<EmptyBox<A>>,
-    spare: Option<Memory<A>>,
+    /// Then also the box that its record lay in.
+    holder: BoxHolder<A>,
 }
 
 impl<A: Allocator> Model for Tracee<A> {
-    ghost use Rattle.std.specs.Prelude.{◌≡◌, is_some, not};
+    ghost use Rattle.std.specs.Prelude.{◌≡◌};
     ghost use Rattle.std.specs.Arc.{arc_value};
     ghost use Rattle.std.specs.Coded.{codes};
     ghost use Rattle.trace_pages.specs.FlatMemory.{flat_code};
@@ -54,8 +53,7 @@ impl<A: Allocator> Model for Tracee<A> {
     ghost view = { λ t. record { table_id = t.seat.table_id; row = t.row; view = t.seat.me.0 } };
 
     ghost invariant = { λ t. (t.seat.table_id ≡ (arc_value t.cells).table.shared.table_id)
-        × IsTracee (arc_value t.cells).table.shared.key t.seat.me t.row t.word (is_some t.empty)
-        × (is_some t.spare ≡ not (is_some t.empty)) };
+        × IsTracee (arc_value t.cells).table.shared.key t.seat.me t.row t.word t.holder };
 }
 
 /// The leader of a thread group cannot end: this other row of its group is alive. The record comes back.
@@ -89,8 +87,7 @@ impl<A: Allocator> Tracee<A> {
             seat,
             row,
             word,
-            empty: None,
-            spare: Some(spare),
+            holder: BoxHolder::new(spare),
         }
     }
 
@@ -100,7 +97,7 @@ impl<A: Allocator> Tracee<A> {
         ensures holds { result ≡ self.now.view.taken }
         ensures handle { IsTraceeHandle self.now }
     {
-        self.empty.is_some()
+        self.holder.has_box()
     }
 
     /// Whether its row is born, not yet, or never, by looks at the row's ancestors from the root down (ptrace(2),
@@ -127,20 +124,17 @@ impl<A: Allocator> Tracee<A> {
             × (a ≢ shows.Running)) }
     {
         let row = self.row as usize;
-        let word = self.cells.see(&mut self.seat, row);
+        let seen = self.cells.find(&mut self.seat, row);
+        let word = seen.word;
         let Ok(how) = restart_in(word.phase) else {
             return None;
         };
         if !self.cells.sees_running(&mut self.seat, row, word) {
             return None;
         }
-        let boxed = self.cells.take_record(&mut self.seat, row, word);
-        let Some(spare) = self.spare.take() else {
-            unreachable!()
-        };
-        let (record, empty) = boxed.take(spare);
-        self.word = taken_up(word);
-        self.empty = Some(empty);
+        let boxed = self.cells.take_record(&mut self.seat, row, seen);
+        self.word = word;
+        let record = self.holder.take(boxed);
         Some((how, record))
     }
 
@@ -158,13 +152,11 @@ impl<A: Allocator> Tracee<A> {
             × (self.new.view.taken ≡ false) }
         ensures made { (before : _) × EndsWith self.old.view self.new.view before (publish_of self.old.row stop) }
     {
-        let Some(empty) = self.empty.take() else {
-            unreachable!()
-        };
-        let (boxed, spare) = empty.put(stop);
-        self.spare = Some(spare);
+        let word = taken_up(self.word);
+        let new = published(word, stop.stop);
+        let boxed = self.holder.give(stop);
         self.cells
-            .put_publish(&mut self.seat, self.row as usize, self.word, boxed);
+            .put_publish(&mut self.seat, self.row as usize, word, new, boxed);
     }
 
     /// Ends the row. A leader is refused while another row of its thread group is alive: it gets the first such row and
@@ -186,13 +178,9 @@ impl<A: Allocator> Tracee<A> {
                 content: stop,
             });
         }
-        let Some(empty) = self.empty.take() else {
-            unreachable!()
-        };
-        let (boxed, spare) = empty.put(stop);
-        self.spare = Some(spare);
+        let boxed = self.holder.give(stop);
         self.cells
-            .put_exit(&mut self.seat, row, self.word, death, boxed);
+            .put_exit(&mut self.seat, row, taken_up(self.word), death, boxed);
         Ok(())
     }
 

@@ -1,10 +1,9 @@
 //! The handle of a tracer.
 
-ghost use Rattle.std.specs.Prelude.{◌≡◌, ◌∷◌, ◌<◌, ◌≤◌, [], true, false, length};
+ghost use Rattle.std.specs.Prelude.{◌≡◌, ◌∷◌, ◌<◌, [], true, false, length};
 ghost use Rattle.std.specs.Arc.{arc_value};
-ghost use Rattle.std.specs.Vec.{vec_capacity};
 ghost use Rattle.trace_record.specs.Resume.{IsResume};
-ghost use Rattle.stop_history.specs.declared.limits.TheConstants.{MOST_ROWS, TRACERS};
+ghost use Rattle.stop_history.specs.declared.limits.TheConstants.{TRACERS};
 ghost use Rattle.stop_history.specs.declared.phase.Phase.TheVariants.{Dead, Stopped};
 ghost use Rattle.stop_history.specs.Event as event;
 ghost use Rattle.stop_history.specs.Roster.{IsRoster};
@@ -17,8 +16,9 @@ ghost use Rattle.stop_table.specs.Tracer.{IsTracerHandle, KeepsHandle, held_rows
 
 use crate::cells::{Cells, Seat};
 use crate::claim::{Claim, Taken};
-use crate::order::{bring, put_first};
+use crate::order::Held;
 use crate::shown::{Shown, is_claimable, show};
+use crate::steps::Found;
 use crate::tracee::Tracee;
 use std::alloc::{Allocator, Global};
 use std::marker::Model;
@@ -34,17 +34,14 @@ pub struct Tracer<A: Allocator = Global> {
     cells: Arc<Cells<A>, A>,
     seat: Seat<A>,
     number: u8,
-    /// The rows that it has claimed, in the order of the slots that are out with its seat.
-    held: Vec<u32, A>,
+    held: Held<A>,
 }
 
 impl<A: Allocator> Model for Tracer<A> {
-    ghost use Rattle.std.specs.Prelude.{◌≡◌, ◌≤◌};
+    ghost use Rattle.std.specs.Prelude.{◌≡◌};
     ghost use Rattle.std.specs.Arc.{arc_value};
     ghost use Rattle.std.specs.Coded.{codes};
-    ghost use Rattle.std.specs.Vec.{vec_capacity};
     ghost use Rattle.trace_pages.specs.FlatMemory.{flat_code};
-    ghost use Rattle.stop_history.specs.declared.limits.TheConstants.{MOST_ROWS};
     ghost use Rattle.stop_table.specs.Tracer.{IsTracer, TracerHandle};
 
     ghost Value = { TracerHandle };
@@ -54,23 +51,22 @@ impl<A: Allocator> Model for Tracer<A> {
     ghost view = { λ t. record { table_id = t.seat.table_id; view = t.seat.me.0 } };
 
     ghost invariant = { λ t. (t.seat.table_id ≡ (arc_value t.cells).table.shared.table_id)
-        × IsTracer (arc_value t.cells).table.shared.key t.seat.me t.number t.held.items
-        × (MOST_ROWS ≤ vec_capacity t.held) };
+        × IsTracer (arc_value t.cells).table.shared.key t.seat.me t.number t.held };
 }
 
 impl<A: Allocator> Tracer<A> {
-    /// The handle of a tracer that has claimed nothing. `held` has room for all rows.
+    /// The handle of a tracer that has claimed nothing.
     pub(crate) fn new(
         cells: Arc<Cells<A>, A>,
         seat: Seat<A>,
         number: u8,
-        held: Vec<u32, A>,
+        held: Held<A>,
     ) -> Tracer<A>
         requires table { seat.table_id ≡ (arc_value cells).table.shared.table_id }
         requires roster { IsRoster (arc_value cells).table.shared.key }
         requires number { number < TRACERS }
         requires seat { seat.me ≡ (new_view (arc_value cells).table.shared.key [] number (number ∷ []), []) }
-        requires held { (held.items ≡ []) × (MOST_ROWS ≤ vec_capacity held) }
+        requires held { held ≡ [] }
         ensures { (result.table_id ≡ seat.table_id) × (result.view ≡ seat.me.0) }
     {
         Tracer {
@@ -141,33 +137,35 @@ impl<A: Allocator> Tracer<A> {
         if !self.cells.sees_born(&mut self.seat, at) {
             return Taken::Nothing(Shown::Unborn);
         }
-        let word = self.cells.see(&mut self.seat, at);
+        let seen = self.cells.find(&mut self.seat, at);
+        let word = seen.word;
         let shown = show(word);
         if !is_claimable(shown, deaths) {
             return Taken::Nothing(shown);
         }
         match word.phase {
-            Phase::Dead { status } => self.reap_seen(row, word, status),
-            _ => self.claim_seen(row, word, deaths),
+            Phase::Dead { status } => self.reap_seen(row, seen, status),
+            _ => self.claim_seen(row, seen, deaths),
         }
     }
 
     /// Claims a stop that was seen.
     #[inline(always)]
-    fn claim_seen(&mut self, row: u32, word: Word, deaths: bool) -> Taken<A>
+    fn claim_seen(&mut self, row: u32, seen: Found, deaths: bool) -> Taken<A>
         requires row { row < length self.old.view.roster }
         requires born { is_born self.old.view.roster (history_of self.old.view.seen) row ≡ true }
-        requires word { (word ≡ word_of false (cell_after self.old.view.roster self.old.view.seen row))
-            × ((status : _) × (word.phase ≡ Stopped status)) }
+        requires word { (seen ≡ word_of false (cell_after self.old.view.roster self.old.view.seen row))
+            × ((status : _) × (seen.phase ≡ Stopped status)) }
         ensures handle { KeepsHandle self.old self.new }
         ensures taken { IsTakenOrLost deaths self.old.view self.new.view row result }
     {
+        let word = seen.word;
         match self
             .cells
-            .try_claim(&mut self.seat, row as usize, word, self.number)
+            .try_claim(&mut self.seat, row as usize, seen, self.number)
         {
             Ok(stop) => {
-                put_first(&mut self.held, row);
+                self.held.put_first(row);
                 Taken::Stop(Claim {
                     stop,
                     row,
@@ -182,17 +180,18 @@ impl<A: Allocator> Tracer<A> {
     }
 
     /// Claims a death that was seen.
-    fn reap_seen(&mut self, row: u32, word: Word, status: u32) -> Taken<A>
+    fn reap_seen(&mut self, row: u32, seen: Found, status: u32) -> Taken<A>
         requires row { row < length self.old.view.roster }
         requires born { is_born self.old.view.roster (history_of self.old.view.seen) row ≡ true }
-        requires word { (word ≡ word_of false (cell_after self.old.view.roster self.old.view.seen row))
-            × (word.phase ≡ Dead status) }
+        requires word { (seen ≡ word_of false (cell_after self.old.view.roster self.old.view.seen row))
+            × (seen.phase ≡ Dead status) }
         ensures handle { KeepsHandle self.old self.new }
         ensures taken { IsTakenOrLost true self.old.view self.new.view row result }
     {
+        let word = seen.word;
         if let Err(_) = self
             .cells
-            .try_reap(&mut self.seat, row as usize, word, self.number)
+            .try_reap(&mut self.seat, row as usize, seen, self.number)
         {
             return Taken::Nothing(Shown::Reaped);
         }
@@ -221,10 +220,10 @@ impl<A: Allocator> Tracer<A> {
             word,
             tracer: _,
         } = claim;
-        bring(&mut self.seat, &mut self.held, row);
+        self.held.bring(&mut self.seat, row);
         self.cells
             .let_run(&mut self.seat, row as usize, word, stop, how);
-        self.held.remove(0);
+        self.held.take_first();
     }
 
     /// Takes in another tracer's handle, which has claimed nothing. From then on it acts for both, and knows what

@@ -1,5 +1,5 @@
 -- A tracee's row ends.
-use Rattle.std.proofs.Common.{◌∙◌, ◌∷◌, Some, ap, arith, length, refl, subst}
+use Rattle.std.proofs.Common.{◌∙◌, ◌∷◌, None, Some, ap, arith, length, refl, subst}
 use mathlib.Core.Option.{none}
 use Rattle.atomic_table.specs.Table.{rest, step}
 use Rattle.stop_history.specs.Layout.{raw_of}
@@ -7,9 +7,17 @@ use Rattle.stop_history.specs.Step.{died}
 use Rattle.stop_history.specs.Word.{IsWord}
 use Rattle.stop_table.specs.Place.{place}
 use Rattle.stop_table.specs.Steps.{Seated, exited}
+use Rattle.stop_table.proofs.Allowed.{slot_is}
 use Rattle.stop_table.proofs.Exchanges.{exit_allowed}
 use Rattle.stop_table.proofs.Telling.{at_hand, did_exit, in_place, key_step}
 use Rattle.stop_table.proofs.cells.Cells.put_exit.Goals as goal
+
+-- the slot was out, with nothing in it
+pub unreachable-requires : goal.unreachable-requires
+unreachable-requires g c =
+    c.in_default.not-None
+    (slot_is c.args.seat.now.me.1 c.place-at.result (place c.args.row) c.exchange.result None (rest c.args.seat.now.me.1)
+    (rest c.args.seat.now.me.1) c.exchange.ensures.2 c.requires.tracee.3)
 
 pub compare_exchange-requires : goal.compare_exchange-requires
 compare_exchange-requires g c =

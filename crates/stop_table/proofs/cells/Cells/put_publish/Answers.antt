@@ -1,8 +1,5 @@
 -- A tracee publishes a stop.
-use Rattle.std.proofs.Common.{◌∙◌, ◌∷◌, Some, ap, arith, length, refl, subst, sym, ◌+◌}
-use Rattle.std.specs.Prelude.{IsSome}
-use Rattle.trace_record.specs.Content.{Content}
-use Rattle.trace_record.specs.Stop.{child_of}
+use Rattle.std.proofs.Common.{◌∙◌, ◌∷◌, None, Some, ap, arith, length, refl, sym, ◌+◌}
 use Rattle.atomic_table.specs.Table.{rest}
 use Rattle.stop_history.specs.History.{creates_next}
 use Rattle.stop_history.specs.Layout.{raw_of}
@@ -10,16 +7,17 @@ use Rattle.stop_history.specs.Step.{published}
 use Rattle.stop_history.specs.Word.{Word}
 use Rattle.stop_table.specs.Place.{place}
 use Rattle.stop_table.specs.Steps.{Seated, publishes}
-use Rattle.stop_table.proofs.Births.{room_for_birth}
+use Rattle.stop_table.proofs.Allowed.{slot_is}
 use Rattle.stop_table.proofs.Exchanges.{publish_allowed}
 use Rattle.stop_table.proofs.Telling.{at_hand, did_publish, in_place, key_step}
 use Rattle.stop_table.proofs.cells.Cells.put_publish.Goals as goal
 
-pub published-requires-clause-birth : goal.published-requires-clause-birth
-published-requires-clause-birth g c =
-    λ some. room_for_birth c.args.seat.now.me.0.roster c.requires.seat.2 c.args.row c.args.old.births c.args.stop.stop
-    c.requires.seat.1 c.requires.stop.4
-    (subst (λ stop. IsSome (child_of stop)) (ap (λ (x : Content). x.stop) (c.behind-stop.view_is ∙ c.stop.ensures)) some)
+-- the slot was out, with nothing in it
+pub unreachable-requires : goal.unreachable-requires
+unreachable-requires g c =
+    c.in_default.not-None
+    (slot_is c.args.seat.now.me.1 c.place-at.result (place c.args.row) c.exchange.result None (rest c.args.seat.now.me.1)
+    (rest c.args.seat.now.me.1) c.exchange.ensures.2 c.requires.tracee.3)
 
 pub compare_exchange-requires : goal.compare_exchange-requires
 compare_exchange-requires g c =
@@ -35,13 +33,11 @@ compare_exchange-requires g c =
           r.seat.0.1 at
           (publish_allowed m _ _ c.args.row _ _ c.args.stop r.seat.1 r.tracee.0 r.tracee.1 r.tracee.2
           (at_hand m.1 (rest c.args.seat.now.me.1) (place c.args.row) (Some c.args.stop) refl)
-          r.stop.0 (r.stop.1 ∙ ap (λ (w : Word). w.number + 1) r.word) r.stop.2 r.stop.3
-          (ap (λ (w : Word). creates_next c.args.seat.now.me.0.roster c.args.row w.births c.args.stop.stop) (sym r.word)
+          r.stop.0 (r.stop.1 ∙ ap (λ (w : Word). w.number + 1) r.word.0) r.stop.2 r.stop.3
+          (ap (λ (w : Word). creates_next c.args.seat.now.me.0.roster c.args.row w.births c.args.stop.stop) (sym r.word.0)
           ∙ r.stop.4)
-          (c.pack.ensures.bits ∙ ap raw_of r.word)
-          (c.pack-new.ensures.bits ∙ ap raw_of
-          (c.published.ensures ∙ ap (λ (x : Content). published c.args.old x.stop) (c.behind-stop.view_is ∙ c.stop.ensures)
-          ∙ ap (λ w. published w c.args.stop.stop) r.word))),
+          (c.pack.ensures.bits ∙ ap raw_of r.word.0)
+          (c.pack-2.ensures.bits ∙ ap raw_of (r.word.1 ∙ ap (λ w. published w c.args.stop.stop) r.word.0))),
     )
 
 pub returns : goal.returns

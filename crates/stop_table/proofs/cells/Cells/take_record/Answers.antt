@@ -25,8 +25,8 @@ compare_exchange-requires g c =
           r.seat.0.1 at
           (take_up_allowed c.args.seat.now.me _ _ c.args.row _ _ r.seen.1.0 r.seat.1 r.tracee.0 r.tracee.1 r.tracee.2
           (ap (λ (w : Word). restart_in w.phase) (sym r.seen.0) ∙ r.seen.1.1)
-          (c.pack-old.ensures.bits ∙ ap raw_of r.seen.0)
-          (c.pack-new.ensures.bits ∙ ap raw_of (c.taken_up.ensures ∙ ap taken_up_word r.seen.0))),
+          (c.seen.invariant.0 ∙ ap raw_of (c.seen.view_is ∙ r.seen.0))
+          (c.pack-new.ensures.bits ∙ ap raw_of (c.taken_up.ensures ∙ ap taken_up_word (c.seen.view_is ∙ r.seen.0)))),
     )
 
 pub exchange-requires : goal.exchange-requires

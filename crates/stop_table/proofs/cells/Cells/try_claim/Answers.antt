@@ -1,10 +1,11 @@
 -- A claim of a stop that was seen.
-use Rattle.std.proofs.Common.{◌≡◌, ◌∙◌, ◌∷◌, None, Some, ap, arith, length, refl, sym}
+use Rattle.std.proofs.Common.{◌≡◌, ◌∙◌, ◌∷◌, None, Some, ap, arith, length, refl, subst, sym}
 use mathlib.Core.Option.{none}
 use Rattle.atomic_table.specs.Table.{rest, step}
 use Rattle.stop_history.specs.Layout.{raw_of}
 use Rattle.stop_history.specs.Step.{claimed as claimed_word}
 use Rattle.stop_table.specs.Entry.{cell_after}
+use Rattle.stop_history.specs.Word.{IsWord}
 use Rattle.stop_table.specs.Place.{place}
 use Rattle.stop_table.specs.Steps.{claimed}
 use Rattle.stop_table.proofs.Allowed.{slot_is}
@@ -23,8 +24,9 @@ compare_exchange-found-requires g c =
       key_step claimed c.args.self.now.table.shared.key _ _ _ (place c.args.row) _ _ c.args.seat.now.me c.args.seat.now.me refl
           r.seat.0.1 at
           (claim_allowed c.args.seat.now.me _ _ c.args.row _ _ r.seen.0 c.args.seen r.seat.1 r.tracer.1
-          (omega (arith, r.tracer.0, r.tracer.2)) c.pack-old.ensures.range r.seen.1 c.pack-old.ensures.bits
-          (c.pack-new.ensures.bits ∙ ap raw_of (c.claimed.ensures ∙ ap (claimed_word c.args.seen) (sym r.tracer.0)))),
+          (omega (arith, r.tracer.0, r.tracer.2)) (subst IsWord c.seen.view_is c.seen.invariant.1) r.seen.1 (c.seen.invariant.0 ∙ ap raw_of c.seen.view_is)
+          (c.pack-new.ensures.bits ∙ ap raw_of (c.claimed.ensures ∙ ap (λ w. claimed_word w c.args.tracer) c.seen.view_is
+          ∙ ap (claimed_word c.args.seen) (sym r.tracer.0)))),
     )
 
 pub unpack_known-requires : goal.unpack_known-requires
@@ -36,7 +38,7 @@ pub returns-then-found-old-clause-claimed : goal.returns-then-found-old-clause-c
 returns-then-found-old-clause-claimed g c = (
   saw c.args.row c.args.seat.now.me _ _ _ c.requires.seat.1
       ((c.compare_exchange-found.ensures.2 c.args.row c.place-at.ensures).1 c.if-found-old.true) c.unpack_known.ensures.0 c.unpack_known.ensures.1,
-  other_word _ c.args.seen _ _ c.unpack_known.ensures.1 c.pack-old.ensures.bits c.if-found-old.true,
+  other_word _ c.args.seen _ _ c.unpack_known.ensures.1 (c.seen.invariant.0 ∙ ap raw_of c.seen.view_is) c.if-found-old.true,
 )
 
 pub exchange-requires : goal.exchange-requires
@@ -62,9 +64,9 @@ unreachable-requires g c =
 
 pub returns-clause-claimed : goal.returns-clause-claimed
 returns-clause-claimed g c =
-    took_out (step 0 (place c.args.row) c.pack-old.result 0 none) c.args.row c.args.seat.now.me c.compare_exchange-found.new.seat.me
+    took_out (step 0 (place c.args.row) c.seen.inside.bits 0 none) c.args.row c.args.seat.now.me c.compare_exchange-found.new.seat.me
     c.exchange.new.seat.me c.compare_exchange-found.result c.args.seen c.in-Some.record c.requires.seat.1
-    (c.compare_exchange-found.ensures.2 c.args.row c.place-at.ensures) c.if-found-old.false c.pack-old.ensures.range c.pack-old.ensures.bits
+    (c.compare_exchange-found.ensures.2 c.args.row c.place-at.ensures) c.if-found-old.false (subst IsWord c.seen.view_is c.seen.invariant.1) (c.seen.invariant.0 ∙ ap raw_of c.seen.view_is)
     (c.exchange.ensures.2
     ∙ (λ j. (c.place-at.ensures j, c.in-Some.is j) ∷ rest c.compare_exchange-found.new.seat.me.1))
     (c.exchange.ensures.3

@@ -1,11 +1,9 @@
 -- A tracee ends its row.
-use Rattle.std.proofs.Common.{◌∙◌, List, not, Option, ap, subst, sym, true}
-use Rattle.std.specs.Prelude.{is_some}
+use Rattle.std.proofs.Common.{◌∙◌, List, ap, subst, sym, true}
 use Rattle.std.specs.Arc.{arc_value}
 use Rattle.stop_history.specs.Event as event
 use Rattle.stop_table.specs.Entry.{Entry, bare}
 use Rattle.stop_table.specs.Handle.{EndsWith}
-use Rattle.stop_table.specs.declared.boxed.EmptyBox.{EmptyBox}
 use Rattle.stop_table.specs.Tracee.{IsTracee, TraceeHandle}
 use Rattle.stop_table.proofs.Tracees.{exited_tracee, held_tracee, holds_row, tracee_looked}
 use Rattle.stop_table.proofs.Walking.{ends_from}
@@ -16,16 +14,15 @@ invariant_of-self g c =
     let x = c.self.inside in
     let e = c.held_back_by.ensures.seat in (
       e.0.0 ∙ c.self.invariant.0,
-      tracee_looked (arc_value x.cells).table.shared.key x.seat.me c.held_back_by.new.seat.me x.row x.word (is_some x.empty)
+      tracee_looked (arc_value x.cells).table.shared.key x.seat.me c.held_back_by.new.seat.me x.row x.word x.holder
           c.self.invariant.1 e.2 e.1,
-      c.self.invariant.2,
     )
 
 pub put_exit-requires-clause-tracee : goal.put_exit-requires-clause-tracee
 put_exit-requires-clause-tracee g c =
     let x = c.self.inside in
     let key = (arc_value x.cells).table.shared.key in
-    let held = held_tracee key x.seat.me x.row x.word (is_some x.empty) c.self.invariant.1
+    let held = held_tracee key x.seat.me x.row x.word x.holder c.self.invariant.1
     (ap (λ (h : TraceeHandle). h.view.taken) c.self.view_is ∙ c.requires.0) in
     let e = c.held_back_by.ensures.seat in
     let now = tracee_looked key x.seat.me c.held_back_by.new.seat.me x.row x.word true held e.2 e.1 in
@@ -36,33 +33,31 @@ pub put_exit-requires-clause-word : goal.put_exit-requires-clause-word
 put_exit-requires-clause-word g c =
     let x = c.self.inside in
     let key = (arc_value x.cells).table.shared.key in
-    let held = held_tracee key x.seat.me x.row x.word (is_some x.empty) c.self.invariant.1
+    let held = held_tracee key x.seat.me x.row x.word x.holder c.self.invariant.1
     (ap (λ (h : TraceeHandle). h.view.taken) c.self.view_is ∙ c.requires.0) in
     let e = c.held_back_by.ensures.seat in
     let now = tracee_looked key x.seat.me c.held_back_by.new.seat.me x.row x.word true held e.2 e.1 in
-    (holds_row key c.held_back_by.new.seat.me x.row x.word now).2
+    c.taken_up.ensures ∙ (holds_row key c.held_back_by.new.seat.me x.row x.word now).2
 
 pub invariant_of-self-2 : goal.invariant_of-self-2
 invariant_of-self-2 g c =
     let x = c.self.inside in
     let key = (arc_value x.cells).table.shared.key in
-    let held = held_tracee key x.seat.me x.row x.word (is_some x.empty) c.self.invariant.1
+    let held = held_tracee key x.seat.me x.row x.word x.holder c.self.invariant.1
     (ap (λ (h : TraceeHandle). h.view.taken) c.self.view_is ∙ c.requires.0) in
     let e = c.held_back_by.ensures.seat in
     let now = tracee_looked key x.seat.me c.held_back_by.new.seat.me x.row x.word true held e.2 e.1 in (
       c.put_exit.ensures.0.0 ∙ e.0.0 ∙ c.self.invariant.0,
-      subst (λ (e : Option (EmptyBox g.row.A.Denot)). IsTracee key c.put_exit.new.seat.me x.row x.word (is_some e))
-          (sym c.take.ensures.after)
+      subst (IsTracee key c.put_exit.new.seat.me x.row x.word) (sym c.give-boxed.ensures.has_box)
           (exited_tracee key c.held_back_by.new.seat.me c.put_exit.new.seat.me x.row x.word c.args.death now
           c.put_exit.ensures.1).1,
-      ap (λ (e : Option (EmptyBox g.row.A.Denot)). not (is_some e)) (sym c.take.ensures.after),
     )
 
 pub returns-clause-ok : goal.returns-clause-ok
 returns-clause-ok g c =
     let x = c.self.inside in
     let key = (arc_value x.cells).table.shared.key in
-    let held = held_tracee key x.seat.me x.row x.word (is_some x.empty) c.self.invariant.1
+    let held = held_tracee key x.seat.me x.row x.word x.holder c.self.invariant.1
     (ap (λ (h : TraceeHandle). h.view.taken) c.self.view_is ∙ c.requires.0) in
     let e = c.held_back_by.ensures.seat in
     let now = tracee_looked key x.seat.me c.held_back_by.new.seat.me x.row x.word true held e.2 e.1 in

@@ -1,38 +1,56 @@
 -- A tracee publishes a stop.
-use Rattle.std.proofs.Common.{◌∙◌, List, not, Option, ap, subst, sym}
-use Rattle.std.specs.Prelude.{is_some}
+use Rattle.std.proofs.Common.{◌≡◌, ◌<◌, ◌∙◌, List, ap, length, subst, sym, true}
 use Rattle.std.specs.Arc.{arc_value}
-use Rattle.stop_table.specs.Entry.{Entry, publish_of}
+use Rattle.stop_history.specs.History.{creates_next}
+use Rattle.stop_history.specs.Roster.{IsRoster}
+use Rattle.stop_history.specs.Word.{Word}
+use Rattle.stop_table.specs.Entry.{Entry, cell_after, publish_of}
 use Rattle.stop_table.specs.Handle.{EndsWith}
+use Rattle.std.specs.Prelude.{IsSome}
 use Rattle.trace_record.specs.Content.{Content}
-use Rattle.stop_table.specs.declared.boxed.EmptyBox.{EmptyBox}
+use Rattle.trace_record.specs.Stop.{child_of}
 use Rattle.stop_table.specs.Seat.{Published}
 use Rattle.stop_table.specs.Tracee.{IsTracee, TraceeHandle}
-use Rattle.stop_table.proofs.Tracees.{held_tracee, published_tracee}
+use Rattle.stop_table.proofs.Births.{room_for_birth}
+use Rattle.stop_table.proofs.Tracees.{held_tracee, holds_row, published_tracee}
 use Rattle.stop_table.proofs.tracee.Tracee.publish.Goals as goal
+
+pub published-new-requires-clause-birth : goal.published-new-requires-clause-birth
+published-new-requires-clause-birth g c =
+    let x = c.self.inside in
+    let v = x.seat.me.0 in
+    let key = (arc_value x.cells).table.shared.key in
+    let held = held_tracee key x.seat.me x.row x.word x.holder c.self.invariant.1
+    (ap (λ (h : TraceeHandle). h.view.taken) c.self.view_is ∙ c.requires.holds) in
+    let word = c.taken_up-word.ensures ∙ (holds_row key x.seat.me x.row x.word held).2 in
+    let creates = subst (λ (h : TraceeHandle).
+    creates_next h.view.roster h.row (cell_after h.view.roster h.view.seen h.row).births c.args.stop.stop ≡ true)
+    (sym c.self.view_is) c.requires.birth in
+    λ some. room_for_birth v.roster (subst IsRoster (sym held.roster_is) held.placed) x.row c.taken_up-word.result.births
+    c.args.stop.stop (subst (λ rows. x.row < length rows) (sym held.roster_is) held.low)
+    (ap (λ (w : Word). creates_next v.roster x.row w.births c.args.stop.stop) word ∙ creates)
+    (subst (λ (stop : Content). IsSome (child_of stop.stop)) c.stop.view_is some)
 
 pub invariant_of-self : goal.invariant_of-self
 invariant_of-self g c =
     let x = c.self.inside in
     let key = (arc_value x.cells).table.shared.key in
-    let held = held_tracee key x.seat.me x.row x.word (is_some x.empty) c.self.invariant.1
+    let held = held_tracee key x.seat.me x.row x.word x.holder c.self.invariant.1
     (ap (λ (h : TraceeHandle). h.view.taken) c.self.view_is ∙ c.requires.holds) in (
       c.put_publish.ensures.0.0 ∙ c.self.invariant.0,
-      subst (λ (e : Option (EmptyBox g.row.A.Denot)). IsTracee key c.put_publish.new.seat.me x.row x.word (is_some e))
-          (sym c.take.ensures.after)
-          (published_tracee key x.seat.me c.put_publish.new.seat.me x.row x.word c.put-boxed.result.0 held
+      subst (IsTracee key c.put_publish.new.seat.me x.row x.word) (sym c.give-boxed.ensures.has_box)
+          (published_tracee key x.seat.me c.put_publish.new.seat.me x.row x.word c.give-boxed.result held
           c.put_publish.ensures.1).1,
-      ap (λ (e : Option (EmptyBox g.row.A.Denot)). not (is_some e)) (sym c.take.ensures.after),
     )
 
 pub returns-clause-made : goal.returns-clause-made
 returns-clause-made g c =
     let x = c.self.inside in
     let key = (arc_value x.cells).table.shared.key in
-    let held = held_tracee key x.seat.me x.row x.word (is_some x.empty) c.self.invariant.1
+    let held = held_tracee key x.seat.me x.row x.word x.holder c.self.invariant.1
     (ap (λ (h : TraceeHandle). h.view.taken) c.self.view_is ∙ c.requires.holds) in
     subst (λ (h : TraceeHandle). (before : List Entry)
     × EndsWith h.view c.put_publish.new.seat.me.0 before (publish_of h.row c.args.stop)) c.self.view_is
     (published_tracee key x.seat.me c.put_publish.new.seat.me x.row x.word c.args.stop held
-    (subst (λ (stop : Content). Published x.seat.me c.put_publish.new.seat.me x.row stop) c.put-boxed.ensures
+    (subst (λ (stop : Content). Published x.seat.me c.put_publish.new.seat.me x.row stop) c.give-boxed.ensures.record
     c.put_publish.ensures.1)).0

@@ -1,6 +1,5 @@
 -- A tracee asks whether its row is born.
 use Rattle.std.proofs.Common.{◌∙◌}
-use Rattle.std.specs.Prelude.{is_some}
 use Rattle.std.specs.Arc.{arc_value}
 use Rattle.stop_table.proofs.Tracees.{tracee_looked}
 use Rattle.stop_table.proofs.tracee.Tracee.start.Goals as goal
@@ -11,7 +10,6 @@ invariant_of-self g c =
     let i = c.self.invariant in
     let e = c.start_of.ensures.seat in (
       e.0.0 ∙ i.0,
-      tracee_looked (arc_value x.cells).table.shared.key x.seat.me c.start_of.new.seat.me x.row x.word (is_some x.empty) i.1 e.2
+      tracee_looked (arc_value x.cells).table.shared.key x.seat.me c.start_of.new.seat.me x.row x.word x.holder i.1 e.2
           e.1,
-      i.2,
     )

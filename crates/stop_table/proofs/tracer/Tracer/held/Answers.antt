@@ -8,13 +8,13 @@ use Rattle.stop_table.proofs.tracer.Tracer.held.Goals as goal
 pub overflow_cast-result : goal.overflow_cast-result
 overflow_cast-result g c =
     let t = c.self.inside in
-    let few = held_few (arc_value t.cells).table.shared.key t.seat.me t.number t.held.items c.self.invariant.1 in
-    omega (arith, c.len.ensures, t.held.ok)
+    let few = held_few (arc_value t.cells).table.shared.key t.seat.me t.number t.held c.self.invariant.1 in
+    omega (arith, c.len.ensures)
 
 pub returns : goal.returns
 returns g c =
     let t = c.self.inside in
-    let count = held_count (arc_value t.cells).table.shared.key t.seat.me t.number t.held.items c.self.invariant.1 in
+    let count = held_count (arc_value t.cells).table.shared.key t.seat.me t.number t.held c.self.invariant.1 in
     let same : length (held_rows t.seat.me.0) ≡ length (held_rows c.args.self.now.view) =
     ap (λ (e : TracerHandle). length (held_rows e.view)) c.self.view_is in
-    omega (arith, c.len.ensures, t.held.ok)
+    omega (arith, c.len.ensures)

@@ -13,6 +13,6 @@ returns g c =
     ap (λ (e : TracerHandle). held_rows e.view) c.self.view_is ∙ c.requires in (
       ap (λ (e : TracerHandle). e.table_id) c.self.view_is,
       is_seated t.seat.me c.args.self.view (ap (λ (e : TracerHandle). e.view) c.self.view_is)
-          (none_held (arc_value t.cells).table.shared.key t.seat.me t.number t.held.items kept none),
+          (none_held (arc_value t.cells).table.shared.key t.seat.me t.number t.held kept none),
       ap (λ (e : TracerHandle). e.view.taken) (sym c.self.view_is) ∙ kept.idle,
     )

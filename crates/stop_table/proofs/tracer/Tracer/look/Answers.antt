@@ -15,8 +15,7 @@ invariant_of-self g c =
     let key = (arc_value x.cells).table.shared.key in
     let e = c.sees_born.ensures.seat in (
       e.0.0 ∙ c.self.invariant.0,
-      tracer_looked key x.seat.me c.sees_born.new.seat.me x.number x.held.items c.self.invariant.1 e.2 e.1,
-      c.self.invariant.2,
+      tracer_looked key x.seat.me c.sees_born.new.seat.me x.number x.held c.self.invariant.1 e.2 e.1,
     )
 
 pub returns-then-not-sees_born-clause-shown : goal.returns-then-not-sees_born-clause-shown
@@ -25,7 +24,7 @@ returns-then-not-sees_born-clause-shown g c =
     let key = (arc_value x.cells).table.shared.key in
     let s = c.if-not-sees_born.ensures in
     subst (λ (h : TracerHandle). LooksAt h.view c.sees_born.new.seat.me.0 c.args.row shows.Unborn) c.self.view_is
-    (seen_unborn key x.seat.me c.sees_born.new.seat.me.0 x.number x.held.items c.args.row c.self.invariant.1 s.seat.2
+    (seen_unborn key x.seat.me c.sees_born.new.seat.me.0 x.number x.held c.args.row c.self.invariant.1 s.seat.2
     s.born)
 
 pub invariant_of-self-2 : goal.invariant_of-self-2
@@ -36,9 +35,8 @@ invariant_of-self-2 g c =
     let looked = looked_on x.seat.me.0 c.sees_born.new.seat.me.0 c.see.new.seat.me.0 e.2
     (one_look c.sees_born.new.seat.me c.see.new.seat.me c.args.row c.see.result c.see.ensures.1) in (
       c.see.ensures.0.0 ∙ e.0.0 ∙ c.self.invariant.0,
-      tracer_looked key x.seat.me c.see.new.seat.me x.number x.held.items c.self.invariant.1 looked
+      tracer_looked key x.seat.me c.see.new.seat.me x.number x.held c.self.invariant.1 looked
           (c.see.ensures.1.0 ∙ e.1),
-      c.self.invariant.2,
     )
 
 pub returns-clause-shown : goal.returns-clause-shown

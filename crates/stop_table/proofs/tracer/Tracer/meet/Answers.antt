@@ -13,9 +13,8 @@ invariant_of-self g c =
     let x = c.self.inside in
     let key = (arc_value x.cells).table.shared.key in (
       c.join.ensures.0.0 ∙ c.self.invariant.0,
-      met_tracer key x.seat.me c.join.new.seat.me c.into_seat.result.me.0 x.number x.held.items c.self.invariant.1
+      met_tracer key x.seat.me c.join.new.seat.me c.into_seat.result.me.0 x.number x.held c.self.invariant.1
           c.join.ensures.1,
-      c.self.invariant.2,
     )
 
 pub returns-clause-met : goal.returns-clause-met

@@ -6,7 +6,6 @@ use Rattle.stop_table.proofs.tracer.Tracer.new.Goals as goal
 pub invariant_of-result : goal.invariant_of-result
 invariant_of-result g c = (
   c.requires.table,
-  is_new_tracer (arc_value c.args.cells).table.shared.key c.args.seat.me c.args.number c.args.held.items
-      c.requires.roster c.requires.number c.requires.seat c.requires.held.0,
-  c.requires.held.1,
+  is_new_tracer (arc_value c.args.cells).table.shared.key c.args.seat.me c.args.number c.args.held
+      c.requires.roster c.requires.number c.requires.seat c.requires.held,
 )

@@ -18,9 +18,8 @@ invariant_of-self g c =
     let key = (arc_value x.cells).table.shared.key in
     let e = c.in-Err.ensures in (
       e.seat.0 ∙ c.self.invariant.0,
-      missed_claim key x.seat.me c.try_reap.new.seat.me x.number c.args.row c.in-Err.field-0 x.held.items c.self.invariant.1
+      missed_claim key x.seat.me c.try_reap.new.seat.me x.number c.args.row c.in-Err.field-0 x.held c.self.invariant.1
           e.reaped.0,
-      c.self.invariant.2,
     )
 
 pub returns-in-Err-clause-taken : goal.returns-in-Err-clause-taken
@@ -35,7 +34,7 @@ returns-in-Err-clause-taken g c =
     let word = c.requires.word.0
     ∙ ap (λ (h : TracerHandle). word_of false (cell_after h.view.roster h.view.seen c.args.row)) (sym c.self.view_is) in (
       subst (λ (h : TracerHandle). LosesAt h.view c.try_reap.new.seat.me.0 c.args.row shows.Reaped) c.self.view_is
-          (lost_claim x.seat.me c.try_reap.new.seat.me c.args.row c.args.word c.in-Err.field-0 (phase.Dead c.args.status)
+          (lost_claim x.seat.me c.try_reap.new.seat.me c.args.row c.args.seen c.in-Err.field-0 (phase.Dead c.args.status)
           shows.Reaped there born (subst (λ rs. AreLegal rs x.seat.me.0.seen) (sym t.roster_is) t.legal) e.reaped.0 e.reaped.1
           word c.requires.word.1 (λ k. refl) (λ k. refl)),
       refl,
@@ -44,7 +43,7 @@ returns-in-Err-clause-taken g c =
 pub unreachable-requires : goal.unreachable-requires
 unreachable-requires g c =
     let x = c.self.inside in
-    let some = has_death x.seat.me c.try_reap.new.seat.me c.args.row c.args.status c.args.word c.in_default.ensures.reaped
+    let some = has_death x.seat.me c.try_reap.new.seat.me c.args.row c.args.status c.args.seen c.in_default.ensures.reaped
     c.requires.word.1 in
     c.in_default-from_status.not-Some some.0 (c.from_status.ensures.each some.0 some.1 some.2)
 
@@ -54,9 +53,8 @@ invariant_of-self-2 g c =
     let key = (arc_value x.cells).table.shared.key in
     let e = c.in_default.ensures in (
       e.seat.0 ∙ c.self.invariant.0,
-      kept_reap key x.seat.me c.try_reap.new.seat.me x.number c.args.row c.args.status x.held.items c.args.word
+      kept_reap key x.seat.me c.try_reap.new.seat.me x.number c.args.row c.args.status x.held c.args.seen
           c.self.invariant.1 e.reaped c.requires.word.1,
-      c.self.invariant.2,
     )
 
 pub returns-clause-taken : goal.returns-clause-taken
@@ -70,8 +68,8 @@ returns-clause-taken g c =
       subst (λ (h : TracerHandle). Reaps h.view c.try_reap.new.seat.me.0 c.args.row c.in-Some.death c.word.inside.number)
           c.self.view_is
           (subst (Reaps x.seat.me.0 c.try_reap.new.seat.me.0 c.args.row c.in-Some.death)
-          (ap (λ (w : Word). w.number) (sym c.word.view_is))
-          (did_reap x.seat.me c.try_reap.new.seat.me c.args.row c.args.status c.args.word c.in-Some.death there born
+          (ap (λ (w : Word). w.number) (sym (c.word.view_is ∙ c.seen.view_is)))
+          (did_reap x.seat.me c.try_reap.new.seat.me c.args.row c.args.status c.args.seen c.in-Some.death there born
           c.in_default.ensures.reaped c.requires.word.1 told.0 told.1)),
       refl,
     )

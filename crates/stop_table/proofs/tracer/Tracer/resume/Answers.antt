@@ -1,5 +1,5 @@
 -- A tracer resumes a row that it has claimed.
-use Rattle.std.proofs.Common.{◌∙◌, ap, arith, remove, subst, sym}
+use Rattle.std.proofs.Common.{◌∙◌, ap, drop, subst, sym}
 use Rattle.std.specs.Arc.{arc_value}
 use Rattle.stop_history.specs.Event as event
 use Rattle.stop_table.specs.Entry.{bare}
@@ -18,7 +18,7 @@ bring-requires-clause-rows g c =
     let holding = subst (λ (h : TracerHandle). IsHolding h.view c.args.claim.row c.args.claim.word c.args.claim.stop)
     (sym c.self.view_is) c.requires.claim in (
       t.apart,
-      is_held_row key x.seat.me x.number x.held.items c.args.claim.row c.args.claim.word c.args.claim.stop t holding,
+      is_held_row key x.seat.me x.number x.held c.args.claim.row c.args.claim.word c.args.claim.stop t holding,
     )
 
 pub let_run-requires-clause-held : goal.let_run-requires-clause-held
@@ -28,9 +28,9 @@ let_run-requires-clause-held g c =
     let t = c.self.invariant.1 in
     let holding = subst (λ (h : TracerHandle). IsHolding h.view c.args.claim.row c.args.claim.word c.args.claim.stop)
     (sym c.self.view_is) c.requires.claim in
-    let turned = turned_tracer key x.seat.me c.bring.new.seat.me x.number x.held.items c.bring.new.rows.items t
+    let turned = turned_tracer key x.seat.me c.bring.new.seat.me x.number x.held c.bring.new.self t
     c.bring.ensures.seat.2 c.bring.ensures.slots c.bring.ensures.rows.0 c.bring.ensures.rows.1 in
-    at_front x.seat.me c.bring.new.seat.me c.args.claim.row c.bring.new.rows.items c.bring.ensures.front.0
+    at_front x.seat.me c.bring.new.seat.me c.args.claim.row c.bring.new.self c.bring.ensures.front.0
     c.args.claim.word c.args.claim.stop holding c.bring.ensures.seat.2 c.bring.ensures.slots c.bring.ensures.front.1
 
 pub invariant_of-self : goal.invariant_of-self
@@ -40,17 +40,15 @@ invariant_of-self g c =
     let t = c.self.invariant.1 in
     let holding = subst (λ (h : TracerHandle). IsHolding h.view c.args.claim.row c.args.claim.word c.args.claim.stop)
     (sym c.self.view_is) c.requires.claim in
-    let turned = turned_tracer key x.seat.me c.bring.new.seat.me x.number x.held.items c.bring.new.rows.items t
+    let turned = turned_tracer key x.seat.me c.bring.new.seat.me x.number x.held c.bring.new.self t
     c.bring.ensures.seat.2 c.bring.ensures.slots c.bring.ensures.rows.0 c.bring.ensures.rows.1 in
     let others = c.bring.ensures.front.0 in
     let front = subst (IsTracer key c.bring.new.seat.me x.number) c.bring.ensures.front.1 turned in
     let last = let_go key c.bring.new.seat.me c.let_run.new.seat.me x.number c.args.claim.row c.args.claim.word.number
-    c.args.how others front c.let_run.ensures.1 in
-    let wide = c.self.invariant.2 in (
+    c.args.how others front c.let_run.ensures.1 in (
       c.let_run.ensures.0.0 ∙ c.bring.ensures.seat.0 ∙ c.self.invariant.0,
       subst (IsTracer key c.let_run.new.seat.me x.number)
-          (sym (c.remove.ensures.items ∙ ap (λ items. remove items 0) c.bring.ensures.front.1)) last,
-      omega (arith, wide, c.bring.ensures.capacity.1, c.remove.ensures.capacity),
+          (sym (c.take_first.ensures ∙ ap (drop 1) c.bring.ensures.front.1)) last,
     )
 
 pub returns-clause-made : goal.returns-clause-made
@@ -60,7 +58,7 @@ returns-clause-made g c =
     let t = c.self.invariant.1 in
     let holding = subst (λ (h : TracerHandle). IsHolding h.view c.args.claim.row c.args.claim.word c.args.claim.stop)
     (sym c.self.view_is) c.requires.claim in
-    let turned = turned_tracer key x.seat.me c.bring.new.seat.me x.number x.held.items c.bring.new.rows.items t
+    let turned = turned_tracer key x.seat.me c.bring.new.seat.me x.number x.held c.bring.new.self t
     c.bring.ensures.seat.2 c.bring.ensures.slots c.bring.ensures.rows.0 c.bring.ensures.rows.1 in
     let run = c.let_run.ensures.1 in
     let number = c.args.claim.word.number in

@@ -4,10 +4,10 @@ use Rattle.stop_table.specs.Place.{place}
 use Rattle.stop_table.specs.Steps.{looked}
 use Rattle.stop_table.proofs.Allowed.{loads}
 use Rattle.stop_table.proofs.Telling.{key_load, saw, shows_word}
-use Rattle.stop_table.proofs.cells.Cells.see.Goals as goal
+use Rattle.stop_table.proofs.cells.Cells.find.Goals as goal
 
-pub load-requires : goal.load-requires
-load-requires g c =
+pub load-bits-requires : goal.load-bits-requires
+load-bits-requires g c =
     let r = c.requires in
     let wide = c.args.self.now.sized.0 in
     let long = ap length r.0.1 in
@@ -18,13 +18,13 @@ load-requires g c =
           (loads c.args.seat.now.me _ _ c.args.row r.1),
     )
 
-pub unpack_known-requires : goal.unpack_known-requires
-unpack_known-requires g c =
-    shows_word c.args.row c.args.seat.now.me _ _ c.requires.1 (c.load.ensures.2 c.args.row c.place-at.ensures)
+pub unpack_known-word-requires : goal.unpack_known-word-requires
+unpack_known-word-requires g c =
+    shows_word c.args.row c.args.seat.now.me _ _ c.requires.1 (c.load-bits.ensures.2 c.args.row c.place-at.ensures)
 
 pub returns : goal.returns
 returns g c = (
-  (c.load.ensures.0, c.load.ensures.1),
-  saw c.args.row c.args.seat.now.me _ _ _ c.requires.1 (c.load.ensures.2 c.args.row c.place-at.ensures)
-      c.unpack_known.ensures.0 c.unpack_known.ensures.1,
+  (c.load-bits.ensures.0, c.load-bits.ensures.1),
+  saw c.args.row c.args.seat.now.me _ _ _ c.requires.1 (c.load-bits.ensures.2 c.args.row c.place-at.ensures)
+      c.unpack_known-word.ensures.0 c.unpack_known-word.ensures.1,
 )

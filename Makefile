@@ -1,7 +1,7 @@
 # Each target says what it does and how long it may take, on a machine of 4 processors.
 # `rt` is the command of the Rattle kit (README.md, "What it needs"); RT names another one.
 RT ?= rt
-KIT = rattle-kit-13b logic dac8208d650f15bf
+KIT = rattle-kit-13f logic dac8208d650f15bf
 CRATES = $(notdir $(wildcard crates/*))
 RUSTC ?= rustc
 PYTHON ?= python3

@@ -1,7 +1,7 @@
 -- Several claims of one tracer: their slots are turned until the one that is wanted is in front, and the rows with
 -- them. The rows are kept with the one claimed last at the end.
 use Rattle.std.proofs.Common.{refl, ◌≡◌, ◌<◌, ◌+◌, ◌∷◌, ◌++◌, ◌||◌, ◌==◌, [], ℕ, Bool, true, false, List, Option, None}
-use Rattle.std.proofs.Common.{IsPermutation, length, drop, take, get_or, reverse, ◌∙◌, sym, ap, subst, arith, eq-eqb, ne_eqb, inl, inr, Some}
+use Rattle.std.proofs.Common.{◌-◌, IsPermutation, length, drop, take, get_or, reverse, ◌∙◌, sym, ap, subst, arith, eq-eqb, ne_eqb, inl, inr, Some}
 use Rattle.std.proofs.lemmas.Bool.{cases_eq, eqb-false, eqb-true, false≢true, lt-ltb, or_from, or_parts}
 use Rattle.std.proofs.lemmas.List.{append-nil, append_assoc, drop_more, map_push, take-append-drop}
 use Rattle.std.proofs.lemmas.List.{length-drop, length-reverse, reverse-append, reverse-reverse, take_more}
@@ -99,20 +99,21 @@ among_reversed row rows =
     (subst (IsPermutation (reverse rows)) (reverse-reverse rows) (IsPermutation-reverse (reverse rows)))
 
 -- as many turns as there are rows behind a place bring the row there to the end
-pub turned_behind : (rows : List ℕ) (at turns : ℕ) → at < length rows → turns + at + 1 ≡ length rows
-    → reverse (drop (at + 1) rows ++ take (at + 1) rows) ≡ drop turns (reverse rows) ++ take turns (reverse rows)
-turned_behind rows at turns within count =
-    let front = reverse (drop (at + 1) rows) in
-    let back = reverse (take (at + 1) rows) in
+pub turned_behind : (rows : List ℕ) (turns : ℕ) → turns < length rows
+    → reverse (drop (length rows - turns) rows ++ take (length rows - turns) rows)
+    ≡ drop turns (reverse rows) ++ take turns (reverse rows)
+turned_behind rows turns within =
+    let at = length rows - turns in
+    let front = reverse (drop at rows) in
+    let back = reverse (take at rows) in
     let whole : reverse rows ≡ front ++ back =
-    ap reverse (sym (take-append-drop (at + 1) rows)) ∙ reverse-append (take (at + 1) rows) (drop (at + 1) rows) in
-    let long : length front ≡ turns =
-    length-reverse (drop (at + 1) rows) ∙ length-drop (at + 1) rows ∙ omega arith in
+    ap reverse (sym (take-append-drop at rows)) ∙ reverse-append (take at rows) (drop at rows) in
+    let long : length front ≡ turns = length-reverse (drop at rows) ∙ length-drop at rows ∙ omega arith in
     let later : drop turns (reverse rows) ≡ back =
     ap (drop turns) whole ∙ ap (λ n. drop n (front ++ back)) (sym long) ∙ drop-append_seam front back in
     let sooner : take turns (reverse rows) ≡ front =
     ap (take turns) whole ∙ ap (λ n. take n (front ++ back)) (sym long) ∙ take-append_seam front back in
-    reverse-append (drop (at + 1) rows) (take (at + 1) rows)
+    reverse-append (drop at rows) (take at rows)
     ∙ ap (λ l. back ++ l) (sym sooner) ∙ ap (λ l. l ++ take turns (reverse rows)) (sym later)
 
 -- the place of a row has the row
@@ -122,13 +123,18 @@ placed row rows at is =
     let found = position-Some (λ n. n == row) rows at 0 is in
     (found.0, eqb-true (get_or rows at 0) row found.1)
 
--- the row at a place is the first of those up to it
-pub first_reversed : (rows others : List ℕ) (at row : ℕ) → at < length rows → get_or rows at 0 ≡ row
-    → (more : List ℕ) × (reverse (others ++ take (at + 1) rows) ≡ row ∷ more)
-first_reversed rows others at row within is = (
-  reverse (take at rows) ++ reverse others,
-  reverse-append others (take (at + 1) rows)
-      ∙ ap (λ l. reverse l ++ reverse others) (take_more rows at 0 within)
-      ∙ ap (λ l. l ++ reverse others) (reverse-append (take at rows) (get_or rows at 0 ∷ []))
-      ∙ ap (λ r. r ∷ (reverse (take at rows) ++ reverse others)) is,
-)
+-- and so it is the first of those that are kept the other way round
+pub first_behind : (rows : List ℕ) (at row : ℕ) → at < length rows → get_or rows at 0 ≡ row
+    → (others : List ℕ) × (drop (length rows - 1 - at) (reverse rows) ++ take (length rows - 1 - at) (reverse rows) ≡ row ∷ others)
+first_behind rows at row within is =
+    let turns = length rows - 1 - at in
+    let up_to : length rows - turns ≡ at + 1 = omega arith in
+    let others = drop (at + 1) rows in (
+      reverse (take at rows) ++ reverse others,
+      sym (turned_behind rows turns (omega arith))
+          ∙ ap (λ n. reverse (drop n rows ++ take n rows)) up_to
+          ∙ reverse-append others (take (at + 1) rows)
+          ∙ ap (λ l. reverse l ++ reverse others) (take_more rows at 0 within)
+          ∙ ap (λ l. l ++ reverse others) (reverse-append (take at rows) (get_or rows at 0 ∷ []))
+          ∙ ap (λ r. r ∷ (reverse (take at rows) ++ reverse others)) is,
+    )

@@ -164,9 +164,7 @@ impl<A: Allocator> BoxHolder<A> {
         let Some(boxed) = self.boxed.take() else {
             unreachable!()
         };
-        let None = self.spare.replace(spare) else {
-            unreachable!()
-        };
+        self.spare = Some(spare);
         boxed
     }
 }

@@ -1,7 +1,7 @@
 //! The rows that a tracer has claimed, in the order in which their slots are out with its seat: the table moves the
 //! record of the slot taken last, so the slot of a claim that is to be resumed is brought to the front first.
 
-ghost use Rattle.std.specs.Prelude.{◌≡◌, ◌∷◌, ◌<◌, ◌≤◌, [], ℕ, List, length, drop, true};
+ghost use Rattle.std.specs.Prelude.{◌≡◌, ◌∷◌, ◌++◌, ◌<◌, ◌≤◌, [], ℕ, List, length, drop, take, true};
 ghost use Rattle.std.specs.Vec.{vec_capacity};
 ghost use Rattle.stop_history.specs.declared.limits.TheConstants.{MOST_ROWS};
 ghost use Rattle.stop_table.specs.Tracer.{AreApart, emptied};
@@ -97,6 +97,18 @@ impl<A: Allocator> Held<A> {
             unreachable!()
         };
         let turns = self.rows.len() - 1 - place;
+        self.turn(seat, turns);
+    }
+
+    /// Turns the slots and the rows this many times: each time the first becomes the last.
+    fn turn(&mut self, seat: &mut Seat<A>, turns: usize)
+        requires slots { seat.old.me.1 ≡ emptied self.old }
+        requires turns { turns < length self.old }
+        ensures seat { (seat.new.table_id ≡ seat.old.table_id) × (seat.new.id ≡ seat.old.id)
+            × (seat.new.me.0 ≡ seat.old.me.0) }
+        ensures slots { seat.new.me.1 ≡ emptied self.new }
+        ensures rows { self.new ≡ drop turns self.old ++ take turns self.old }
+    {
         for _ in 0..turns {
             seat.turn();
         }

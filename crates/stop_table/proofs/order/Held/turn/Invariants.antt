@@ -1,13 +1,12 @@
 -- While the slots are turned, they are those of the rows of which as many have been turned.
-use Rattle.std.proofs.Common.{◌≡◌, ◌++◌, drop, reverse, take}
+use Rattle.std.proofs.Common.{◌≡◌, ◌++◌, drop, take}
 use Rattle.stop_table.specs.Tracer.{emptied}
-use Rattle.stop_table.proofs.order.Held.turn_to.Given as goal
+use Rattle.stop_table.proofs.order.Held.turn.Given as goal
 
 abbrev pub invariant-loop : goal.invariant-loop
 invariant-loop g l = record {
   table_id : l.seat.table_id ≡ l.initial.seat.table_id;
   id : l.seat.id ≡ l.initial.seat.id;
   view : l.seat.me.0 ≡ l.initial.seat.me.0;
-  slots : l.seat.me.1
-      ≡ emptied (drop l.counter (reverse l.self-inside.rows.items) ++ take l.counter (reverse l.self-inside.rows.items));
+  slots : l.seat.me.1 ≡ emptied (drop l.counter l.self ++ take l.counter l.self);
 }

@@ -33,12 +33,12 @@ use trace_record::{Death, Resume};
 
 /// A word that a look found in a row, with its bits, so that an exchange that looks for them need not pack them again.
 #[derive(Drop)]
-pub(crate) struct Found {
+pub(crate) struct SeenWord {
     pub(crate) bits: u64,
     pub(crate) word: Word,
 }
 
-impl Model for Found {
+impl Model for SeenWord {
     ghost use Rattle.std.specs.Prelude.{◌≡◌};
     ghost use Rattle.stop_history.specs.Layout.{raw_of};
     ghost use Rattle.stop_history.specs.Word as words;
@@ -53,7 +53,7 @@ impl Model for Found {
 impl<A: Allocator> Cells<A> {
     /// One look at a row's word.
     #[inline(always)]
-    pub(crate) fn find(&self, seat: &mut Seat<A>, row: usize) -> Found
+    pub(crate) fn see_bits(&self, seat: &mut Seat<A>, row: usize) -> SeenWord
         requires { IsSeatOf self.now seat.old × (row < length seat.old.me.0.roster) }
         ensures { IsSameSeat seat.old seat.new × Saw seat.old.me seat.new.me row result }
     {
@@ -61,7 +61,7 @@ impl<A: Allocator> Cells<A> {
         let at = self.place(row);
         let bits = self.table.shared.load::<Looks>(seat, at);
         let word = Word::unpack_known(bits);
-        Found { bits, word }
+        SeenWord { bits, word }
     }
 
     /// The same, where the word alone is asked for.
@@ -70,7 +70,7 @@ impl<A: Allocator> Cells<A> {
         requires { IsSeatOf self.now seat.old × (row < length seat.old.me.0.roster) }
         ensures { IsSameSeat seat.old seat.new × Saw seat.old.me seat.new.me row result }
     {
-        self.find(seat, row).word
+        self.see_bits(seat, row).word
     }
 
     /// Whether a row is born, by a look at its parent's word if it has one.
@@ -110,7 +110,12 @@ impl<A: Allocator> Cells<A> {
 
     /// Takes a row up, whose word was seen, with its record.
     #[inline(always)]
-    pub(crate) fn take_record(&self, seat: &mut Seat<A>, row: usize, seen: Found) -> BoxedRecord<A>
+    pub(crate) fn take_record(
+        &self,
+        seat: &mut Seat<A>,
+        row: usize,
+        seen: SeenWord,
+    ) -> BoxedRecord<A>
         requires seat { IsSeatOf self.now seat.old × (row < length seat.old.me.0.roster) }
         requires tracee { (seat.old.me.0.tracees ≡ row ∷ []) × (seat.old.me.0.taken ≡ false)
             × (is_born seat.old.me.0.roster (history_of seat.old.me.0.seen) row ≡ true) }
@@ -167,7 +172,7 @@ impl<A: Allocator> Cells<A> {
         &self,
         seat: &mut Seat<A>,
         row: usize,
-        seen: Found,
+        seen: SeenWord,
         tracer: u8,
     ) -> Result<BoxedRecord<A>, Word>
         requires seat { IsSeatOf self.now seat.old × (row < length seat.old.me.0.roster) }
@@ -199,7 +204,7 @@ impl<A: Allocator> Cells<A> {
         &self,
         seat: &mut Seat<A>,
         row: usize,
-        seen: Found,
+        seen: SeenWord,
         tracer: u8,
     ) -> Result<(), Word>
         requires seat { IsSeatOf self.now seat.old × (row < length seat.old.me.0.roster) }

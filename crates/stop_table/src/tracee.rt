@@ -124,7 +124,7 @@ impl<A: Allocator> Tracee<A> {
             × (a ≢ shows.Running)) }
     {
         let row = self.row as usize;
-        let seen = self.cells.find(&mut self.seat, row);
+        let seen = self.cells.see_bits(&mut self.seat, row);
         let word = seen.word;
         let Ok(how) = restart_in(word.phase) else {
             return None;

@@ -18,7 +18,7 @@ use crate::cells::{Cells, Seat};
 use crate::claim::{Claim, Taken};
 use crate::order::Held;
 use crate::shown::{Shown, is_claimable, show};
-use crate::steps::Found;
+use crate::steps::SeenWord;
 use crate::tracee::Tracee;
 use std::alloc::{Allocator, Global};
 use std::marker::Model;
@@ -137,7 +137,7 @@ impl<A: Allocator> Tracer<A> {
         if !self.cells.sees_born(&mut self.seat, at) {
             return Taken::Nothing(Shown::Unborn);
         }
-        let seen = self.cells.find(&mut self.seat, at);
+        let seen = self.cells.see_bits(&mut self.seat, at);
         let word = seen.word;
         let shown = show(word);
         if !is_claimable(shown, deaths) {
@@ -151,7 +151,7 @@ impl<A: Allocator> Tracer<A> {
 
     /// Claims a stop that was seen.
     #[inline(always)]
-    fn claim_seen(&mut self, row: u32, seen: Found, deaths: bool) -> Taken<A>
+    fn claim_seen(&mut self, row: u32, seen: SeenWord, deaths: bool) -> Taken<A>
         requires row { row < length self.old.view.roster }
         requires born { is_born self.old.view.roster (history_of self.old.view.seen) row ≡ true }
         requires word { (seen ≡ word_of false (cell_after self.old.view.roster self.old.view.seen row))
@@ -180,7 +180,7 @@ impl<A: Allocator> Tracer<A> {
     }
 
     /// Claims a death that was seen.
-    fn reap_seen(&mut self, row: u32, seen: Found, status: u32) -> Taken<A>
+    fn reap_seen(&mut self, row: u32, seen: SeenWord, status: u32) -> Taken<A>
         requires row { row < length self.old.view.roster }
         requires born { is_born self.old.view.roster (history_of self.old.view.seen) row ≡ true }
         requires word { (seen ≡ word_of false (cell_after self.old.view.roster self.old.view.seen row))

@@ -19,9 +19,9 @@ returns-in_default-clause-none g c =
     let idle = idle_tracee key x.seat.me x.row x.word x.holder c.self.invariant.1
     (ap (λ (h : TraceeHandle). h.view.taken) c.self.view_is ∙ c.requires) in
     let word = ap (λ (w : Word). w.phase) (c.word.view_is ∙ c.seen.view_is) in
-    subst (λ (h : TraceeHandle). (a : Shown) × LooksAt h.view c.find-seen.new.seat.me.0 h.row a × (a ≢ shows.Running))
+    subst (λ (h : TraceeHandle). (a : Shown) × LooksAt h.view c.see_bits-seen.new.seat.me.0 h.row a × (a ≢ shows.Running))
     c.self.view_is
-    (does_not_run key x.seat.me c.find-seen.new.seat.me x.row x.word c.find-seen.result idle c.find-seen.ensures.1
+    (does_not_run key x.seat.me c.see_bits-seen.new.seat.me x.row x.word c.see_bits-seen.result idle c.see_bits-seen.ensures.1
     c.in_default.field-0 (ap restart_in (sym word) ∙ sym c.restart_in.ensures ∙ c.in_default.is))
 
 pub returns-then-not-sees_running-clause-none : goal.returns-then-not-sees_running-clause-none
@@ -31,8 +31,8 @@ returns-then-not-sees_running-clause-none g c =
     subst (λ (h : TraceeHandle). (a : Shown) × LooksAt h.view c.sees_running.new.seat.me.0 h.row a × (a ≢ shows.Running))
     c.self.view_is (
       shows.Unborn,
-      looks_unborn x.seat.me.0 c.find-seen.new.seat.me.0 c.sees_running.new.seat.me.0 x.row
-          (one_look x.seat.me c.find-seen.new.seat.me x.row c.find-seen.result c.find-seen.ensures.1) s.seat.2 s.born,
+      looks_unborn x.seat.me.0 c.see_bits-seen.new.seat.me.0 c.sees_running.new.seat.me.0 x.row
+          (one_look x.seat.me c.see_bits-seen.new.seat.me x.row c.see_bits-seen.result c.see_bits-seen.ensures.1) s.seat.2 s.born,
       (λ e. cc),
     )
 
@@ -43,9 +43,9 @@ take_record-boxed-requires-clause-seen g c =
     let idle = idle_tracee key x.seat.me x.row x.word x.holder c.self.invariant.1
     (ap (λ (h : TraceeHandle). h.view.taken) c.self.view_is ∙ c.requires) in
     let word = ap (λ (w : Word). w.phase) (c.word.view_is ∙ c.seen.view_is) in
-    let restart : restart_in c.find-seen.result.phase ≡ Ok c.in-Ok.how =
+    let restart : restart_in c.see_bits-seen.result.phase ≡ Ok c.in-Ok.how =
     ap restart_in (sym word) ∙ sym c.restart_in.ensures ∙ c.in-Ok.is in (
-      word_stays key x.seat.me c.find-seen.new.seat.me x.row x.word c.find-seen.result idle c.find-seen.ensures.1
+      word_stays key x.seat.me c.see_bits-seen.new.seat.me x.row x.word c.see_bits-seen.result idle c.see_bits-seen.ensures.1
           c.sees_running.new.seat.me c.in-Ok.how restart c.sees_running.ensures.seat.2,
       (c.in-Ok.how, restart),
     )
@@ -58,12 +58,12 @@ invariant_of-self-2 g c =
     (ap (λ (h : TraceeHandle). h.view.taken) c.self.view_is ∙ c.requires) in
     let word = ap (λ (w : Word). w.phase) (c.word.view_is ∙ c.seen.view_is) in
     let s = c.if-not-sees_running.ensures in
-    let restart : restart_in c.find-seen.result.phase ≡ Ok c.in-Ok.how =
+    let restart : restart_in c.see_bits-seen.result.phase ≡ Ok c.in-Ok.how =
     ap restart_in (sym word) ∙ sym c.restart_in.ensures ∙ c.in-Ok.is in
-    let up = takes_row_up key x.seat.me c.find-seen.new.seat.me c.sees_running.new.seat.me c.take_record-boxed.new.seat.me
-    x.row x.word c.find-seen.result c.in-Ok.how c.take_record-boxed.result idle c.find-seen.ensures.1
+    let up = takes_row_up key x.seat.me c.see_bits-seen.new.seat.me c.sees_running.new.seat.me c.take_record-boxed.new.seat.me
+    x.row x.word c.see_bits-seen.result c.in-Ok.how c.take_record-boxed.result idle c.see_bits-seen.ensures.1
     (subst IsWord c.seen.view_is c.seen.invariant.1) restart s.seat.2 s.born s.seat.1 c.take_record-boxed.ensures.1 in (
-      c.take_record-boxed.ensures.0.0 ∙ s.seat.0.0 ∙ c.find-seen.ensures.0.0 ∙ c.self.invariant.0,
+      c.take_record-boxed.ensures.0.0 ∙ s.seat.0.0 ∙ c.see_bits-seen.ensures.0.0 ∙ c.self.invariant.0,
       subst (IsTracee key c.take_record-boxed.new.seat.me x.row c.seen.inside.word) (sym c.take-record.ensures.has_box)
           (subst (λ w. IsTracee key c.take_record-boxed.new.seat.me x.row w true) (sym c.seen.view_is) up.1),
     )
@@ -76,10 +76,10 @@ returns-clause-some g c =
     (ap (λ (h : TraceeHandle). h.view.taken) c.self.view_is ∙ c.requires) in
     let word = ap (λ (w : Word). w.phase) (c.word.view_is ∙ c.seen.view_is) in
     let s = c.if-not-sees_running.ensures in
-    let restart : restart_in c.find-seen.result.phase ≡ Ok c.in-Ok.how =
+    let restart : restart_in c.see_bits-seen.result.phase ≡ Ok c.in-Ok.how =
     ap restart_in (sym word) ∙ sym c.restart_in.ensures ∙ c.in-Ok.is in
-    let up = takes_row_up key x.seat.me c.find-seen.new.seat.me c.sees_running.new.seat.me c.take_record-boxed.new.seat.me
-    x.row x.word c.find-seen.result c.in-Ok.how c.take_record-boxed.result idle c.find-seen.ensures.1
+    let up = takes_row_up key x.seat.me c.see_bits-seen.new.seat.me c.sees_running.new.seat.me c.take_record-boxed.new.seat.me
+    x.row x.word c.see_bits-seen.result c.in-Ok.how c.take_record-boxed.result idle c.see_bits-seen.ensures.1
     (subst IsWord c.seen.view_is c.seen.invariant.1) restart s.seat.2 s.born s.seat.1 c.take_record-boxed.ensures.1 in (
       subst (λ (h : TraceeHandle). TakesUp h.view c.take_record-boxed.new.seat.me.0 h.row c.in-Ok.how c.take-record.result)
           c.self.view_is

@@ -38,9 +38,9 @@ invariant_of-self-then-not-is_claimable g c =
     let x = c.self.inside in
     let key = (arc_value x.cells).table.shared.key in
     let e = c.sees_born.ensures.seat in (
-      c.find-seen.ensures.0.0 ∙ e.0.0 ∙ c.self.invariant.0,
-      tracer_looked_twice key x.seat.me c.sees_born.new.seat.me c.find-seen.new.seat.me x.number c.args.row c.find-seen.result
-          x.held c.self.invariant.1 e.2 e.1 c.find-seen.ensures.1,
+      c.see_bits-seen.ensures.0.0 ∙ e.0.0 ∙ c.self.invariant.0,
+      tracer_looked_twice key x.seat.me c.sees_born.new.seat.me c.see_bits-seen.new.seat.me x.number c.args.row c.see_bits-seen.result
+          x.held c.self.invariant.1 e.2 e.1 c.see_bits-seen.ensures.1,
     )
 
 pub invariant_of-self-in-Dead : goal.invariant_of-self-in-Dead
@@ -48,9 +48,9 @@ invariant_of-self-in-Dead g c =
     let x = c.self.inside in
     let key = (arc_value x.cells).table.shared.key in
     let e = c.sees_born.ensures.seat in (
-      c.find-seen.ensures.0.0 ∙ e.0.0 ∙ c.self.invariant.0,
-      tracer_looked_twice key x.seat.me c.sees_born.new.seat.me c.find-seen.new.seat.me x.number c.args.row c.find-seen.result
-          x.held c.self.invariant.1 e.2 e.1 c.find-seen.ensures.1,
+      c.see_bits-seen.ensures.0.0 ∙ e.0.0 ∙ c.self.invariant.0,
+      tracer_looked_twice key x.seat.me c.sees_born.new.seat.me c.see_bits-seen.new.seat.me x.number c.args.row c.see_bits-seen.result
+          x.held c.self.invariant.1 e.2 e.1 c.see_bits-seen.ensures.1,
     )
 
 pub invariant_of-self-in_default : goal.invariant_of-self-in_default
@@ -58,9 +58,9 @@ invariant_of-self-in_default g c =
     let x = c.self.inside in
     let key = (arc_value x.cells).table.shared.key in
     let e = c.sees_born.ensures.seat in (
-      c.find-seen.ensures.0.0 ∙ e.0.0 ∙ c.self.invariant.0,
-      tracer_looked_twice key x.seat.me c.sees_born.new.seat.me c.find-seen.new.seat.me x.number c.args.row c.find-seen.result
-          x.held c.self.invariant.1 e.2 e.1 c.find-seen.ensures.1,
+      c.see_bits-seen.ensures.0.0 ∙ e.0.0 ∙ c.self.invariant.0,
+      tracer_looked_twice key x.seat.me c.sees_born.new.seat.me c.see_bits-seen.new.seat.me x.number c.args.row c.see_bits-seen.result
+          x.held c.self.invariant.1 e.2 e.1 c.see_bits-seen.ensures.1,
     )
 
 pub returns-then-not-is_claimable-clause-taken : goal.returns-then-not-is_claimable-clause-taken
@@ -68,9 +68,9 @@ returns-then-not-is_claimable-clause-taken g c =
     let x = c.self.inside in
     let s = c.if-not-sees_born.ensures in
     let there = subst (λ (h : TracerHandle). c.args.row < length h.view.roster) (sym c.self.view_is) c.requires in (
-      subst (λ (h : TracerHandle). AnswersAt h.view c.find-seen.new.seat.me.0 c.args.row c.show-shown.result) c.self.view_is
-          (nothing_there x.seat.me.0 c.sees_born.new.seat.me c.find-seen.new.seat.me c.args.row c.find-seen.result
-          c.show-shown.result there s.seat.2 s.born c.find-seen.ensures.1
+      subst (λ (h : TracerHandle). AnswersAt h.view c.see_bits-seen.new.seat.me.0 c.args.row c.show-shown.result) c.self.view_is
+          (nothing_there x.seat.me.0 c.sees_born.new.seat.me c.see_bits-seen.new.seat.me c.args.row c.see_bits-seen.result
+          c.show-shown.result there s.seat.2 s.born c.see_bits-seen.ensures.1
           (sym (c.show-shown.ensures ∙ ap (λ (w : Word). shown_of (shown true w.number w.phase)) c.seen.view_is))),
       sym c.is_claimable.ensures ∙ c.if-not-is_claimable.true,
     )
@@ -79,20 +79,20 @@ pub reap_seen-requires-clause-born : goal.reap_seen-requires-clause-born
 reap_seen-requires-clause-born g c =
     let x = c.self.inside in
     let s = c.if-not-sees_born.ensures in
-    let born = born_after x.seat.me.0 c.sees_born.new.seat.me c.find-seen.new.seat.me c.args.row c.find-seen.result s.seat.2
-    c.find-seen.ensures.1 s.born in
+    let born = born_after x.seat.me.0 c.sees_born.new.seat.me c.see_bits-seen.new.seat.me c.args.row c.see_bits-seen.result s.seat.2
+    c.see_bits-seen.ensures.1 s.born in
     born
 
 pub claim_seen-requires : goal.claim_seen-requires
 claim_seen-requires g c =
     let x = c.self.inside in
     let s = c.if-not-sees_born.ensures in
-    let born = born_after x.seat.me.0 c.sees_born.new.seat.me c.find-seen.new.seat.me c.args.row c.find-seen.result s.seat.2
-    c.find-seen.ensures.1 s.born in
-    let same = (one_look c.sees_born.new.seat.me c.find-seen.new.seat.me c.args.row c.find-seen.result
-    c.find-seen.ensures.1).grows.same.roster ∙ s.seat.2.grows.same.roster in
+    let born = born_after x.seat.me.0 c.sees_born.new.seat.me c.see_bits-seen.new.seat.me c.args.row c.see_bits-seen.result s.seat.2
+    c.see_bits-seen.ensures.1 s.born in
+    let same = (one_look c.sees_born.new.seat.me c.see_bits-seen.new.seat.me c.args.row c.see_bits-seen.result
+    c.see_bits-seen.ensures.1).grows.same.roster ∙ s.seat.2.grows.same.roster in
     let there = subst (λ (h : TracerHandle). c.args.row < length h.view.roster) (sym c.self.view_is) c.requires in
-    let stop = claimable_stop c.args.deaths c.find-seen.result.number c.find-seen.result.phase
+    let stop = claimable_stop c.args.deaths c.see_bits-seen.result.number c.see_bits-seen.result.phase
     (ap (is_claimable c.args.deaths)
     (sym (c.show-shown.ensures ∙ ap (λ (w : Word). shown_of (shown true w.number w.phase)) c.seen.view_is))
     ∙ sym c.is_claimable.ensures ∙ c.if-not-is_claimable.false)
@@ -101,8 +101,8 @@ claim_seen-requires g c =
       row = subst (λ rows. c.args.row < length rows) (sym same) there;
       born = born;
       word = (
-        idle_word c.sees_born.new.seat.me c.find-seen.new.seat.me c.args.row c.find-seen.result
-            (phase.Stopped stop.0) c.find-seen.ensures.1 stop.1 (λ e. cc),
+        idle_word c.sees_born.new.seat.me c.see_bits-seen.new.seat.me c.args.row c.see_bits-seen.result
+            (phase.Stopped stop.0) c.see_bits-seen.ensures.1 stop.1 (λ e. cc),
         stop,
       );
     }
@@ -111,8 +111,8 @@ pub returns-in-Dead-clause-taken : goal.returns-in-Dead-clause-taken
 returns-in-Dead-clause-taken g c =
     let x = c.self.inside in
     let e = c.sees_born.ensures.seat in
-    let looked = looked_on x.seat.me.0 c.sees_born.new.seat.me.0 c.find-seen.new.seat.me.0 e.2
-    (one_look c.sees_born.new.seat.me c.find-seen.new.seat.me c.args.row c.find-seen.result c.find-seen.ensures.1) in
+    let looked = looked_on x.seat.me.0 c.sees_born.new.seat.me.0 c.see_bits-seen.new.seat.me.0 e.2
+    (one_look c.sees_born.new.seat.me c.see_bits-seen.new.seat.me c.args.row c.see_bits-seen.result c.see_bits-seen.ensures.1) in
     let deaths : c.args.deaths ≡ true =
     ap (λ p. is_claimable c.args.deaths (shown_of (shown true c.word.inside.number p))) (sym c.in-Dead.is)
     ∙ ap (λ (w : Word). is_claimable c.args.deaths (shown_of (shown true w.number w.phase))) c.word.view_is
@@ -120,26 +120,26 @@ returns-in-Dead-clause-taken g c =
     ∙ c.if-not-is_claimable.false in
     subst (λ (h : TracerHandle). IsTaken c.args.deaths h.view c.reap_seen.new.self.view c.args.row c.reap_seen.result)
     c.self.view_is
-    (taken_from c.args.deaths x.seat.me.0 c.find-seen.new.seat.me.0 c.reap_seen.new.self.view c.args.row
+    (taken_from c.args.deaths x.seat.me.0 c.see_bits-seen.new.seat.me.0 c.reap_seen.new.self.view c.args.row
     c.reap_seen.result looked
-    (last_look x.seat.me.0 c.sees_born.new.seat.me c.find-seen.new.seat.me c.args.row c.find-seen.result e.2 c.find-seen.ensures.1)
-    (subst (λ d. IsTakenOrLost d c.find-seen.new.seat.me.0 c.reap_seen.new.self.view c.args.row c.reap_seen.result) (sym deaths)
+    (last_look x.seat.me.0 c.sees_born.new.seat.me c.see_bits-seen.new.seat.me c.args.row c.see_bits-seen.result e.2 c.see_bits-seen.ensures.1)
+    (subst (λ d. IsTakenOrLost d c.see_bits-seen.new.seat.me.0 c.reap_seen.new.self.view c.args.row c.reap_seen.result) (sym deaths)
     c.reap_seen.ensures.taken))
 
 pub returns-in_default : goal.returns-in_default
 returns-in_default g c =
     let x = c.self.inside in
     let e = c.sees_born.ensures.seat in
-    let looked = looked_on x.seat.me.0 c.sees_born.new.seat.me.0 c.find-seen.new.seat.me.0 e.2
-    (one_look c.sees_born.new.seat.me c.find-seen.new.seat.me c.args.row c.find-seen.result c.find-seen.ensures.1) in
+    let looked = looked_on x.seat.me.0 c.sees_born.new.seat.me.0 c.see_bits-seen.new.seat.me.0 e.2
+    (one_look c.sees_born.new.seat.me c.see_bits-seen.new.seat.me c.args.row c.see_bits-seen.result c.see_bits-seen.ensures.1) in
     record {
-      handle = c.claim_seen.ensures.handle ∙ c.find-seen.ensures.0.0 ∙ c.sees_born.ensures.seat.0.0
+      handle = c.claim_seen.ensures.handle ∙ c.see_bits-seen.ensures.0.0 ∙ c.sees_born.ensures.seat.0.0
           ∙ ap (λ (h : TracerHandle). h.table_id) c.self.view_is;
       taken = subst
           (λ (h : TracerHandle). IsTaken c.args.deaths h.view c.claim_seen.new.self.view c.args.row c.claim_seen.result)
           c.self.view_is
-          (taken_from c.args.deaths x.seat.me.0 c.find-seen.new.seat.me.0 c.claim_seen.new.self.view c.args.row
+          (taken_from c.args.deaths x.seat.me.0 c.see_bits-seen.new.seat.me.0 c.claim_seen.new.self.view c.args.row
           c.claim_seen.result looked
-          (last_look x.seat.me.0 c.sees_born.new.seat.me c.find-seen.new.seat.me c.args.row c.find-seen.result e.2 c.find-seen.ensures.1)
+          (last_look x.seat.me.0 c.sees_born.new.seat.me c.see_bits-seen.new.seat.me c.args.row c.see_bits-seen.result e.2 c.see_bits-seen.ensures.1)
           c.claim_seen.ensures.taken);
     }

@@ -4,7 +4,7 @@ use Rattle.stop_table.specs.Place.{place}
 use Rattle.stop_table.specs.Steps.{looked}
 use Rattle.stop_table.proofs.Allowed.{loads}
 use Rattle.stop_table.proofs.Telling.{key_load, saw, shows_word}
-use Rattle.stop_table.proofs.cells.Cells.find.Goals as goal
+use Rattle.stop_table.proofs.cells.Cells.see_bits.Goals as goal
 
 pub load-bits-requires : goal.load-bits-requires
 load-bits-requires g c =

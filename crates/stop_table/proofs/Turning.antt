@@ -4,7 +4,7 @@ use Rattle.std.proofs.Common.{refl, ◌≡◌, ◌<◌, ◌+◌, ◌∷◌, ◌+
 use Rattle.std.proofs.Common.{◌-◌, IsPermutation, length, drop, take, get_or, reverse, ◌∙◌, sym, ap, subst, arith, eq-eqb, ne_eqb, inl, inr, Some}
 use Rattle.std.proofs.lemmas.Bool.{cases_eq, eqb-false, eqb-true, false≢true, lt-ltb, or_from, or_parts}
 use Rattle.std.proofs.lemmas.List.{append-nil, append_assoc, drop_more, map_push, take-append-drop}
-use Rattle.std.proofs.lemmas.List.{length-drop, length-reverse, reverse-append, reverse-reverse, take_more}
+use Rattle.std.proofs.lemmas.List.{get_or-reverse, length-drop, length-reverse, reverse-append, reverse-reverse, take_more}
 use Rattle.std.proofs.lemmas.List.Quantifiers.{position-Some}
 use Rattle.std.proofs.lemmas.List.Sorted.{IsPermutation-reverse, list_any-IsPermutation}
 use Rattle.std.proofs.Math.Seq.{drop-append_seam, take-append_seam}
@@ -68,6 +68,13 @@ apart_swapped (row ∷ front) back apart =
     (apart_swapped front (back ++ row ∷ [])
     (subst AreApart (append_assoc front back (row ∷ [])) (apart_behind row (front ++ back) apart.0 apart.1)))
 
+-- as many turns as there are rows before a row bring it to the front
+pub turned_to : (row : ℕ) (rows : List ℕ) (k : ℕ) → k < length rows → get_or rows k 0 ≡ row
+    → (others : List ℕ) × (drop k rows ++ take k rows ≡ row ∷ others)
+turned_to row rows k within is =
+    let others = drop (k + 1) rows ++ take k rows in
+    (others, ap (λ l. l ++ take k rows) (drop_more rows k 0 within) ∙ ap (λ r. r ∷ others) is)
+
 -- a turn keeps the rows apart
 pub apart_turned : (rows : List ℕ) (k : ℕ) → AreApart rows → AreApart (drop k rows ++ take k rows)
 apart_turned rows k apart =
@@ -98,7 +105,7 @@ among_reversed row rows =
     list_any-IsPermutation (λ n. row == n) (reverse rows) rows
     (subst (IsPermutation (reverse rows)) (reverse-reverse rows) (IsPermutation-reverse (reverse rows)))
 
--- as many turns as there are rows behind a place bring the row there to the end
+-- rows that are kept the other way round are turned backwards
 pub turned_behind : (rows : List ℕ) (turns : ℕ) → turns < length rows
     → reverse (drop (length rows - turns) rows ++ take (length rows - turns) rows)
     ≡ drop turns (reverse rows) ++ take turns (reverse rows)
@@ -116,25 +123,13 @@ turned_behind rows turns within =
     reverse-append (drop at rows) (take at rows)
     ∙ ap (λ l. back ++ l) (sym sooner) ∙ ap (λ l. l ++ take turns (reverse rows)) (sym later)
 
--- the place of a row has the row
+-- a row at a place stands as far from the other end, once they are the other way round
 pub placed : (row : ℕ) (rows : List ℕ) (at : ℕ) → position (λ n. n == row) rows ≡ Some at
-    → (at < length rows) × (get_or rows at 0 ≡ row)
+    → (length rows - 1 - at < length (reverse rows)) × (get_or (reverse rows) (length rows - 1 - at) 0 ≡ row)
 placed row rows at is =
     let found = position-Some (λ n. n == row) rows at 0 is in
-    (found.0, eqb-true (get_or rows at 0) row found.1)
-
--- and so it is the first of those that are kept the other way round
-pub first_behind : (rows : List ℕ) (at row : ℕ) → at < length rows → get_or rows at 0 ≡ row
-    → (others : List ℕ) × (drop (length rows - 1 - at) (reverse rows) ++ take (length rows - 1 - at) (reverse rows) ≡ row ∷ others)
-first_behind rows at row within is =
-    let turns = length rows - 1 - at in
-    let up_to : length rows - turns ≡ at + 1 = omega arith in
-    let others = drop (at + 1) rows in (
-      reverse (take at rows) ++ reverse others,
-      sym (turned_behind rows turns (omega arith))
-          ∙ ap (λ n. reverse (drop n rows ++ take n rows)) up_to
-          ∙ reverse-append others (take (at + 1) rows)
-          ∙ ap (λ l. reverse l ++ reverse others) (take_more rows at 0 within)
-          ∙ ap (λ l. l ++ reverse others) (reverse-append (take at rows) (get_or rows at 0 ∷ []))
-          ∙ ap (λ r. r ∷ (reverse (take at rows) ++ reverse others)) is,
+    let before = length rows - 1 - at in
+    let back : length rows - 1 - before ≡ at = omega (arith, found.0) in (
+      omega (arith, found.0, length-reverse rows),
+      get_or-reverse rows before 0 (omega (arith, found.0)) ∙ ap (λ n. get_or rows n 0) back ∙ eqb-true (get_or rows at 0) row found.1,
     )

@@ -129,7 +129,7 @@ resumed_on s row m n =
 abbrev pub resumed : TheStep → Seated → ℕ → Seated → Type 0
 resumed s m found n = AtRow s (λ row. resumed_on s row m n)
 
--- the tracee's row ended, as the new word says, and its record is back in the slot
+-- the tracee's row ended, as the new word says, and its slot is no longer out; of a dead row's record nothing is said
 abbrev pub exited_on : TheStep → ℕ → Seated → Seated → Type 0
 exited_on s row m n =
     (death : Death) × IsDeath death

@@ -82,7 +82,8 @@ impl<A: Allocator> BoxedRecord<A> {
     /// Puts a record in, and gives back the memory that was there.
     #[inline(always)]
     fn put(&mut self, stop: StopRecord<A>) -> Memory<A>
-        ensures { self.new ≡ stop }
+        ensures memory { result ≡ self.old.memory }
+        ensures record { self.new ≡ stop }
     {
         let record = &mut self.room.as_mut().record;
         record.tid = stop.tid;

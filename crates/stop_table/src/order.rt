@@ -1,7 +1,7 @@
 //! The rows that a tracer has claimed, in the order in which their slots are out with its seat: the table moves the
 //! record of the slot taken last, so the slot of a claim that is to be resumed is brought to the front first.
 
-ghost use Rattle.std.specs.Prelude.{◌≡◌, ◌∷◌, ◌++◌, ◌<◌, ◌≤◌, [], ℕ, List, length, drop, take, true};
+ghost use Rattle.std.specs.Prelude.{◌≡◌, ◌∷◌, ◌++◌, ◌<◌, ◌≤◌, [], ℕ, List, length, get_or, drop, take, true};
 ghost use Rattle.std.specs.Vec.{vec_capacity};
 ghost use Rattle.stop_history.specs.declared.limits.TheConstants.{MOST_ROWS};
 ghost use Rattle.stop_table.specs.Tracer.{AreApart, emptied};
@@ -78,29 +78,25 @@ impl<A: Allocator> Held<A> {
         {
             return;
         }
-        self.turn_to(seat, row);
+        let before = self.before(row);
+        self.turn(seat, before);
     }
 
-    /// The same, by turns.
-    // Apart from the rest, so that a tracer with one claim has nothing of it.
+    /// How many rows are before a row.
+    // This and the turns are functions of their own, so that a tracer with one claim has nothing of them in its `resume`.
     #[inline(never)]
-    fn turn_to(&mut self, seat: &mut Seat<A>, row: u32)
-        requires slots { seat.old.me.1 ≡ emptied self.old }
-        requires rows { AreApart self.old × (is_among row self.old ≡ true) }
-        ensures seat { (seat.new.table_id ≡ seat.old.table_id) × (seat.new.id ≡ seat.old.id)
-            × (seat.new.me.0 ≡ seat.old.me.0) }
-        ensures slots { seat.new.me.1 ≡ emptied self.new }
-        ensures front { (others : List ℕ) × (self.new ≡ row ∷ others) }
-        ensures rows { AreApart self.new × ((other : ℕ) → is_among other self.new ≡ is_among other self.old) }
+    fn before(&self, row: u32) -> usize
+        requires { is_among row self.now ≡ true }
+        ensures { (result < length self.now) × (get_or self.now result 0 ≡ row) }
     {
         let Some(place) = self.rows.iter().position(|held| *held == row) else {
             unreachable!()
         };
-        let turns = self.rows.len() - 1 - place;
-        self.turn(seat, turns);
+        self.rows.len() - 1 - place
     }
 
     /// Turns the slots and the rows this many times: each time the first becomes the last.
+    #[inline(never)]
     fn turn(&mut self, seat: &mut Seat<A>, turns: usize)
         requires slots { seat.old.me.1 ≡ emptied self.old }
         requires turns { turns < length self.old }

@@ -278,7 +278,7 @@ impl<A: Allocator> Cells<A> {
         let new = died(old, death).pack();
         let at = self.place(row);
         let shared = &self.table.shared;
-        // Nobody asks for the record of a dead row; it goes back so that the slot keeps it, and not this handle.
+        // Nobody asks for the record of a dead row. It goes back so that this handle has no slot out any more.
         let None = shared.exchange(seat, at, Some(stop)) else {
             unreachable!()
         };

@@ -34,6 +34,7 @@ pub struct Tracer<A: Allocator = Global> {
     cells: Arc<Cells<A>, A>,
     seat: Seat<A>,
     number: u8,
+    /// The rows that it has claimed, in the order in which their slots are out with the seat.
     held: Held<A>,
 }
 

@@ -24,20 +24,6 @@ loop-preserved g c =
       slots = rw c.turn.ensures.2 (one_turn rows c.loop.counter _ low c.loop.invariant.slots);
     }
 
-pub returns-clause-slots : goal.returns-clause-slots
-returns-clause-slots g c =
-    let rows = c.self.inside.rows.items in
-    let turns = c.args.turns in
-    let long : length (reverse rows) ≡ length c.args.self.now = ap length c.self.view_is in
-    let wide : vec_len c.self.inside.rows - turns ≡ length rows - turns = omega (arith, c.self.inside.rows.ok.0) in
-    let turned : reverse c.rotate_right.new.self.items ≡ drop turns c.args.self.now ++ take turns c.args.self.now =
-    ap reverse (c.rotate_right.ensures.items ∙ ap (λ n. drop n rows ++ take n rows) wide)
-    ∙ turned_behind rows turns (omega (arith, c.requires.turns, long, length-reverse rows))
-    ∙ ap (λ l. drop turns l ++ take turns l) c.self.view_is in
-    let done : c.loop.counter ≡ turns = omega (arith, c.loop-test.false, c.loop.auto.counter-end) in
-    c.loop.invariant.slots
-    ∙ ap (λ n. emptied (drop n c.args.self.now ++ take n c.args.self.now)) done ∙ ap emptied (sym turned)
-
 pub returns-clause-rows : goal.returns-clause-rows
 returns-clause-rows g c =
     let rows = c.self.inside.rows.items in
@@ -47,3 +33,10 @@ returns-clause-rows g c =
     ap reverse (c.rotate_right.ensures.items ∙ ap (λ n. drop n rows ++ take n rows) wide)
     ∙ turned_behind rows turns (omega (arith, c.requires.turns, long, length-reverse rows))
     ∙ ap (λ l. drop turns l ++ take turns l) c.self.view_is
+
+pub returns-clause-slots : goal.returns-clause-slots
+returns-clause-slots g c =
+    let done : c.loop.counter ≡ c.args.turns = omega (arith, c.loop-test.false, c.loop.auto.counter-end) in
+    c.loop.invariant.slots
+    ∙ ap (λ n. emptied (drop n c.args.self.now ++ take n c.args.self.now)) done
+    ∙ ap emptied (sym (returns-clause-rows g c))

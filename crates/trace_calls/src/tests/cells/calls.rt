@@ -1,7 +1,7 @@
 //! One thread that plays every actor.
 
 use crate::tests::cells::cast::{Trio, open_for, open_trio};
-use crate::tests::cells::desk::{Answer, CONT};
+use crate::tests::cells::desk::{Answer, CONT, Desk};
 use crate::tests::cells::runner::AtRest;
 use crate::tests::rows::{ROOT, THREAD, roots};
 use std::alloc::Allocator;
@@ -19,43 +19,50 @@ const SYSCALL: Resume = Resume {
 };
 
 #[test]
-fn a_second_claim_gets_nothing(rt: HostRuntime) -> Result<(), Fail> {
+fn a_root_runs_to_its_first_stop(rt: HostRuntime) -> Result<(), Fail> {
     let Trio {
         mut tracee,
         mut first,
-        mut second,
+        second,
     } = open_trio(rt.alloc())?;
+    assert_eq!(rt; (first.tracer.number(), second.tracer.number()), (0, 1));
     assert_eq!(rt; tracee.start(), Start::Born);
     assert_eq!(rt; first.look(0), Shown::Running);
-    assert_eq!(rt; (first.tracer.number(), second.tracer.number()), (0, 1));
     let running = tracee.take_up().ok().expect(&rt, "a root runs");
     assert_eq!(rt; running.how, CONT);
     assert_eq!(rt; (running.record.tid, running.record.number), (100, 0));
     assert!(rt; running.tracee.holds());
     let tracee = running.publish(Stop::Start, 7).expect(&rt, "a stop");
     assert!(rt; !tracee.tracee.holds());
-    assert_eq!(rt;
-        second.look(0),
-        Shown::Stopped {
-            number: 1,
-            status: START
-        }
-    );
+    let stopped = Shown::Stopped {
+        number: 1,
+        status: START,
+    };
+    assert_eq!(rt; first.look(0), stopped);
+    Ok(())
+}
+
+#[test]
+fn a_second_claim_gets_nothing(rt: HostRuntime) -> Result<(), Fail> {
+    let Trio {
+        tracee,
+        mut first,
+        mut second,
+    } = open_trio(rt.alloc())?;
+    let tracee = tracee.stop(Stop::Start, 7)?;
     let claim = first.claim(0).expect(&rt, "the stop");
     let stop = claim.record();
     assert_eq!(rt; (stop.tid, stop.number, stop.stop), (100, 1, Stop::Start));
     assert_eq!(rt; stop.regs.rax, 7);
-    assert_eq!(rt; (claim.row(), claim.tracer()), (0, 0));
-    assert_eq!(rt; first.tracer.held(), 1);
     assert_eq!(rt;
-        second.try_claim(0),
-        Answer::Nothing(Shown::Claimed { number: 1 })
+        (claim.row(), claim.tracer(), first.tracer.held()),
+        (0, 0, 1)
     );
+    let nothing = Answer::Nothing(Shown::Claimed { number: 1 });
+    assert_eq!(rt; second.try_claim(0), nothing);
     first.resume(claim, SYSCALL);
     assert_eq!(rt; first.tracer.held(), 0);
-    let running = tracee.take_up().ok().expect(&rt, "it was resumed");
-    assert_eq!(rt; running.how, SYSCALL);
-    assert_eq!(rt; (running.record.number, running.record.regs.rax), (1, 7));
+    assert_eq!(rt; resumed(tracee), Some((SYSCALL, 100, 1, 7)));
     Ok(())
 }
 
@@ -66,8 +73,7 @@ fn the_stop_of_a_tracee_that_was_met_is_claimed(rt: HostRuntime) -> Result<(), F
         first,
         second: _,
     } = open_trio(rt.alloc())?;
-    let running = tracee.take_up().ok().expect(&rt, "a root runs");
-    let tracee = running.publish(Stop::Start, 7).expect(&rt, "a stop");
+    let tracee = tracee.stop(Stop::Start, 7)?;
     let mut both = first.meet_tracee(tracee);
     assert_eq!(rt; both.tracer.number(), 0);
     assert_eq!(rt;
@@ -88,8 +94,7 @@ fn a_death_is_left_by_claim_stop_and_claimed_by_claim(rt: HostRuntime) -> Result
         mut first,
         mut second,
     } = open_trio(rt.alloc())?;
-    let running = tracee.take_up().ok().expect(&rt, "a root runs");
-    let tracee = running.publish(Stop::Enter, 0).expect(&rt, "a stop");
+    let tracee = tracee.stop(Stop::Enter, 0)?;
     assert_eq!(rt;
         first.try_claim_stop(0),
         Answer::Stop {
@@ -98,8 +103,7 @@ fn a_death_is_left_by_claim_stop_and_claimed_by_claim(rt: HostRuntime) -> Result
             mark: 0
         }
     );
-    let running = tracee.take_up().ok().expect(&rt, "it was resumed");
-    assert!(rt; running.exit(3).is_ok(), "it is alone in its group");
+    assert!(rt; tracee.ends(3), "it was resumed, and is alone in its group");
     // The exit code stands in the second byte of the status.
     assert_eq!(rt;
         second.try_claim_stop(0),
@@ -133,36 +137,33 @@ fn at_most_16_tracers_are_opened_and_a_roster_may_be_empty(rt: HostRuntime) -> R
     Ok(())
 }
 
+/// A leader at the clone of its thread, the thread at a stop, and a tracer.
+fn open_group<A: Allocator + Copy>(alloc: A) -> Result<(AtRest<A>, AtRest<A>, Desk<A>), Fail> {
+    let mut cast = open_for(alloc, &[ROOT, THREAD], 1)?;
+    let desk = cast.desk()?;
+    let thread = cast.tracee(alloc)?;
+    let leader = cast.tracee(alloc)?.stop(Stop::Clone(101), 0)?;
+    let thread = thread.stop(Stop::Start, 5)?;
+    Ok((leader, thread, desk))
+}
+
 #[test]
 fn a_leader_exits_after_its_claimed_thread(rt: HostRuntime) -> Result<(), Fail> {
-    let mut cast = open_for(rt.alloc(), &[ROOT, THREAD], 1)?;
-    let mut desk = cast.desk()?;
-    let thread = cast.tracee(rt.alloc())?;
-    let leader = cast.tracee(rt.alloc())?;
-    let thread = thread.take_up().err().expect(&rt, "it is not born yet");
-    assert_eq!(rt; desk.look(1), Shown::Unborn);
-    let leader = leader.take_up().ok().expect(&rt, "a root runs");
-    let leader = leader.publish(Stop::Clone(101), 0).expect(&rt, "its child");
-    let thread = thread.take_up().ok().expect(&rt, "it is born");
-    let thread = thread.publish(Stop::Start, 5).expect(&rt, "a stop");
-    assert_eq!(rt;
-        desk.try_claim(0),
-        Answer::Stop {
-            tid: 100,
-            number: 1,
-            mark: 0
-        }
-    );
+    let (leader, thread, mut desk) = open_group(rt.alloc())?;
+    let cloned = Answer::Stop {
+        tid: 100,
+        number: 1,
+        mark: 0,
+    };
+    assert_eq!(rt; desk.try_claim(0), cloned);
     let leader = leader.take_up().ok().expect(&rt, "it was resumed");
     let claim = desk.claim(1).expect(&rt, "the stop of the thread");
     let (other, leader) = leader.exit(0).err().expect(&rt, "its thread is alive");
-    assert_eq!(rt; other, 1);
-    assert_eq!(rt; leader.record.number, 1);
+    assert_eq!(rt; (other, leader.record.number), (1, 1));
     assert_eq!(rt; leader.record.stop, Stop::Clone(101));
     assert!(rt; leader.tracee.holds());
     desk.resume(claim, CONT);
-    let thread = thread.take_up().ok().expect(&rt, "it was resumed");
-    assert!(rt; thread.exit(0).is_ok(), "a thread waits for nobody");
+    assert!(rt; thread.ends(0), "a thread waits for nobody");
     assert!(rt; leader.exit(0).is_ok(), "its thread has ended");
     Ok(())
 }
@@ -183,20 +184,29 @@ const HOWS: [Resume; 3] = [
     },
 ];
 
-/// The restart of a row that was resumed, and the thread id and the mark of its record.
-fn resumed<A: Allocator>(tracee: AtRest<A>) -> Option<(Resume, u32, u64)> {
+/// The restart of a row that was resumed, and the thread id, the number and the mark of its record.
+fn resumed<A: Allocator>(tracee: AtRest<A>) -> Option<(Resume, u32, u32, u64)> {
     let running = tracee.take_up().ok()?;
-    Some((running.how, running.record.tid, running.record.regs.rax))
+    let record = &running.record;
+    Some((running.how, record.tid, record.number, record.regs.rax))
+}
+
+/// Three roots at a stop with the marks 10, 20 and 30, and a tracer.
+fn open_three<A: Allocator + Copy>(
+    alloc: A,
+) -> Result<(AtRest<A>, AtRest<A>, AtRest<A>, Desk<A>), Fail> {
+    let rows = roots(alloc, 3)?;
+    let mut cast = open_for(alloc, rows.as_slice(), 1)?;
+    let desk = cast.desk()?;
+    let third = cast.tracee(alloc)?.stop(Stop::Enter, 30)?;
+    let second = cast.tracee(alloc)?.stop(Stop::Enter, 20)?;
+    let first = cast.tracee(alloc)?.stop(Stop::Enter, 10)?;
+    Ok((first, second, third, desk))
 }
 
 #[test]
 fn three_claims_are_resumed_in_another_order(rt: HostRuntime) -> Result<(), Fail> {
-    let rows = roots(rt.alloc(), 3)?;
-    let mut cast = open_for(rt.alloc(), rows.as_slice(), 1)?;
-    let mut desk = cast.desk()?;
-    let third = cast.tracee(rt.alloc())?.stop(30).expect(&rt, "a stop");
-    let second = cast.tracee(rt.alloc())?.stop(20).expect(&rt, "a stop");
-    let first = cast.tracee(rt.alloc())?.stop(10).expect(&rt, "a stop");
+    let (first, second, third, mut desk) = open_three(rt.alloc())?;
     let zero = desk.claim(0).expect(&rt, "the stop of row 0");
     let one = desk.claim(1).expect(&rt, "the stop of row 1");
     let two = desk.claim(2).expect(&rt, "the stop of row 2");
@@ -205,9 +215,9 @@ fn three_claims_are_resumed_in_another_order(rt: HostRuntime) -> Result<(), Fail
     desk.resume(two, HOWS[2]);
     desk.resume(zero, HOWS[0]);
     assert_eq!(rt; desk.tracer.held(), 0);
-    assert_eq!(rt; resumed(first), Some((HOWS[0], 1, 10)));
-    assert_eq!(rt; resumed(second), Some((HOWS[1], 2, 20)));
-    assert_eq!(rt; resumed(third), Some((HOWS[2], 3, 30)));
+    assert_eq!(rt; resumed(first), Some((HOWS[0], 1, 1, 10)));
+    assert_eq!(rt; resumed(second), Some((HOWS[1], 2, 1, 20)));
+    assert_eq!(rt; resumed(third), Some((HOWS[2], 3, 1, 30)));
     Ok(())
 }
 

@@ -1,13 +1,14 @@
 //! A tracee as a test runs it: at rest, or running with the record of its row's last stop. What a publish asks of its
 //! caller is checked here, so that a test needs no proof.
 
-ghost use Rattle.std.specs.Prelude.{◌≡◌, ◌+◌, ◌<◌, false, length, true, IfSome, MatchResult, is_some, if◌then◌else◌};
+ghost use Rattle.std.specs.Prelude.{◌≡◌, ◌+◌, ◌<◌, false, length, true, IfOk, IfSome, MatchResult, is_some, if◌then◌else◌};
 ghost use Rattle.trace_record.specs.Stop.{IsStop, child_of};
 ghost use Rattle.stop_history.specs.History.{creates_next};
 ghost use Rattle.stop_history.specs.Roster.{row_at};
 ghost use Rattle.stop_table.specs.Entry.{cell_after};
 
 use std::alloc::{Allocator, Global};
+use std::test::Fail;
 use stop_history::{LAST_NUMBER, Roster, is_next_child, place_of};
 use stop_table::{
     GroupAlive, Start, Tracee, a_record_is_its_rows, stops_are_counted_by_their_tracee,
@@ -88,11 +89,24 @@ impl<A: Allocator> AtRest<A> {
 }
 
 impl<A: Allocator> AtRest<A> {
-    /// Takes the row up, and publishes a syscall-enter-stop with this mark in `rax`.
-    pub(crate) fn stop(self, mark: u64) -> Option<AtRest<A>> {
+    /// Takes the row up, and publishes this stop with this mark in `rax`. Where it cannot, it fails.
+    pub(crate) fn stop(self, stop: Stop, mark: u64) -> Result<AtRest<A>, Fail>
+        ensures { IfOk result (λ t. t.tracee.table_id ≡ self.tracee.table_id) }
+    {
+        let Ok(running) = self.take_up() else {
+            return Err(Fail::new("the row does not run"));
+        };
+        match running.publish(stop, mark) {
+            Some(stopped) => Ok(stopped),
+            None => Err(Fail::new("the row cannot make this stop")),
+        }
+    }
+
+    /// Takes the row up, and ends it with an exit code. It answers whether it could.
+    pub(crate) fn ends(self, code: u8) -> bool {
         match self.take_up() {
-            Ok(running) => running.publish(Stop::Enter, mark),
-            Err(_) => None,
+            Ok(running) => running.exit(code).is_ok(),
+            Err(_) => false,
         }
     }
 }

@@ -140,6 +140,24 @@ fn is_each_once(mut tally: Tally, others: [&Tally; 3]) -> bool {
     !tally.is_wrong && tally.deaths == TRACEES && tally.counts.iter().all(|count| *count == 1)
 }
 
+/// One tracer for all four, unless one of them has a claim left.
+fn met(a: Desk, b: Desk, c: Desk, d: Desk) -> Option<Desk>
+    requires { (b.tracer.table_id ≡ a.tracer.table_id) × (c.tracer.table_id ≡ a.tracer.table_id)
+        × (d.tracer.table_id ≡ a.tracer.table_id) }
+{
+    a.meet(b)?.meet(c)?.meet(d)
+}
+
+/// Whether a tracer sees all rows reaped.
+fn sees_all_reaped(mut desk: Desk) -> bool {
+    for row in 0..TRACEES {
+        if desk.look(row) != Shown::Reaped {
+            return false;
+        }
+    }
+    true
+}
+
 #[test]
 fn each_stop_has_one_claim(rt: HostRuntime) -> Result<(), Fail> {
     let alloc = rt.alloc();
@@ -166,12 +184,8 @@ fn each_stop_has_one_claim(rt: HostRuntime) -> Result<(), Fail> {
         assert!(rt; tracee.join(&rt), "a tracee's calls did what they should");
     }
     let ((a, ta), (b, tb), (c, tc), (d, td)) = (a, b, c, d);
-    let all = a.meet(b).expect(&rt, "no claim is left");
-    let all = all.meet(c).expect(&rt, "no claim is left");
-    let mut all = all.meet(d).expect(&rt, "no claim is left");
-    for row in 0..TRACEES {
-        assert_eq!(rt; all.look(row), Shown::Reaped);
-    }
+    let all = met(a, b, c, d).expect(&rt, "no claim is left");
+    assert!(rt; sees_all_reaped(all), "each row ended, and was reaped");
     assert!(rt;
         is_each_once(ta, [&tb, &tc, &td]),
         "each stop has one claim"

@@ -75,8 +75,7 @@ fn of_two_threads_one_claims_the_stop(rt: HostRuntime) -> Result<(), Fail> {
         first,
         second,
     } = open_trio(rt.alloc())?;
-    let running = tracee.take_up().ok().expect(&rt, "a root runs");
-    let _tracee = running.publish(Stop::Start, 0).expect(&rt, "a stop");
+    let _tracee = tracee.stop(Stop::Start, 0)?;
     let (first, second) = thread::join(&rt, move || claim_once(first), move || claim_once(second));
     let (first, first_shown) = resume_any(first);
     let (second, second_shown) = resume_any(second);

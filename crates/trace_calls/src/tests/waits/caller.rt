@@ -4,13 +4,16 @@ ghost use Rattle.std.specs.Prelude.{◌≡◌, []};
 ghost use Rattle.stop_table.specs.Tracer.{held_rows};
 
 use crate::Calls;
-use crate::tests::cells::cast::Cast;
+use crate::tests::cells::cast::{Cast, open_for};
+use crate::tests::cells::runner::AtRest;
+use crate::tests::rows::ROOT;
 use std::alloc::{Allocator, Global};
 use std::sync::Wait;
 use std::test::Fail;
 use stop_history::Roster;
 use stop_table::Tracer;
 use trace_options::WaitFlags;
+use trace_record::Stop;
 
 /// A tracer that has claimed nothing, with the roster of its table.
 #[derive(Drop)]
@@ -38,6 +41,42 @@ impl<A: Allocator + Copy> Waiter<A> {
         let Waiter { tracer, roster } = self;
         Calls::new(alloc, tracer, &roster).ok()
     }
+
+    /// Its calls, where there has to be memory.
+    pub(crate) fn ready(self, alloc: A) -> Result<Calls<A>, Fail> {
+        match self.calls(alloc) {
+            Some(calls) => Ok(calls),
+            None => Err(Fail::new("there is no memory for calls")),
+        }
+    }
+}
+
+/// The one root, which runs, and a tracer that is still to get its calls.
+pub(crate) fn root_and_waiter<A: Allocator + Copy>(
+    alloc: A,
+) -> Result<(AtRest<A>, Waiter<A>), Fail> {
+    let mut cast = open_for(alloc, &[ROOT], 1)?;
+    let root = cast.tracee(alloc)?;
+    let waiter = cast.waiter(alloc)?;
+    Ok((root, waiter))
+}
+
+/// The one root, which runs, and a tracer's calls.
+pub(crate) fn with_running_root<A: Allocator + Copy>(
+    alloc: A,
+) -> Result<(AtRest<A>, Calls<A>), Fail> {
+    let (root, waiter) = root_and_waiter(alloc)?;
+    Ok((root, waiter.ready(alloc)?))
+}
+
+/// The one root, at this stop, and a tracer's calls.
+pub(crate) fn with_stopped_root<A: Allocator + Copy>(
+    alloc: A,
+    stop: Stop,
+) -> Result<(AtRest<A>, Calls<A>), Fail> {
+    let (root, waiter) = root_and_waiter(alloc)?;
+    let root = root.stop(stop, 0)?;
+    Ok((root, waiter.ready(alloc)?))
 }
 
 /// Lets the tracees of these pids that are claimed run on, and ends the calls.

@@ -7,8 +7,6 @@ RUSTC ?= rustc
 PYTHON ?= python3
 PREFIX ?= /usr/local
 OUT = bench/out
-# Takes the name and the status from a line of rt's report.
-ENDED = s/^case=\(.*\) run=ended status=\([0-9]*\) .*/\1: status \2/
 
 .PHONY: all kit demo examples man-page refused-code check test bench bench-case bench-cells bench-pages bench-fold bench-run bench-threads \
 	tools install clean
@@ -27,29 +25,14 @@ kit:
 		echo "make: proved with $(KIT), but $(RT) is $$($(RT) --version): a proof may fail"
 
 demo: kit
-	@echo "demo: running the program on five files of examples/, without the proofs (two minutes)"
-	@for file in replay/first replay/refused run/fork.case run/signal.case run/shown.case; do \
-		words="$$(dirname $$file) $$(cat examples/$$file.args 2> /dev/null | tr '\n' ' ')"; words="$${words% }"; \
-		echo; echo "tracer $$words < examples/$$file, which is"; sed 's/^/    /' examples/$$file; \
-		echo "answers"; (cd crates/tracer && $(RT) try -- $$words < ../../examples/$$file 2>&1); \
-	done || true
-
-# Runs a command of the program on each file of the folder of its name, with the words of the file's .args.
-define run_examples
-	@found="$$(cd crates/tracer && $(RT) try --cases ../../examples/$(1) -- $(1) 2>&1)" \
-	  || { echo "$$found"; echo "examples: FAILED: a file printed another text than the one beside it" >&2; exit 1; }; \
-	echo "$$found" | sed -n -e '$(ENDED)' -e '/^== /,/: status /{p;b' -e '}' -e '/: status /p' \
-	  | diff -u examples/statuses-$(1) - \
-	  || { echo "examples: FAILED: a status or a message is not that of examples/statuses-$(1) (- wanted, + found)" >&2; exit 1; }
-	@echo "examples: each file of examples/$(1) printed the text beside it, and ended as examples/statuses-$(1) says"
-endef
+	@echo "demo: running the program on five files of examples/, without the proofs (DEMO_TIME)"
+	@RT="$(RT)" $(PYTHON) tools/cases.py demo replay/first replay/refused run/fork.case run/signal.case run/shown.case
 
 examples: kit
-	@echo "examples: running the program on each file of examples/, without waiting for the proofs (a minute)"
-	@for file in replay/thread run/fork.case; do echo "examples/$$file:"; cat examples/$$file; \
-		echo "prints:"; cat examples/$$file.stdout; done
-	$(call run_examples,replay)
-	$(call run_examples,run)
+	@echo "examples: running the program on each file of examples/ and each case of tests/cases/, without the proofs (CASES_TIME)"
+	@echo "examples/run/fork.case:"; cat examples/run/fork.case; echo "prints:"; cat examples/run/fork.case.stdout
+	@$(PYTHON) tools/cases.py --self-test
+	@RT="$(RT)" $(PYTHON) tools/cases.py check
 
 man-page: kit
 	@echo "man-page: comparing man/tracer.1 with the program's help, and running its examples (half a minute)"

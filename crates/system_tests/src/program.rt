@@ -1,13 +1,14 @@
-//! The program's statuses and texts, with streams that fail.
+//! The program with streams that fail, and with files that are named. Its words, statuses and texts are in
+//! tests/cases/program.cases.
 
 use std::alloc::AllocError;
+use std::fs;
 use std::io::{self, ErrorKind, Read, Write};
 use std::rt::Files;
 use std::sync::Wait;
 use std::test::Fail;
 use std::thread::Threads;
 use std::time::Clock;
-use std::{fs, str};
 use tracer_cli::{process, program};
 
 /// A stream that hands over a text in parts of at most this many bytes, and fails once after it.
@@ -100,58 +101,13 @@ pub(crate) fn run_with<H: Files + AllocGlobal + Threads + Wait + Clock + Sync, R
     })
 }
 
-/// Whether a text has another one in it.
-pub(crate) fn has_text(bytes: &[u8], part: &str) -> bool {
-    str::from_utf8(bytes).is_ok_and(|text| text.contains(part))
-}
-
-/// The first of these parts that a text does not have.
-fn first_missing<'a>(bytes: &[u8], parts: &[&'a str]) -> Option<&'a str> {
-    for part in parts {
-        if !has_text(bytes, part) {
-            return Some(part);
-        }
-    }
-    None
-}
-
 const FILE: &[u8] = b"row 100 100 77 0\nstate 100\n";
 
-pub(crate) const CANNOT_READ: &[u8] = b"tracer: cannot read\n";
+const CANNOT_READ: &[u8] = b"tracer: cannot read\n";
 
 pub(crate) const CANNOT_WRITE: &[u8] = b"tracer: cannot write\n";
 
 const NO_MEMORY: &[u8] = b"tracer: no memory\n";
-
-/// What each usage and each help says.
-const USAGE: &str = "Usage: tracer";
-
-/// What the program's help says at its end: examples, the exit statuses, where the formats are described.
-const HELP: [&str; 7] = [
-    "tracer run -f examples/run/fork.case",
-    "tracer replay examples/replay/first",
-    "0  done",
-    "1  the file is refused",
-    "2  the command line is wrong, or -e names an unknown call",
-    "3  out of memory, or something cannot be read or written",
-    "docs/FORMATS.md",
-];
-
-/// What the help of `tracer replay` says.
-const REPLAY_HELP: [&str; 3] = [
-    "Usage: tracer replay [FILE]",
-    "tracer replay examples/replay/first",
-    "docs/FORMATS.md",
-];
-
-#[test]
-fn a_file_is_replayed_from_standard_input(rt: HostRuntime) -> Result<(), Fail> {
-    let ended = run_with(&rt, &["replay"], &mut FILE)?;
-    assert_eq!(rt; ended.status, 0);
-    assert_eq!(rt; ended.output.as_slice(), b"running\n".as_slice());
-    assert_eq!(rt; ended.errors.as_slice(), [].as_slice());
-    Ok(())
-}
 
 #[test]
 fn standard_input_is_read_to_its_end_or_its_first_failure(rt: HostRuntime) -> Result<(), Fail> {
@@ -196,124 +152,12 @@ fn a_file_that_is_named_is_read_in_place_of_standard_input(rt: HostRuntime) -> R
 }
 
 #[test]
-fn a_file_is_read_to_its_end(rt: HostRuntime) -> Result<(), Fail> {
-    let mut text = String::from_str(rt.alloc(), "row 7 7 7 0\n")?;
-    let mut replies = String::new(rt.alloc());
-    for _ in 0..100_000 {
-        text.push_str("state 7\n")?;
-        replies.push_str("running\n")?;
-    }
-    fs::write(&rt, "a long file", text.as_str())?;
-    let ended = run_with(&rt, &["replay", "a long file"], &mut FILE);
-    fs::remove_file(&rt, "a long file")?;
-    let ended = ended?;
-    assert_eq!(rt; ended.status, 0);
-    assert!(rt;
-        ended.output.as_slice() == replies.as_bytes(),
-        "another text"
-    );
-    Ok(())
-}
-
-#[test]
-fn a_file_that_cannot_be_read_is_reported(rt: HostRuntime) -> Result<(), Fail> {
-    for name in ["there is no such file", ".", "/", ""] {
-        let ended = run_with(&rt, &["replay", name], &mut FILE)?;
-        assert_eq!(rt; ended.status, 3, "{name}");
-        assert_eq!(rt; ended.output.as_slice(), [].as_slice(), "{name}");
-        assert_eq!(rt; ended.errors.as_slice(), CANNOT_READ, "{name}");
-    }
-    let empty = run_with(&rt, &["replay", "/dev/null"], &mut FILE)?;
-    assert_eq!(rt; empty.status, 0);
-    assert_eq!(rt; empty.output.as_slice(), [].as_slice());
-    Ok(())
-}
-
-#[test]
-fn a_refused_file_prints_its_line_and_cause_alone(rt: HostRuntime) -> Result<(), Fail> {
-    let ended = run_with(
-        &rt,
-        &["replay"],
-        &mut b"row 100 100 77 0\nstate 100\nstate 101\n".as_slice(),
-    )?;
-    assert_eq!(rt; ended.status, 1);
-    assert_eq!(rt; ended.output.as_slice(), [].as_slice());
-    assert_eq!(rt;
-        ended.errors.as_slice(),
-        b"tracer: line 3: NoSuchTracee\n".as_slice()
-    );
-    Ok(())
-}
-
-#[test]
-fn a_wrong_command_line_is_answered_by_the_usage(rt: HostRuntime) -> Result<(), Fail> {
-    for words in [
-        ["trace"].as_slice(),
-        &["replay", "--fast"],
-        &["replay", "one", "two"],
-        &[],
-    ] {
-        let ended = run_with(&rt, words, &mut FILE)?;
-        assert_eq!(rt; ended.status, 2, "{words:?}");
-        assert_eq!(rt; ended.output.as_slice(), [].as_slice(), "{words:?}");
-        assert!(rt; has_text(ended.errors.as_slice(), USAGE), "{words:?}");
-    }
-    Ok(())
-}
-
-#[test]
 fn a_command_that_is_not_there_is_named(rt: HostRuntime) -> Result<(), Fail> {
     let ended = run_with(&rt, &["trace"], &mut FILE)?;
     let expected = "error: unrecognized subcommand 'trace'\n\n\
         Usage: tracer <COMMAND>\n\n\
         For more information, try '--help'.\n";
     assert_eq!(rt; ended.errors.as_slice(), expected.as_bytes());
-    Ok(())
-}
-
-#[test]
-fn help_is_no_failure(rt: HostRuntime) -> Result<(), Fail> {
-    for (words, parts) in [
-        (["--help"].as_slice(), HELP.as_slice()),
-        (&["-h"], &HELP),
-        (&["help"], &HELP),
-        (&["replay", "--help"], &REPLAY_HELP),
-        (&["replay", "-h"], &REPLAY_HELP),
-        (&["help", "replay"], &REPLAY_HELP),
-    ] {
-        let ended = run_with(&rt, words, &mut FILE)?;
-        assert_eq!(rt; ended.status, 0, "{words:?}");
-        assert!(rt; has_text(ended.output.as_slice(), USAGE), "{words:?}");
-        assert_eq!(rt;
-            first_missing(ended.output.as_slice(), parts),
-            None,
-            "{words:?}"
-        );
-        assert_eq!(rt; ended.errors.as_slice(), [].as_slice(), "{words:?}");
-    }
-    Ok(())
-}
-
-#[test]
-fn the_version_is_shown_on_standard_output(rt: HostRuntime) -> Result<(), Fail> {
-    for word in ["--version", "-V"] {
-        let ended = run_with(&rt, &[word], &mut FILE)?;
-        assert_eq!(rt; ended.status, 0);
-        assert_eq!(rt; ended.output.as_slice(), b"tracer 0.1.0\n".as_slice());
-        assert_eq!(rt; ended.errors.as_slice(), [].as_slice());
-    }
-    Ok(())
-}
-
-#[test]
-fn a_file_without_an_end_is_read_no_further_than_it_may_go(rt: HostRuntime) -> Result<(), Fail> {
-    let ended = run_with(&rt, &["replay", "/dev/zero"], &mut FILE)?;
-    assert_eq!(rt; ended.status, 1);
-    assert_eq!(rt; ended.output.as_slice(), [].as_slice());
-    assert_eq!(rt;
-        ended.errors.as_slice(),
-        b"tracer: line 1: TooMany\n".as_slice()
-    );
     Ok(())
 }
 

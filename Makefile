@@ -25,11 +25,11 @@ kit:
 		echo "make: proved with $(KIT), but $(RT) is $$($(RT) --version): a proof may fail"
 
 demo: kit
-	@echo "demo: running the program on five files of examples/, without the proofs (DEMO_TIME)"
+	@echo "demo: running the program on five files of examples/, without the proofs (two minutes)"
 	@RT="$(RT)" $(PYTHON) tools/cases.py demo replay/first replay/refused run/fork.case run/signal.case run/shown.case
 
 examples: kit
-	@echo "examples: running the program on each file of examples/ and each case of tests/cases/, without the proofs (CASES_TIME)"
+	@echo "examples: running the program on each file of examples/ and each case of tests/cases/, without the proofs (six minutes)"
 	@echo "examples/run/fork.case:"; cat examples/run/fork.case; echo "prints:"; cat examples/run/fork.case.stdout
 	@$(PYTHON) tools/cases.py --self-test
 	@RT="$(RT)" $(PYTHON) tools/cases.py check

@@ -296,6 +296,7 @@ def demo(names):
         if found[2] is None:
             print("cases: FAILED: it did not end\n" + report.stderr.decode(errors="replace"))
             return 1
+        print(f"status {found[2]}")
     return 0
 
 

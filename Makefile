@@ -29,7 +29,7 @@ demo: kit
 	@RT="$(RT)" $(PYTHON) tools/cases.py demo replay/first replay/refused run/fork.case run/signal.case run/shown.case
 
 examples: kit
-	@echo "examples: running the program on each file of examples/ and each case of tests/cases/, without the proofs (six minutes)"
+	@echo "examples: running the program on examples/ and the cases of tests/cases/, without the proofs (six minutes)"
 	@echo "examples/run/fork.case:"; cat examples/run/fork.case; echo "prints:"; cat examples/run/fork.case.stdout
 	@$(PYTHON) tools/cases.py --self-test
 	@RT="$(RT)" $(PYTHON) tools/cases.py check

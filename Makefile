@@ -25,11 +25,11 @@ kit:
 		echo "make: proved with $(KIT), but $(RT) is $$($(RT) --version): a proof may fail"
 
 demo: kit
-	@echo "demo: running the program on five files of examples/, without the proofs (two minutes)"
+	@echo "demo: running the program on five files of examples/, without the proofs (a minute and a half)"
 	@RT="$(RT)" $(PYTHON) tools/cases.py demo replay/first replay/refused run/fork.case run/signal.case run/shown.case
 
 examples: kit
-	@echo "examples: running the program on examples/ and the cases of tests/cases/, without the proofs (six minutes)"
+	@echo "examples: running the program on examples/ and the cases of tests/cases/, without the proofs (six to ten minutes)"
 	@echo "examples/run/fork.case:"; cat examples/run/fork.case; echo "prints:"; cat examples/run/fork.case.stdout
 	@$(PYTHON) tools/cases.py --self-test
 	@RT="$(RT)" $(PYTHON) tools/cases.py check

@@ -159,6 +159,8 @@ class Reader:
 
 def runs_of(case, named):
     """The runs of a case: one for each choice of a row of each table, and for each length of its input."""
+    if not all(case.tables):
+        raise ValueError("a table has no rows")
     for chosen in itertools.product(*case.tables):
         columns = list(itertools.chain(*(row for _, row in chosen)))
         places = named | {str(i): it for i, it in enumerate(columns, 1)}
@@ -186,7 +188,7 @@ def runs_of_file(path):
             found += runs_of(case, reader.named)
         except ValueError as error:
             sys.exit(f"cases: FAILED: {case.where}, {case.title}: {error}")
-    return found
+    return found or sys.exit(f"cases: FAILED: {reader.name} has no cases")
 
 
 def example(path):
@@ -272,14 +274,17 @@ def check():
         paths = sorted(it for it in (TOP / "examples" / folder).iterdir() if it.suffix not in BESIDE)
         runs += map(example, paths)
         print(f"  {len(paths):4} files of examples/{folder}")
-    for path in sorted((TOP / "tests/cases").glob("*.cases")):
+    paths = sorted((TOP / "tests/cases").glob("*.cases"))
+    for path in paths:
         found = runs_of_file(path)
         runs += found
         print(f"  {len(found):4} runs of tests/cases/{path.name}", flush=True)
-    report = report_of(runs) if runs else None
-    if report is None or b"case=" not in report.stderr:
-        print(report.stderr.decode(errors="replace") if report else "  there are no cases")
-        print("cases: FAILED: nothing was run")
+    if not paths:
+        print("cases: FAILED: there are no files tests/cases/*.cases")
+        return 1
+    report = report_of(runs)
+    if b"case=" not in report.stderr:
+        print(f"{report.stderr.decode(errors='replace')}cases: FAILED: nothing was run")
         return 1
     print(f"  {time.monotonic() - began:.0f} seconds for one build and these runs")
     return compare(runs, report.stdout, report.stderr)

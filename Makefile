@@ -10,7 +10,7 @@ OUT = bench/out
 # Takes the name and the status from a line of rt's report.
 ENDED = s/^case=\(.*\) run=ended status=\([0-9]*\) .*/\1: status \2/
 
-.PHONY: all kit demo examples man-page refused-code check test bench bench-case bench-cells bench-pages bench-fold bench-run bench-threads \
+.PHONY: all kit demo examples man-page refused-code check wrong-bodies wrong-bodies-changed wrong-bodies-test test bench bench-case bench-cells bench-pages bench-fold bench-run bench-threads \
 	tools install clean
 
 all: kit
@@ -64,12 +64,30 @@ refused-code:
 	@RT=$(RT) tools/must_not_compile/check.sh $(OUT)/refused_code
 	@echo "refused-code: each was refused by the error that it names"
 
+# One check a processor where there are 3 GB of free memory for each: four of the largest took 13 GB together.
+CHECKS = $(shell $(PYTHON) tools/checks_at_once.py 2> /dev/null || echo 1)
+
 check: kit
-	@echo "check: proving every crate from nothing, then the must-fail edits, tests and programs (docs/STATUS.md has the time)"
-	@$(RT) ci
+	@echo "check: proving every crate from nothing, then what must be refused, tests and programs (docs/STATUS.md has the time)"
+	@RT_JOBS=$${RT_JOBS:-$(CHECKS)} $(RT) ci
+	@$(MAKE) --no-print-directory wrong-bodies-test
+	@$(MAKE) --no-print-directory wrong-bodies-changed
 	@$(MAKE) --no-print-directory examples
 	@$(MAKE) --no-print-directory man-page
 	@$(MAKE) --no-print-directory refused-code
+
+# The edits of wrong-bodies/; those of must-fail/ are tried by rt ci. CRATE=NAME tries those of one crate.
+wrong-bodies: kit
+	@echo "wrong-bodies: trying the edits of crates/$(or $(CRATE),*)/wrong-bodies, many in one check (WRONG_BODIES_TIME)"
+	@RT=$(RT) $(PYTHON) tools/wrong_bodies.py --jobs $(CHECKS) $(CRATE)
+
+wrong-bodies-changed: kit
+	@echo "wrong-bodies: trying the edits of the crates that have changed since (nothing to do: a second)"
+	@RT=$(RT) $(PYTHON) tools/wrong_bodies.py --jobs $(CHECKS) --changed
+
+wrong-bodies-test: kit
+	@echo "wrong-bodies: trying the tool on a crate of four functions (half a minute)"
+	@RT=$(RT) $(PYTHON) tools/wrong_bodies_test.py
 
 test: kit
 	@echo "test: running the tests of each crate, without the proofs (twelve minutes)"

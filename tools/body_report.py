@@ -13,6 +13,7 @@ FUNCTION = re.compile(r"(?m)^fn ([^\s:]+(?:::[^\s:]+)*): (.*)$")
 GOAL = re.compile(r"(?m)^(?:note: )?(?:\./)?(src/\S+?):(\d+):\d+: (?:error: )?(.*)$")
 PROOF = re.compile(r"(?m)^(?:\./)?proofs/(\S+)/[^/\s]+:\d+:\d+: error: (.*)$")
 ERROR = re.compile(r"(?m)^(?:\./)?(src/\S+?):(\d+):\d+: error\b(.*)$")
+NOT_FOUND = re.compile(r"\bsearch`? did not prove")
 # A proof that names what the edit took away: this says little of the contract.
 LOST_NAME = re.compile(r"has no field|is not in scope|has no `|was not admitted")
 # An edited text that cannot be read, where one that only makes a statement false reads well.
@@ -48,7 +49,7 @@ def why_refused(functions, report, texts):
         mine = [it for it in functions if it.is_named(inside)]
         if not mine or told.startswith("proved"):
             continue
-        if "search did not prove" in told:
+        if NOT_FOUND.search(told):
             return told
         for file, line, said in GOAL.findall(report):
             if "not proved" in said and file in texts and rattle_source.function_on(texts[file], file, int(line)) in mine:

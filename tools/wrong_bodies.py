@@ -17,7 +17,6 @@ import dataclasses
 import hashlib
 import os
 import pathlib
-import re
 import shutil
 import subprocess
 import sys
@@ -254,8 +253,8 @@ def chosen(words):
         return crates
     kept = tried_before(words.root)
     changed = [it for it in crates if kept.get(it.name) != it.digest()]
-    same = [it for it in crates if it not in changed]
-    say(f"{sum(len(it.edits) for it in same)} wrong bodies of {len(same)} crates were refused on what is here ({TRIED})")
+    same = sum(len(it.edits) for it in crates if it not in changed)
+    say(f"{same} wrong bodies were refused before on what is here, and are not tried again ({TRIED})")
     return changed
 
 

@@ -115,6 +115,15 @@ def owner_of(kind, header):
     return last(owner), last(trait) + "".join(given)
 
 
+def first_line(text, at):
+    """The first line of the function whose name is at this place: with its attributes and its comment, where reports begin it."""
+    before = text[:at].split("\n")
+    first = len(before)
+    while first > 1 and before[first - 2].strip().startswith(("#[", "///")):
+        first -= 1
+    return first
+
+
 def places(text, file):
     """Where the functions of a file stand, in the file's order."""
     code, found = blanked(text), []
@@ -125,8 +134,7 @@ def places(text, file):
             continue
         owner = next((named for begin, end, named in blocks if begin < it.start() < end), ("", ""))
         function = Function(file, *owner, it[1])
-        lines = code.count("\n", 0, it.start()) + 1, code.count("\n", 0, body[1]) + 1
-        found.append(Place(function, *body, *lines))
+        found.append(Place(function, *body, first_line(text, it.start()), code.count("\n", 0, body[1]) + 1))
     return found
 
 

@@ -1,14 +1,16 @@
 # Each target says what it does and how long it may take, on a machine of 4 processors.
 # `rt` is the command of the Rattle kit (README.md, "What it needs"); RT names another one.
 RT ?= rt
-KIT = rattle-kit-13f logic dac8208d650f15bf
+# The end of the kit's identity: its logic. A proof holds with each kit that has this one.
+KIT = logic dac8208d650f15bf
 CRATES = $(notdir $(wildcard crates/*))
 RUSTC ?= rustc
 PYTHON ?= python3
 PREFIX ?= /usr/local
 OUT = bench/out
+COMMA = ,
 
-.PHONY: all kit demo examples man-page refused-code check test bench bench-case bench-cells bench-pages bench-fold bench-run bench-threads \
+.PHONY: all kit demo examples man-page refused-code check wrong-bodies wrong-bodies-changed wrong-bodies-test test bench bench-case bench-cells bench-pages bench-fold bench-run bench-threads \
 	tools install clean
 
 all: kit
@@ -21,8 +23,8 @@ kit:
 	@command -v $(RT) > /dev/null || { \
 		echo "make: there is no command $(RT): put the Rattle kit's rt on the PATH, or give its place as RT=/path/to/rt"; \
 		echo "make: README.md, \"What it needs\", says which kit"; exit 2; }
-	@[ "$$($(RT) --version)" = "$(KIT)" ] || \
-		echo "make: proved with $(KIT), but $(RT) is $$($(RT) --version): a proof may fail"
+	@case "$$($(RT) --version)" in *"$(KIT)") ;; *) \
+		echo "make: proved with a kit of $(KIT), but $(RT) is $$($(RT) --version): a proof may fail";; esac
 
 demo: kit
 	@echo "demo: running the program on five files of examples/, without the proofs (a minute and a half)"
@@ -47,12 +49,38 @@ refused-code:
 	@RT=$(RT) tools/must_not_compile/check.sh $(OUT)/refused_code
 	@echo "refused-code: each was refused by the error that it names"
 
+# How many checks run side by side: one a processor, where memory allows it.
+CHECKS = $(shell $(PYTHON) tools/checks_at_once.py 2> /dev/null || echo 1)
+
+# Says when a part of the gate begins, so that its output shows where the time goes.
+define part
+	@echo "check: $(1), at $$(date -u +%H:%M:%S)"
+endef
+
 check: kit
-	@echo "check: proving every crate from nothing, then the must-fail edits, tests and programs (docs/STATUS.md has the time)"
-	@$(RT) ci
+	$(call part,proving every crate from nothing$(COMMA) then must-fail edits$(COMMA) tests and programs (docs/STATUS.md has the time))
+	@RT_JOBS=$${RT_JOBS:-$(CHECKS)} $(RT) ci
+	$(call part,wrong bodies)
+	@$(MAKE) --no-print-directory wrong-bodies-test
+	@$(MAKE) --no-print-directory wrong-bodies-changed
+	$(call part,examples$(COMMA) the manual page$(COMMA) programs that must not compile)
 	@$(MAKE) --no-print-directory examples
 	@$(MAKE) --no-print-directory man-page
 	@$(MAKE) --no-print-directory refused-code
+	$(call part,done)
+
+# The edits of wrong-bodies/; those of must-fail/ are tried by rt ci. CRATE=NAME tries those of one crate.
+wrong-bodies: kit
+	@echo "wrong-bodies: trying the edits of crates/$(or $(CRATE),*)/wrong-bodies, many in one check (docs/STATUS.md has the time)"
+	@RT=$(RT) $(PYTHON) tools/wrong_bodies.py --jobs $(CHECKS) $(CRATE)
+
+wrong-bodies-changed: kit
+	@echo "wrong-bodies: trying the edits of the crates that have changed since (nothing to do: a second)"
+	@RT=$(RT) $(PYTHON) tools/wrong_bodies.py --jobs $(CHECKS) --changed
+
+wrong-bodies-test: kit
+	@echo "wrong-bodies: trying the tool on a crate of four functions (half a minute)"
+	@RT=$(RT) $(PYTHON) tools/wrong_bodies_test.py
 
 test: kit
 	@echo "test: running the tests of each crate, without the proofs (twelve minutes)"

@@ -1,0 +1,191 @@
+"""The functions of a Rattle source file: where each body is, and what it calls.
+
+It reads just enough of the language to know which function an edit changes, and which functions may call which. Comments,
+strings and characters are blanked first, so that no brace or word in them counts.
+"""
+
+import dataclasses
+import re
+
+# What is no code: comments, strings and characters. (A lifetime has no closing quote, and so is none of these.)
+NO_CODE = re.compile(
+    r"""//[^\n]*|/\*.*?\*/|[bc]?r(#*)".*?"\1|[bc]?"(?:[^"\\]|\\.)*"|b?'(?:\\[^\n]*?|[^'\\\n])'""", re.S
+)
+CLAUSE = re.compile(r"\b(requires|ensures)\b[^{}]*$")
+FN = re.compile(r"\bfn\s+(\w+)")
+BLOCK = re.compile(r"(?m)^[ \t]*(?:pub(?:\([^)]*\))?\s+)?(?:unsafe\s+)?(impl|trait)\b([^{};]*)\{")
+WORD = re.compile(r"(\.\s*|\w+\s*(?:::\s*<[^<>]*>\s*)?::\s*)?\b([a-z_]\w*)\b(?!\s*!)")
+
+
+@dataclasses.dataclass(frozen=True)
+class Function:
+    """A function with a body. `owner` is the type whose impl it stands in, `of_trait` the trait of that impl, if any."""
+
+    file: str
+    owner: str
+    of_trait: str
+    name: str
+
+    def modules(self):
+        parts = self.file.removeprefix("src/").removesuffix(".rt").split("/")
+        return [it for it in parts if it not in ("lib", "main")]
+
+    def is_named(self, path):
+        """Whether a report means this function by the path, which begins after the crate's name. It names a method by the module
+        of its type, whichever file has the impl, and a closure by `fn::`, its function, and what it is passed to."""
+        whole, is_closure, inner = f"::{path}".partition("::fn::")
+        parts, modules = path.split("::"), self.modules()
+        if is_closure:
+            outer = [it for it in whole.split("::") if it]
+            named = inner.split("::")
+            parts = [*outer, *named[: 2 if self.owner else 1]]
+        if not self.owner:
+            return parts == [*modules, self.name]
+        if len(parts) < 2 or parts[-1] != self.name:
+            return False
+        owner = f"{self.owner}{self.of_trait}"
+        return parts[-2].startswith(owner) if self.of_trait else parts[-2] == owner
+
+
+@dataclasses.dataclass(frozen=True)
+class Place:
+    """Where a function stands in a text: the characters of its body, and its first and last line, counted from 1."""
+
+    function: Function
+    begin: int
+    end: int
+    first: int
+    last: int
+
+
+def blanked(text):
+    """The text with blanks in place of what is no code; each character keeps its place."""
+    return NO_CODE.sub(lambda it: re.sub(r"[^\n]", " ", it[0]), text)
+
+
+def closing(code, at):
+    """The place after the brace that closes the one at `at`."""
+    depth = 0
+    for it in re.finditer(r"[{}]", code[at:]):
+        depth += 1 if it[0] == "{" else -1
+        if depth == 0:
+            return at + it.end()
+    return len(code)
+
+
+def body_of(code, at):
+    """The characters of the body of a function whose name ends at `at`, or None where it has none: clauses come before it."""
+    depth, last = 0, at
+    while at < len(code):
+        it = code[at]
+        depth += (it in "([") - (it in ")]")
+        if it == ";" and depth == 0:
+            return None
+        if it == "{" and depth == 0:
+            end = closing(code, at)
+            if not CLAUSE.search(code[last:at]):
+                return at, end
+            at = last = end
+            continue
+        at += 1
+    return None
+
+
+def without_generics(text):
+    """The text without what stands between angle brackets."""
+    text = text.replace("->", "  ")
+    while "<" in text:
+        shorter = re.sub(r"<[^<>]*>", "", text)
+        if shorter == text:
+            break
+        text = shorter
+    return text
+
+
+def owner_of(kind, header):
+    """The type and the trait that the head of an impl or a trait names; a trait with what it is of, as `FromAllocError`."""
+    head = re.sub(r"^\s*<(?:[^<>]|<[^<>]*>)*>", "", re.split(r"\bwhere\b", header)[0])
+    last = lambda it: (re.findall(r"\w+", without_generics(it).replace("dyn ", "")) or [""])[-1]
+    if kind == "trait":
+        return last(head.split(":")[0]), ""
+    if not re.search(r"\bfor\b", head):
+        return last(head), ""
+    trait, owner = re.split(r"\bfor\b", head, maxsplit=1)
+    given = re.findall(r"(?<!')\b[A-Z]\w+", trait[trait.find("<") :]) if "<" in trait else []
+    return last(owner), last(trait) + "".join(given)
+
+
+def first_line(text, at):
+    """The first line of the function whose name is at this place: with its attributes and its comment, where reports begin it."""
+    before = text[:at].split("\n")
+    first = len(before)
+    while first > 1 and before[first - 2].strip().startswith(("#[", "///")):
+        first -= 1
+    return first
+
+
+def places(text, file):
+    """Where the functions of a file stand, in the file's order."""
+    code, found = blanked(text), []
+    blocks = [(it.start(), closing(code, it.end() - 1), owner_of(it[1], it[2])) for it in BLOCK.finditer(code)]
+    for it in FN.finditer(code):
+        body = body_of(code, it.end())
+        if not body:
+            continue
+        owner = next((named for begin, end, named in blocks if begin < it.start() < end), ("", ""))
+        function = Function(file, *owner, it[1])
+        found.append(Place(function, *body, first_line(text, it.start()), code.count("\n", 0, body[1]) + 1))
+    return found
+
+
+def function_at(text, file, begin, end):
+    """The function whose body holds these characters; the innermost, or None."""
+    inside = [it for it in places(text, file) if it.begin < begin and end < it.end]
+    return min(inside, key=lambda it: it.end - it.begin).function if inside else None
+
+
+def function_on(text, file, line):
+    """The function that has this line, from its name to the end of its body; the innermost, or None."""
+    inside = [it for it in places(text, file) if it.first <= line <= it.last]
+    return min(inside, key=lambda it: it.end - it.begin).function if inside else None
+
+
+def words_of(code, owner):
+    """What a body names: methods as `.name`, functions of a type as `Type::name`, others by their name alone."""
+    found = set()
+    for before, name in WORD.findall(code):
+        before = re.sub(r"\s|::\s*<[^<>]*>", "", before)
+        if before == ".":
+            found.add(f".{name}")
+        elif before and before[0].isupper():
+            found.add(f"{owner if before == 'Self::' else before.removesuffix('::')}::{name}")
+        else:
+            found.add(name)
+    return found
+
+
+def is_called(function, words):
+    """Whether a body that names these words may call the function."""
+    if function.owner:
+        return f".{function.name}" in words or f"{function.owner}::{function.name}" in words
+    return function.name in words
+
+
+def reached(texts):
+    """For each function of these files, by their paths, the functions that it may call, directly or through others."""
+    named = {}
+    for file, text in texts.items():
+        code = blanked(text)
+        for it in places(text, file):
+            named.setdefault(it.function, set()).update(words_of(code[it.begin : it.end], it.function.owner))
+    direct = {it: {other for other in named if is_called(other, words)} for it, words in named.items()}
+    found = {}
+    for it in named:
+        seen, left = set(), [*direct[it]]
+        while left:
+            other = left.pop()
+            if other not in seen:
+                seen.add(other)
+                left.extend(direct[other])
+        found[it] = seen
+    return found

@@ -1,0 +1,286 @@
+#!/usr/bin/env python3
+"""Tries the wrong bodies of crates/NAME/wrong-bodies/, many in one check: the prover must refuse each.
+
+A function's proof rests on its own body and on the contracts of what it calls, never on their bodies. So wrong bodies of
+functions of which none calls another are tried in one check of a copy of the crate, over the work that earlier checks
+kept. An edit counts as refused there only where the report names a goal of its own function that fails. Any other edit is
+tried alone, and counts as `rt must-fail` would count it. The last line is `N passed, M failed`, and the status is 1 where
+an edit failed.
+
+tools/wrong_bodies.tried has a line for each crate whose edits were all refused: a digest of the crate's sources,
+definitions, proofs and edits, and of the sources and definitions below it.
+"""
+
+import argparse
+import concurrent.futures
+import dataclasses
+import hashlib
+import os
+import pathlib
+import shutil
+import subprocess
+import sys
+import tempfile
+import threading
+import time
+
+import body_edits
+import body_report
+from body_report import Verdict
+
+TRIED = "tools/wrong_bodies.tried"
+RT = os.environ.get("RT", "rt")
+PARTS = ("src", "specs", "proofs")
+printing = threading.Lock()
+
+
+def say(text):
+    with printing:
+        print(f"wrong-bodies: {text}", flush=True)
+
+
+@dataclasses.dataclass
+class Crate:
+    """A crate of the repository, with its line of crates.txt and its libraries that the repository has, lowest first."""
+
+    name: str
+    root: pathlib.Path
+    line: str
+    below: list
+
+    def __post_init__(self):
+        self.folder = self.root / "crates" / self.name
+        self.edits, self.bad = body_edits.read(self.folder)
+        self.texts = body_edits.sources(self.folder)
+
+    def digest(self):
+        """A digest of what decides whether the crate's wrong bodies are refused."""
+        sum_of = hashlib.sha256()
+        for crate, parts in [(self, (*PARTS, "wrong-bodies")), *((it, PARTS[:2]) for it in self.below)]:
+            files = sorted(file for part in parts for file in (crate.folder / part).rglob("*") if file.is_file())
+            for file in files:
+                sum_of.update(f"{file.relative_to(self.root)}\n{file.stat().st_size}\n".encode() + file.read_bytes())
+        return sum_of.hexdigest()[:32]
+
+
+def crates_of(root):
+    """The crates that crates.txt names, by their names."""
+    rows = [row.partition("#")[0].strip() for row in (root / "crates.txt").read_text().split("\n")]
+    rows = {row.split()[0].rstrip(":"): row for row in rows if row}
+    uses = {name: [it for it in row.partition(":")[2].split() if it in rows] for name, row in rows.items()}
+
+    def below(name):
+        found = []
+        for it in uses[name]:
+            found += [other for other in [*below(it), it] if other not in found]
+        return found
+
+    crates = {}
+    for name in sorted(rows, key=lambda it: len(below(it))):
+        crates[name] = Crate(name, root, rows[name], [crates[it] for it in below(name)])
+    return crates
+
+
+def link(source, to):
+    """A second name for a file that nobody writes to, or a copy of it on another disk."""
+    try:
+        os.link(source, to)
+    except OSError:
+        shutil.copy2(source, to)
+
+
+def copied(crate, room):
+    """A copy of the crate in the folder, with what it stands on and the work that its last check kept."""
+    room = pathlib.Path(room)
+    (room / "crates.txt").write_text("".join(f"{it.line}\n" for it in [*crate.below, crate]))
+    if (crate.root / "HANDLES").is_file():
+        shutil.copy2(crate.root / "HANDLES", room)
+    for it in crate.below:
+        for part in (*PARTS, "out/rlib"):
+            if (it.folder / part).is_dir():
+                shutil.copytree(it.folder / part, room / "crates" / it.name / part, copy_function=link)
+    folder = room / "crates" / crate.name
+    for part in (*PARTS, "out/incremental"):
+        if (crate.folder / part).is_dir():
+            shutil.copytree(crate.folder / part, folder / part)
+    return folder
+
+
+def checked(crate, texts):
+    """The status and the report of a check of a copy of the crate with these texts."""
+    with tempfile.TemporaryDirectory(prefix="wrong-bodies-") as room:
+        folder = copied(crate, room)
+        for file, text in texts.items():
+            if text != crate.texts[file]:
+                (folder / file).write_text(text, encoding="utf-8")
+        how = {"stdin": subprocess.DEVNULL, "stdout": subprocess.PIPE, "stderr": subprocess.STDOUT, "errors": "replace"}
+        ran = subprocess.run([RT, "check", "--jobs", "1"], cwd=folder, **how)
+        if os.environ.get("WRONG_BODIES_REPORTS"):
+            name = f"{crate.name}_{time.monotonic_ns()}.txt"
+            pathlib.Path(os.environ["WRONG_BODIES_REPORTS"], name).write_text(ran.stdout)
+        return ran.returncode, ran.stdout
+
+
+def try_alone(crate, edit):
+    """The verdict on one edit, and why."""
+    try:
+        texts = body_edits.applied(edit, crate.texts)
+    except body_edits.BadEdit as why:
+        return Verdict.BAD, str(why)
+    return body_report.alone(*checked(crate, texts), {file for file, _, _ in edit.pairs})
+
+
+def try_group(crate, group):
+    """The verdicts on edits of one check, and why; and those edits that this check tells nothing of, to be tried again."""
+    texts = body_edits.all_applied(group, crate.texts)
+    functions = {it: body_edits.functions_of(it, crate.texts) for it in group}
+    _, report = checked(crate, texts)
+    if not body_report.is_of_the_prover(report):
+        blamed = body_report.blamed(report, texts)
+        others = [it for it in group if not functions[it] & blamed]
+        if len(others) in (0, len(group)):
+            return {}, [[it] for it in group]
+        return {}, [*([it] for it in group if it not in others), others]
+    found = {it: body_report.why_refused(functions[it], report, texts) for it in group}
+    return {it: (Verdict.REFUSED, why) for it, why in found.items() if why}, [[it] for it, why in found.items() if not why]
+
+
+def try_some(crate, group):
+    """The verdicts on a group of edits, by edit, and the groups to be tried again."""
+    began = time.monotonic()
+    if len(group) == 1:
+        told, again = {group[0]: try_alone(crate, group[0])}, []
+    else:
+        told, again = try_group(crate, group)
+    lines = [f"{crate.name}: {sum(it is Verdict.REFUSED for it, _ in told.values())} of {len(group)} refused"]
+    lines[0] += f" in a check of {time.monotonic() - began:.0f} s" + (f", {sum(map(len, again))} to be tried again" if again else "")
+    lines += [f"{edit}: {verdict.value}{': ' if why else ''}{why}" for edit, (verdict, why) in told.items() if verdict is not Verdict.REFUSED]
+    lines += [f"{it[0]} told nothing, and is tried alone" for it in again if len(it) == 1]
+    say("\n".join(lines).replace("\n", "\nwrong-bodies: "))
+    return told, again
+
+
+def groups_of(crate):
+    """The crate's edits in groups, and the verdicts on those that cannot be applied."""
+    good, bad = [], {}
+    for edit in crate.edits:
+        try:
+            body_edits.applied(edit, crate.texts)
+            good.append(edit)
+        except body_edits.BadEdit as why:
+            bad[edit] = (Verdict.BAD, str(why))
+            say(f"{edit}: BAD EDIT: {why}")
+    return body_edits.grouped(good, crate.texts), bad
+
+
+def try_all(crates, lanes):
+    """The verdicts on all edits of these crates, by edit; checks of different crates run side by side, the longest first."""
+    told, left = {}, []
+    for crate in crates:
+        groups, bad = groups_of(crate)
+        told.update(bad)
+        left += [(crate, it) for it in groups]
+        say(f"{crate.name}: {len(crate.edits)} wrong bodies in {len(groups)} checks")
+    size = lambda it: sum(map(len, it[0].texts.values())) * (2 + len(it[1]))
+    with concurrent.futures.ThreadPoolExecutor(lanes) as pool:
+        running = {pool.submit(try_some, *it): it for it in sorted(left, key=size, reverse=True)}
+        while running:
+            done, _ = concurrent.futures.wait(running, return_when=concurrent.futures.FIRST_COMPLETED)
+            for it in done:
+                crate, _ = running.pop(it)
+                found, again = it.result()
+                told.update(found)
+                running.update({pool.submit(try_some, crate, group): (crate, group) for group in again})
+    return told
+
+
+def is_proved(root, crates, lanes):
+    """Whether the crates are proved as they are; what this check keeps is what the wrong bodies are tried over."""
+    if len(crates) == 1:
+        words, folder = [RT, "check"], crates[0].folder
+    else:
+        words, folder = [RT, "all", "check", "--jobs", str(lanes)], root
+    say(f"proving {crates[0].name if len(crates) == 1 else 'the crates'} as written, over what earlier checks kept")
+    ran = subprocess.run(words, cwd=folder, stdin=subprocess.DEVNULL, stdout=subprocess.PIPE, stderr=subprocess.STDOUT, errors="replace")
+    if ran.returncode:
+        print(ran.stdout[-3000:])
+    return ran.returncode == 0
+
+
+def tried_before(root):
+    """The digests that were written when all edits of a crate were refused."""
+    file = root / TRIED
+    return dict(row.split() for row in file.read_text().split("\n") if row) if file.is_file() else {}
+
+
+def keep_digests(root, crates, told, digests):
+    """Writes the digest of each crate whose edits were all refused, and takes away those of crates where one was not."""
+    kept = tried_before(root)
+    for crate in crates:
+        well = not crate.bad and all(told[it][0] is Verdict.REFUSED for it in crate.edits)
+        if well and crate.digest() == digests[crate.name]:
+            kept[crate.name] = digests[crate.name]
+        else:
+            kept.pop(crate.name, None)
+    (root / TRIED).parent.mkdir(exist_ok=True)
+    (root / TRIED).write_text("".join(f"{name} {digest}\n" for name, digest in sorted(kept.items())))
+
+
+def words_of(arguments):
+    said = argparse.ArgumentParser(description=__doc__, formatter_class=argparse.RawDescriptionHelpFormatter)
+    said.add_argument("crates", metavar="CRATE", nargs="*", help="only these crates' edits")
+    said.add_argument("--changed", action="store_true", help="only crates that are not as when their edits were last tried")
+    said.add_argument("--list", action="store_true", help="print the groups, and try nothing")
+    said.add_argument("--jobs", type=int, default=len(os.sched_getaffinity(0)), help="how many checks run side by side")
+    said.add_argument("--root", type=pathlib.Path, default=pathlib.Path(__file__).resolve().parent.parent, help=argparse.SUPPRESS)
+    return said.parse_args(arguments)
+
+
+def list_groups(crates):
+    for crate in crates:
+        for at, group in enumerate(groups_of(crate)[0], 1):
+            print(f"{crate.name} {at}: {' '.join(it.name.removesuffix('.edit') for it in group)}")
+
+
+def chosen(words):
+    """The crates whose edits are to be tried."""
+    known = crates_of(words.root)
+    unknown = [it for it in words.crates if it not in known]
+    if unknown:
+        sys.exit(f"wrong-bodies: crates.txt names no crate {unknown[0]}")
+    crates = [it for it in known.values() if (it.edits or it.bad) and (not words.crates or it.name in words.crates)]
+    if not words.changed:
+        return crates
+    kept = tried_before(words.root)
+    changed = [it for it in crates if kept.get(it.name) != it.digest()]
+    same = sum(len(it.edits) for it in crates if it not in changed)
+    say(f"{same} wrong bodies were refused before on what is here, and are not tried again ({TRIED})")
+    return changed
+
+
+def main(arguments):
+    words = words_of(arguments)
+    crates = chosen(words)
+    if words.list:
+        list_groups(crates)
+        return 0
+    digests = {it.name: it.digest() for it in crates}
+    if crates and not is_proved(words.root, crates, words.jobs):
+        say("a crate is not proved as it is, so no wrong body was tried")
+        print("0 passed, 1 failed")
+        return 1
+    told = try_all(crates, words.jobs) if crates else {}
+    for crate in crates:
+        for name, why in crate.bad.items():
+            say(f"{crate.name}/{name}: BAD EDIT: {why}")
+    keep_digests(words.root, crates, told, digests)
+    failed = [str(it) for it, (verdict, _) in told.items() if verdict is not Verdict.REFUSED]
+    failed += [f"{crate.name}/{name}" for crate in crates for name in crate.bad]
+    if failed:
+        say(f"FAILED: {' '.join(sorted(failed))}")
+    print(f"{len(told) - sum(it.crate + '/' + it.name in failed for it in told)} passed, {len(failed)} failed")
+    return 1 if failed else 0
+
+
+if __name__ == "__main__":
+    sys.exit(main(sys.argv[1:]))

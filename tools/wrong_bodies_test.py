@@ -1,0 +1,148 @@
+"""Tries wrong_bodies.py on a crate of four functions, with edits of which some must not pass (half a minute).
+
+    wrong_bodies_test.py      uses the command that RT names, or rt
+"""
+
+import pathlib
+import subprocess
+import sys
+import tempfile
+import unittest
+
+import body_edits
+import body_report
+import rattle_source
+import wrong_bodies
+
+TOOL = pathlib.Path(__file__).resolve().parent / "wrong_bodies.py"
+
+SOURCE = """\
+//! Four functions that give their number.
+#![tactic(auto)]
+
+ghost use Rattle.std.specs.Prelude.{◌≡◌};
+
+/// The number. fn quoted() { stands in a comment.
+pub fn first(x: u8) -> u8
+    ensures { result ≡ x }
+{
+    let first = x;
+    first
+}
+
+/// The number.
+pub fn second(x: u8) -> u8
+    ensures { result ≡ x }
+{
+    // This is the number.
+    let second = x;
+    second
+}
+
+/// The number, by way of the first function.
+pub fn third(x: u8) -> u8
+    ensures { result ≡ x }
+{
+    // A call.
+    let third = first(x);
+    third
+}
+
+/// The number.
+pub fn fourth(x: u8) -> u8
+    ensures { result ≡ x }
+{
+    let fourth = x;
+    fourth
+}
+"""
+
+EDITS = {
+    "gives_another": ("let first = x;", "let first = x ^ 1;"),
+    "gives_zero": ("let first = x;", "let first = 0;"),
+    "changes_a_comment": ("// This is the number.", "// The number."),
+    "changes_a_callers_comment": ("// A call.", "// This calls."),
+    "does_not_read": ("let fourth = x;", "let fourth = y;"),
+    "stands_nowhere": ("let fifth = x;", "let fifth = 0;"),
+}
+
+
+def make_repository(root):
+    crate = root / "crates" / "sample"
+    for folder in ("src", "specs", "proofs", "wrong-bodies"):
+        (crate / folder).mkdir(parents=True)
+    (root / "crates.txt").write_text("sample:\n")
+    (crate / "src" / "lib.rt").write_text(SOURCE)
+    for folder in ("specs", "proofs"):
+        (crate / folder / "Lib.antt").write_text("")
+    for name, (old, new) in EDITS.items():
+        (crate / "wrong-bodies" / f"{name}.edit").write_text(f"file: src/lib.rt\nold: {old}\nnew: {new}\n")
+    return crate
+
+
+class WrongBodies(unittest.TestCase):
+    def setUp(self):
+        room = tempfile.TemporaryDirectory(prefix="wrong-bodies-test-")
+        self.addCleanup(room.cleanup)
+        self.root = pathlib.Path(room.name)
+        self.crate = make_repository(self.root)
+
+    def run_tool(self, *words):
+        ran = subprocess.run([sys.executable, TOOL, "--root", self.root, *words], capture_output=True, text=True)
+        return ran.returncode, ran.stdout + ran.stderr
+
+    def test_no_check_has_two_edits_of_one_function_or_of_a_caller_and_its_callee(self):
+        texts = body_edits.sources(self.crate)
+        edits = [it for it in body_edits.read(self.crate)[0] if it.name != "stands_nowhere.edit"]
+        groups = [{it.name.removesuffix(".edit") for it in group} for group in body_edits.grouped(edits, texts)]
+        self.assertEqual(sum(map(len, groups)), 5)
+        for first, second in [("gives_another", "gives_zero"), ("gives_another", "changes_a_callers_comment")]:
+            self.assertFalse(any({first, second} <= it for it in groups), f"{first}, {second}: {groups}")
+        self.assertTrue(any({"changes_a_comment", "does_not_read"} <= it for it in groups), groups)
+
+    def test_a_clause_is_no_body(self):
+        at = SOURCE.index("{ result")
+        self.assertIsNone(rattle_source.function_at(SOURCE, "src/lib.rt", at, at + 8))
+        at = SOURCE.index("let third")
+        self.assertEqual(rattle_source.function_at(SOURCE, "src/lib.rt", at, at + 8).name, "third")
+
+    def test_a_report_speaks_of_a_function_by_its_own_goals_alone(self):
+        first, third = (rattle_source.Function("src/lib.rt", "", "", it) for it in ("first", "third"))
+        texts = body_edits.sources(self.crate)
+        report = (
+            "note: src/lib.rt:7:1: it is not proved that what the function ensures holds when it returns (`returns`)\n"
+            "fn sample::first: no proof: expected answers in ./proofs/first/Answers.antt; `search` did not prove `returns`\n"
+            "fn sample::third: no proof: it calls `sample::first`, which is not proved\n"
+            "logic=not-proved\n"
+        )
+        self.assertTrue(body_report.why_refused({first}, report, texts))
+        self.assertIsNone(body_report.why_refused({third}, report, texts))
+        lost = "./proofs/third/Answers.antt:3:4: error: `returns`: record `Lts` has no field `first`\nfn sample::third: not proved\n"
+        self.assertIsNone(body_report.why_refused({third}, lost, texts))
+
+    def test_what_is_let_through_and_what_is_bad_is_named(self):
+        (self.crate / "wrong-bodies" / "changes_a_callers_comment.edit").unlink()
+        status, said = self.run_tool()
+        self.assertEqual(status, 1, said)
+        self.assertIn("sample/changes_a_comment.edit: NOT REFUSED", said)
+        for name in ("does_not_read", "stands_nowhere"):
+            self.assertIn(f"sample/{name}.edit: BAD EDIT", said)
+        self.assertEqual(said.split("\n")[-2], "2 passed, 3 failed", said)
+        self.assertEqual((self.root / "tools" / "wrong_bodies.tried").read_text(), "")
+
+    def test_a_crate_is_tried_again_once_a_file_of_it_changes(self):
+        sample = wrong_bodies.crates_of(self.root)["sample"]
+        (self.root / "tools").mkdir()
+        (self.root / "tools" / "wrong_bodies.tried").write_text(f"sample {sample.digest()}\n")
+        words = wrong_bodies.words_of(["--changed", "--root", str(self.root)])
+        self.assertEqual(wrong_bodies.chosen(words), [])
+        for file, text in [("src/lib.rt", "// It calls."), ("wrong-bodies/gives_zero.edit", ""), ("proofs/Lib.antt", "mod New")]:
+            before = (self.crate / file).read_text()
+            (self.crate / file).write_text(before + text + "\n")
+            self.assertEqual([it.name for it in wrong_bodies.chosen(words)], ["sample"], file)
+            (self.crate / file).write_text(before)
+        self.assertEqual(wrong_bodies.chosen(words), [])
+
+
+if __name__ == "__main__":
+    unittest.main()

@@ -30,11 +30,12 @@ demo: kit
 	@echo "demo: running the program on five files of examples/, without the proofs (a minute and a half)"
 	@RT="$(RT)" $(PYTHON) tools/cases.py demo replay/first replay/refused run/fork.case run/signal.case run/shown.case
 
+# PROGRAM=FILE runs a program that is built already, as bin/tracer: some seconds.
 examples: kit
-	@echo "examples: running the program on examples/ and the cases of tests/cases/, without the proofs (six to ten minutes)"
+	@echo "examples: running $(or $(PROGRAM),the program$(COMMA) without its proofs,) on examples/ and the cases of tests/cases/ (six minutes; with PROGRAM=bin/tracer seconds)"
 	@echo "examples/run/fork.case:"; cat examples/run/fork.case; echo "prints:"; cat examples/run/fork.case.stdout
 	@$(PYTHON) tools/cases.py --self-test
-	@RT="$(RT)" $(PYTHON) tools/cases.py check
+	@RT="$(RT)" $(PYTHON) tools/cases.py check $(if $(PROGRAM),--program $(PROGRAM))
 
 man-page: kit
 	@echo "man-page: comparing man/tracer.1 with the program's help, and running its examples (half a minute)"
@@ -64,7 +65,7 @@ check: kit
 	@$(MAKE) --no-print-directory wrong-bodies-test
 	@$(MAKE) --no-print-directory wrong-bodies-changed
 	$(call part,examples$(COMMA) the manual page$(COMMA) programs that must not compile)
-	@$(MAKE) --no-print-directory examples
+	@$(MAKE) --no-print-directory examples PROGRAM=crates/tracer/out/tracer
 	@$(MAKE) --no-print-directory man-page
 	@$(MAKE) --no-print-directory refused-code
 	$(call part,done)

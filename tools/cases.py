@@ -2,11 +2,12 @@
 """Feeds words and bytes to the program, and compares what it prints and its exit status with what is wanted.
 
     cases.py check          all of tests/cases/*.cases and every file of examples/: one build, then a run of each
+    cases.py check --program FILE    the same with a program that is built already, in place of that build
     cases.py demo NAME..    runs files of examples/, as run/fork.case, and shows each with its answer
     cases.py --self-test    shows that a wrong text, message or status is found; it builds nothing
 
 The program is built once, without proofs, by `rt try --cases` (the environment variable RT names another `rt`). It
-calls the program `program`, so a usage begins with `Usage: program`.
+calls the program `program`, so a usage begins with `Usage: program`. A program that is built already is called so too.
 
 An example NAME has NAME.args, its words after the name of its folder, one a line; NAME.stdout, NAME.stderr and
 NAME.status are what it prints and its exit status. One that is not there stands for nothing, and for 0.
@@ -34,11 +35,13 @@ the empty word, {x20} a space in a word, and {} the name of a file that has the 
 """
 
 import argparse
+import concurrent.futures
 import itertools
 import os
 import pathlib
 import re
 import shlex
+import shutil
 import subprocess
 import sys
 import tempfile
@@ -52,6 +55,8 @@ COUNT = re.compile(r"\{n(?:\*(\d+))?\}")
 ENDED = re.compile(rb"case=(\S+) run=(\S+)(?: status=(\d+))? .*proved=no\n")
 BESIDE = (".args", ".stdout", ".stderr", ".status")
 SHOWN = 2000
+# The most that a run of a built program may take.
+SECONDS = 120
 
 
 class Run:
@@ -233,6 +238,27 @@ def found_in(stdout, stderr, count):
     return [(printed.get(it, b""), *ends[it]) if it in ends else (b"", b"", None) for it in names]
 
 
+def run_of(program, run):
+    """What a built program prints on its two streams in this run, and its status, or None where it did not end."""
+    with tempfile.TemporaryDirectory(prefix="cases-") as folder:
+        pathlib.Path(folder, "input").write_bytes(run.given)
+        words = [b"input" if it == b"{}" else it for it in run.words]
+        try:
+            how = {"cwd": folder, "env": {}, "input": run.given, "capture_output": True, "timeout": SECONDS}
+            ran = subprocess.run([program, *words], **how)
+        except subprocess.TimeoutExpired as late:
+            return late.stdout or b"", late.stderr or b"", None
+        return ran.stdout, ran.stderr, ran.returncode if ran.returncode >= 0 else None
+
+
+def found_by(program, runs):
+    """For each run what the built program answers, under the name that rt gives one."""
+    with tempfile.TemporaryDirectory(prefix="cases-") as folder:
+        named = shutil.copy2(program, pathlib.Path(folder, "program"))
+        with concurrent.futures.ThreadPoolExecutor(len(os.sched_getaffinity(0))) as pool:
+            return list(pool.map(lambda run: run_of(named, run), runs))
+
+
 def shown(text):
     """A text for a report, of which a long one is cut."""
     text = text.decode(errors="backslashreplace")
@@ -256,10 +282,10 @@ def differences(run, found):
         yield f"    status, wanted {run.status}, found {status}\n"
 
 
-def compare(runs, stdout, stderr):
+def compare(runs, answers):
     """Names each run that differs, and says how many passed; the exit status."""
     failed = 0
-    for run, found in zip(runs, found_in(stdout, stderr, len(runs))):
+    for run, found in zip(runs, answers):
         faults = list(differences(run, found))
         if faults:
             failed += 1
@@ -268,8 +294,9 @@ def compare(runs, stdout, stderr):
     return 1 if failed or not runs else 0
 
 
-def check():
-    began, runs = time.monotonic(), []
+def all_runs():
+    """The runs of all examples and of all files of cases; it says how many each folder and file has."""
+    runs = []
     for folder in ("replay", "run"):
         paths = sorted(it for it in (TOP / "examples" / folder).iterdir() if it.suffix not in BESIDE)
         runs += map(example, paths)
@@ -279,15 +306,21 @@ def check():
         found = runs_of_file(path)
         runs += found
         print(f"  {len(found):4} runs of tests/cases/{path.name}", flush=True)
-    if not paths:
-        print("cases: FAILED: there are no files tests/cases/*.cases")
-        return 1
-    report = report_of(runs)
-    if b"case=" not in report.stderr:
-        print(f"{report.stderr.decode(errors='replace')}cases: FAILED: nothing was run")
-        return 1
-    print(f"  {time.monotonic() - began:.0f} seconds for one build and these runs")
-    return compare(runs, report.stdout, report.stderr)
+    return runs if paths else sys.exit("cases: FAILED: there are no files tests/cases/*.cases")
+
+
+def check(program):
+    began, runs = time.monotonic(), all_runs()
+    if program:
+        answers, what = found_by(program, runs), "these runs"
+    else:
+        report = report_of(runs)
+        if b"case=" not in report.stderr:
+            print(f"{report.stderr.decode(errors='replace')}cases: FAILED: nothing was run")
+            return 1
+        answers, what = found_in(report.stdout, report.stderr, len(runs)), "one build and these runs"
+    print(f"  {time.monotonic() - began:.0f} seconds for {what}")
+    return compare(runs, answers)
 
 
 def demo(names):
@@ -348,8 +381,9 @@ def self_test():
 
 def main():
     shape = {"description": __doc__, "formatter_class": argparse.RawDescriptionHelpFormatter}
-    parser = argparse.ArgumentParser(**shape, usage="cases.py check | demo NAME.. | --self-test")
+    parser = argparse.ArgumentParser(**shape, usage="cases.py check [--program FILE] | demo NAME.. | --self-test")
     parser.add_argument("--self-test", action="store_true", help="compare a report that was written by hand")
+    parser.add_argument("--program", type=pathlib.Path, help="a program that is built already")
     parser.add_argument("what", nargs="?", choices=["check", "demo"])
     parser.add_argument("names", nargs="*", help="files of examples/")
     asked = parser.parse_args()
@@ -357,7 +391,7 @@ def main():
         return self_test()
     if asked.what == "demo" and asked.names:
         return demo(asked.names)
-    return check() if asked.what == "check" else parser.error("say what to do")
+    return check(asked.program) if asked.what == "check" else parser.error("say what to do")
 
 
 if __name__ == "__main__":

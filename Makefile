@@ -14,7 +14,7 @@ COMMA = ,
 	tools install clean
 
 all: kit
-	@echo "make: proving the program and what it stands on, over what earlier runs kept (the first time: ten minutes)"
+	@echo "make: proving the program and what it stands on, over what earlier runs kept (the first time: three quarters of an hour)"
 	@cd crates/tracer && $(RT) run -- --help > /dev/null
 	@mkdir -p bin && cp crates/tracer/out/tracer bin/tracer
 	@echo "make: bin/tracer is built"

@@ -1,13 +1,13 @@
 //! One thread that plays every actor.
 
-use crate::cells::cast::{Trio, open_for, open_trio};
+use crate::cells::cast::{Cast, Trio, open_for, open_trio, opened, stopped_trio};
 use crate::cells::desk::{Answer, CONT, Desk};
 use crate::cells::runner::AtRest;
 use crate::rows::{ROOT, THREAD, roots};
 use std::alloc::Allocator;
 use std::test::Fail;
 use stop_history::Roster;
-use stop_table::{OpenError, Shown, Start, open};
+use stop_table::{OpenError, Shown, Start};
 use trace_record::{Death, Kind, Resume, Stop};
 
 /// The status of `Stop::Start`: `PTRACE_EVENT_STOP` above `SIGTRAP` above 0x7f.
@@ -48,8 +48,7 @@ fn a_second_claim_gets_nothing(rt: HostRuntime) -> Result<(), Fail> {
         tracee,
         mut first,
         mut second,
-    } = open_trio(rt.alloc())?;
-    let tracee = tracee.stop(Stop::Start, 7)?;
+    } = stopped_trio(rt.alloc(), Stop::Start, 7)?;
     let claim = first.claim(0).expect(&rt, "the stop");
     let stop = claim.record();
     assert_eq!(rt; (stop.tid, stop.number, stop.stop), (100, 1, Stop::Start));
@@ -72,8 +71,7 @@ fn the_stop_of_a_tracee_that_was_met_is_claimed(rt: HostRuntime) -> Result<(), F
         tracee,
         first,
         second: _,
-    } = open_trio(rt.alloc())?;
-    let tracee = tracee.stop(Stop::Start, 7)?;
+    } = stopped_trio(rt.alloc(), Stop::Start, 7)?;
     let mut both = first.meet_tracee(tracee);
     assert_eq!(rt; both.tracer.number(), 0);
     assert_eq!(rt;
@@ -93,8 +91,7 @@ fn a_death_is_left_by_claim_stop_and_claimed_by_claim(rt: HostRuntime) -> Result
         tracee,
         mut first,
         mut second,
-    } = open_trio(rt.alloc())?;
-    let tracee = tracee.stop(Stop::Enter, 0)?;
+    } = stopped_trio(rt.alloc(), Stop::Enter, 0)?;
     assert_eq!(rt;
         first.try_claim_stop(0),
         Answer::Stop {
@@ -127,24 +124,28 @@ fn a_death_is_left_by_claim_stop_and_claimed_by_claim(rt: HostRuntime) -> Result
 #[test]
 fn at_most_16_tracers_are_opened_and_a_roster_may_be_empty(rt: HostRuntime) -> Result<(), Fail> {
     let one = Roster::new(rt.alloc(), &[ROOT])?;
-    assert_eq!(rt; open(rt.alloc(), &one, 17).err(), Some(OpenError::TooMany));
-    let most = open(rt.alloc(), &one, 16)?;
-    assert_eq!(rt; most.tracers.len(), 16);
+    assert_eq!(rt; opened(rt.alloc(), &one, 17), Err(OpenError::TooMany));
+    assert_eq!(rt; opened(rt.alloc(), &one, 16), Ok((1, 16)));
     let nobody = Roster::empty(rt.alloc());
-    let ends = open(rt.alloc(), &nobody, 1)?;
-    assert_eq!(rt; ends.tracees.len(), 0);
-    assert_eq!(rt; ends.tracers.len(), 1);
+    assert_eq!(rt; opened(rt.alloc(), &nobody, 1), Ok((0, 1)));
     Ok(())
 }
 
-/// A leader at the clone of its thread, the thread at a stop, and a tracer.
-fn open_group<A: Allocator + Copy>(alloc: A) -> Result<(AtRest<A>, AtRest<A>, Desk<A>), Fail> {
-    let mut cast = open_for(alloc, &[ROOT, THREAD], 1)?;
-    let desk = cast.desk()?;
+/// A leader at the clone of its thread, and the thread at a stop.
+fn stop_group<A: Allocator + Copy>(
+    cast: &mut Cast<A>,
+    alloc: A,
+) -> Result<(AtRest<A>, AtRest<A>), Fail> {
     let thread = cast.tracee(alloc)?;
     let leader = cast.tracee(alloc)?.stop(Stop::Clone(101), 0)?;
-    let thread = thread.stop(Stop::Start, 5)?;
-    Ok((leader, thread, desk))
+    Ok((leader, thread.stop(Stop::Start, 5)?))
+}
+
+/// The same, and a tracer.
+fn open_group<A: Allocator + Copy>(alloc: A) -> Result<(AtRest<A>, AtRest<A>, Desk<A>), Fail> {
+    let mut cast = open_for(alloc, &[ROOT, THREAD], 1)?;
+    let (leader, thread) = stop_group(&mut cast, alloc)?;
+    Ok((leader, thread, cast.desk()?))
 }
 
 #[test]
@@ -191,17 +192,25 @@ fn resumed<A: Allocator>(tracee: AtRest<A>) -> Option<(Resume, u32, u32, u64)> {
     Some((running.how, record.tid, record.number, record.regs.rax))
 }
 
-/// Three roots at a stop with the marks 10, 20 and 30, and a tracer.
+/// Three roots at a stop, with the marks 10, 20 and 30.
+fn stop_three<A: Allocator + Copy>(
+    cast: &mut Cast<A>,
+    alloc: A,
+) -> Result<(AtRest<A>, AtRest<A>, AtRest<A>), Fail> {
+    let third = cast.tracee(alloc)?.stop(Stop::Enter, 30)?;
+    let second = cast.tracee(alloc)?.stop(Stop::Enter, 20)?;
+    let first = cast.tracee(alloc)?.stop(Stop::Enter, 10)?;
+    Ok((first, second, third))
+}
+
+/// The same, and a tracer.
 fn open_three<A: Allocator + Copy>(
     alloc: A,
 ) -> Result<(AtRest<A>, AtRest<A>, AtRest<A>, Desk<A>), Fail> {
     let rows = roots(alloc, 3)?;
     let mut cast = open_for(alloc, rows.as_slice(), 1)?;
-    let desk = cast.desk()?;
-    let third = cast.tracee(alloc)?.stop(Stop::Enter, 30)?;
-    let second = cast.tracee(alloc)?.stop(Stop::Enter, 20)?;
-    let first = cast.tracee(alloc)?.stop(Stop::Enter, 10)?;
-    Ok((first, second, third, desk))
+    let (first, second, third) = stop_three(&mut cast, alloc)?;
+    Ok((first, second, third, cast.desk()?))
 }
 
 #[test]

@@ -12,7 +12,8 @@ use crate::rows::ROOT;
 use std::alloc::{Allocator, Global};
 use std::test::Fail;
 use stop_history::{Roster, Row};
-use stop_table::{Ends, Tracer, open};
+use stop_table::{Ends, OpenError, Tracer, open};
+use trace_record::Stop;
 
 /// The handles of new cells that are still to be given out, the last first. All are of the table of a tracer that no test
 /// uses.
@@ -102,4 +103,33 @@ pub(crate) fn open_trio<A: Allocator + Copy>(alloc: A) -> Result<Trio<A>, Fail> 
         first,
         second,
     })
+}
+
+/// The same, with the tracee at this stop.
+pub(crate) fn stopped_trio<A: Allocator + Copy>(
+    alloc: A,
+    stop: Stop,
+    mark: u64,
+) -> Result<Trio<A>, Fail> {
+    let Trio {
+        tracee,
+        first,
+        second,
+    } = open_trio(alloc)?;
+    let tracee = tracee.stop(stop, mark)?;
+    Ok(Trio {
+        tracee,
+        first,
+        second,
+    })
+}
+
+/// How many tracees and how many tracers an opening has.
+pub(crate) fn opened<A: Allocator + Copy, B: Allocator>(
+    alloc: A,
+    roster: &Roster<B>,
+    tracers: u32,
+) -> Result<(usize, usize), OpenError> {
+    let ends = open(alloc, roster, tracers)?;
+    Ok((ends.tracees.len(), ends.tracers.len()))
 }

@@ -1,9 +1,10 @@
 //! Each growth of the opening refused in turn.
 
+use crate::cells::cast::opened;
 use crate::rows::{ROOT, THREAD};
 use refusing_allocator::RefusingAllocator;
 use stop_history::Roster;
-use stop_table::{OpenError, open};
+use stop_table::OpenError;
 
 /// More than the opening has growths.
 const MOST: u64 = 40;
@@ -16,9 +17,9 @@ fn an_opening_wants_memory_for_the_table_and_for_each_tracer(rt: HostRuntime) {
     let mut refusals = 0u32;
     for granted in 0..MOST {
         let heap = RefusingAllocator::new(rt.alloc(), granted);
-        match open(&heap, &roster, 3) {
-            Ok(ends) => {
-                assert!(rt; ends.tracees.len() == 2 && ends.tracers.len() == 3);
+        match opened(&heap, &roster, 3) {
+            Ok(sizes) => {
+                assert_eq!(rt; sizes, (2, 3));
                 assert!(rt; !heap.has_refused());
                 break;
             }

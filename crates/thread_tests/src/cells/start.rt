@@ -1,6 +1,7 @@
 //! Whether a tracee may begin to run.
 
 use crate::cells::cast::open_for;
+use crate::cells::desk::Desk;
 use crate::cells::runner::AtRest;
 use crate::rows::{CHILD, ROOT, THREAD};
 use std::alloc::Allocator;
@@ -40,11 +41,16 @@ fn a_child_of_a_parent_that_ended_without_a_fork_is_never_born(
     Ok(())
 }
 
+/// A thread that is not born yet, and a tracer.
+fn open_thread<A: Allocator + Copy>(alloc: A) -> Result<(AtRest<A>, Desk<A>), Fail> {
+    let mut cast = open_for(alloc, &[ROOT, THREAD], 1)?;
+    let thread = cast.tracee(alloc)?;
+    Ok((thread, cast.desk()?))
+}
+
 #[test]
 fn a_thread_is_not_born_before_its_clone(rt: HostRuntime) -> Result<(), Fail> {
-    let mut cast = open_for(rt.alloc(), &[ROOT, THREAD], 1)?;
-    let mut desk = cast.desk()?;
-    let thread = cast.tracee(rt.alloc())?;
+    let (thread, mut desk) = open_thread(rt.alloc())?;
     assert!(rt; thread.take_up().is_err(), "its leader has made no clone");
     assert_eq!(rt; desk.look(1), Shown::Unborn);
     Ok(())

@@ -3,7 +3,7 @@
 
 ghost use Rattle.std.specs.Prelude.{◌≡◌};
 
-use crate::cells::cast::open_for;
+use crate::cells::cast::{Cast, open_for};
 use crate::cells::desk::{Answer, Desk};
 use crate::cells::runner::{AtRest, Running};
 use crate::rows::roots;
@@ -11,7 +11,7 @@ use std::alloc::Global;
 use std::sync::Wait;
 use std::test::Fail;
 use std::thread;
-use std::thread::Threads;
+use std::thread::{JoinHandle, Threads};
 use stop_table::Shown;
 use trace_record::{Death, Stop};
 
@@ -158,37 +158,94 @@ fn sees_all_reaped(mut desk: Desk) -> bool {
     true
 }
 
-#[test]
-fn each_stop_has_one_claim(rt: HostRuntime) -> Result<(), Fail> {
-    let alloc = rt.alloc();
+/// New cells of the tracees, with four tracers.
+fn open_crowd(alloc: Global) -> Result<Cast, Fail> {
     let rows = roots(alloc, TRACEES)?;
-    let mut cast = open_for(alloc, rows.as_slice(), 4)?;
-    let (a, b, c, d) = (cast.desk()?, cast.desk()?, cast.desk()?, cast.desk()?);
-    let mut tracees = Vec::with_capacity(alloc, 8)?;
+    open_for(alloc, rows.as_slice(), 4)
+}
+
+/// Four tracers of one table.
+#[derive(Drop)]
+struct Four {
+    a: Desk,
+    b: Desk,
+    c: Desk,
+    d: Desk,
+    ghost one_table: { (b.tracer.table_id ≡ a.tracer.table_id) × (c.tracer.table_id ≡ a.tracer.table_id)
+        × (d.tracer.table_id ≡ a.tracer.table_id) },
+}
+
+/// The last four tracers that are left.
+fn take_four(cast: &mut Cast) -> Result<Four, Fail> {
+    let (a, b) = (cast.desk()?, cast.desk()?);
+    let (c, d) = (cast.desk()?, cast.desk()?);
+    Ok(Four { a, b, c, d })
+}
+
+/// Four tallies, in which nothing is counted.
+fn new_tallies(alloc: Global) -> Result<(Tally, Tally, Tally, Tally), Fail> {
+    let (a, b) = (new_tally(alloc)?, new_tally(alloc)?);
+    let (c, d) = (new_tally(alloc)?, new_tally(alloc)?);
+    Ok((a, b, c, d))
+}
+
+/// Starts a thread for each tracee.
+fn start_all<R: Threads + Wait + AllocGlobal + Copy + Send + 'static>(
+    rt: R,
+    cast: &mut Cast,
+) -> Result<Vec<JoinHandle<bool>>, Fail> {
+    let alloc = rt.alloc();
+    let mut tracees = Vec::with_capacity(alloc, TRACEES as usize)?;
     for _ in 0..TRACEES {
         let tracee = cast.tracee(alloc)?;
-        tracees.push(
-            thread::spawn(&rt, move || live(&rt, tracee))
-                .ok()
-                .expect(&rt, "a thread"),
-        )?;
+        let Ok(thread) = thread::spawn(&rt, move || live(&rt, tracee)) else {
+            return Err(Fail::new("there is no thread for a tracee"));
+        };
+        tracees.push(thread)?;
     }
-    let (ta, tb) = (new_tally(alloc)?, new_tally(alloc)?);
-    let (tc, td) = (new_tally(alloc)?, new_tally(alloc)?);
-    let ((a, b), (c, d)) = thread::join(
-        &rt,
-        || thread::join(&rt, || trace(&rt, a, ta), || trace(&rt, b, tb)),
-        || thread::join(&rt, || trace(&rt, c, tc), || trace(&rt, d, td)),
-    );
+    Ok(tracees)
+}
+
+/// Whether the calls of each tracee did what they should.
+pub(crate) fn have_lived<R: Threads + Wait>(rt: &R, tracees: Vec<JoinHandle<bool>>) -> bool {
+    let mut lived = true;
     for tracee in tracees {
-        assert!(rt; tracee.join(&rt), "a tracee's calls did what they should");
+        lived = tracee.join(rt) && lived;
     }
-    let ((a, ta), (b, tb), (c, tc), (d, td)) = (a, b, c, d);
-    let all = met(a, b, c, d).expect(&rt, "no claim is left");
-    assert!(rt; sees_all_reaped(all), "each row ended, and was reaped");
-    assert!(rt;
-        is_each_once(ta, [&tb, &tc, &td]),
-        "each stop has one claim"
+    lived
+}
+
+/// Four tracers' threads, until all rows are reaped: one tracer for all, unless one of them has a claim left, and whether
+/// each stop has one claim.
+fn trace_all<R: Threads + Wait + Sync>(
+    rt: &R,
+    four: Four,
+    tallies: (Tally, Tally, Tally, Tally),
+) -> (Option<Desk>, bool) {
+    let Four { a, b, c, d } = four;
+    let (ta, tb, tc, td) = tallies;
+    let ((a, b), (c, d)) = thread::join(
+        rt,
+        || thread::join(rt, || trace(rt, a, ta), || trace(rt, b, tb)),
+        || thread::join(rt, || trace(rt, c, tc), || trace(rt, d, td)),
     );
+    let ((a, ta), (b, tb), (c, tc), (d, td)) = (a, b, c, d);
+    (met(a, b, c, d), is_each_once(ta, [&tb, &tc, &td]))
+}
+
+#[test]
+fn each_stop_has_one_claim(rt: HostRuntime) -> Result<(), Fail> {
+    let tallies = new_tallies(rt.alloc())?;
+    let mut cast = open_crowd(rt.alloc())?;
+    let four = take_four(&mut cast)?;
+    let tracees = start_all(rt, &mut cast)?;
+    let (all, is_once) = trace_all(&rt, four, tallies);
+    assert!(rt;
+        have_lived(&rt, tracees),
+        "a tracee's calls did what they should"
+    );
+    let all = all.expect(&rt, "no claim is left");
+    assert!(rt; sees_all_reaped(all), "each row ended, and was reaped");
+    assert!(rt; is_once, "each stop has one claim");
     Ok(())
 }

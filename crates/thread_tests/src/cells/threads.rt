@@ -3,7 +3,7 @@
 ghost use Rattle.std.specs.Prelude.{◌≡◌, IfSome};
 ghost use Rattle.stop_table.specs.Handle.{IsHolding};
 
-use crate::cells::cast::{Trio, open_trio};
+use crate::cells::cast::{Trio, stopped_trio};
 use crate::cells::desk::{CONT, Desk};
 use std::alloc::{Allocator, Global};
 use std::test::Fail;
@@ -71,11 +71,10 @@ fn resume_any<A: Allocator>(claimed: Claimed<A>) -> (Desk<A>, Option<Shown>)
 #[test]
 fn of_two_threads_one_claims_the_stop(rt: HostRuntime) -> Result<(), Fail> {
     let Trio {
-        tracee,
+        tracee: _,
         first,
         second,
-    } = open_trio(rt.alloc())?;
-    let _tracee = tracee.stop(Stop::Start, 0)?;
+    } = stopped_trio(rt.alloc(), Stop::Start, 0)?;
     let (first, second) = thread::join(&rt, move || claim_once(first), move || claim_once(second));
     let (first, first_shown) = resume_any(first);
     let (second, second_shown) = resume_any(second);

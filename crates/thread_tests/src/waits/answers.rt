@@ -1,8 +1,8 @@
 //! What waits answer while one thread plays every actor.
 
-use crate::cells::cast::open_for;
+use crate::cells::cast::{Cast, open_for};
 use crate::rows::row;
-use crate::waits::caller::{both, end, root_and_waiter, with_running_root, with_stopped_root};
+use crate::waits::caller::{both, end, over_running_root, over_stopped_root, root_and_waiter};
 use std::alloc::Allocator;
 use std::test::Fail;
 use trace_calls::{Calls, Id};
@@ -15,11 +15,15 @@ pub(crate) fn started(pid: u32) -> Result<WaitStatus, Errno> {
     Ok(WaitStatus::PtraceEvent(pid, 5, 128))
 }
 
+/// The calls over no tracee.
+fn over_nobody<A: Allocator + Copy>(alloc: A) -> Result<Calls<A>, Fail> {
+    let mut cast = open_for(alloc, &[], 1)?;
+    cast.waiter(alloc)?.ready(alloc)
+}
+
 #[test]
 fn without_tracees_there_is_no_child(rt: HostRuntime) -> Result<(), Fail> {
-    let mut cast = open_for(rt.alloc(), &[], 1)?;
-    let waiter = cast.waiter(rt.alloc())?;
-    let mut calls = waiter.calls(rt.alloc()).expect(&rt, "memory");
+    let mut calls = over_nobody(rt.alloc())?;
     assert_eq!(rt;
         calls.waitid(Id::All, WaitFlags::WEXITED),
         Err(Errno::ECHILD)
@@ -31,7 +35,7 @@ fn without_tracees_there_is_no_child(rt: HostRuntime) -> Result<(), Fail> {
 
 #[test]
 fn arguments_are_tested_before_tracees(rt: HostRuntime) -> Result<(), Fail> {
-    let (_root, mut calls) = with_running_root(rt.alloc())?;
+    let mut calls = over_running_root(rt.alloc())?;
     let continued = both(WaitFlags::WEXITED, WaitFlags::WCONTINUED);
     for (id, flags) in [
         (Id::Pid(999), WaitFlags::WNOHANG),
@@ -76,7 +80,7 @@ fn looked<A: Allocator>(
 
 #[test]
 fn wnowait_leaves_the_stop_to_the_next_wait(rt: HostRuntime) -> Result<(), Fail> {
-    let (_root, mut calls) = with_stopped_root(rt.alloc(), Stop::Start)?;
+    let mut calls = over_stopped_root(rt.alloc(), Stop::Start)?;
     assert_eq!(rt; (calls.count(100), calls.count(999)), (Some(0), None));
     for _ in 0..2 {
         let peeked = looked(&mut calls, WaitFlags::WNOWAIT);
@@ -90,6 +94,15 @@ fn wnowait_leaves_the_stop_to_the_next_wait(rt: HostRuntime) -> Result<(), Fail>
     Ok(())
 }
 
+/// Two roots stop at `Stop::Start`. The last row's tracee does not run.
+fn start_two<A: Allocator + Copy>(cast: &mut Cast<A>, alloc: A) -> Result<(), Fail> {
+    let _child = cast.tracee(alloc)?;
+    for _ in 0..2 {
+        let _root = cast.tracee(alloc)?.stop(Stop::Start, 0)?;
+    }
+    Ok(())
+}
+
 /// The calls over two roots at `Stop::Start`, of the process groups 77 and 78, and an unborn child of the first.
 fn over_two_starts<A: Allocator + Copy>(alloc: A) -> Result<Calls<A>, Fail> {
     let rows = [
@@ -98,13 +111,8 @@ fn over_two_starts<A: Allocator + Copy>(alloc: A) -> Result<Calls<A>, Fail> {
         row(101, 101, 77, 100),
     ];
     let mut cast = open_for(alloc, &rows, 1)?;
-    let _child = cast.tracee(alloc)?;
-    for _ in 0..2 {
-        let root = cast.tracee(alloc)?;
-        let _root = root.stop(Stop::Start, 0)?;
-    }
-    let waiter = cast.waiter(alloc)?;
-    waiter.ready(alloc)
+    start_two(&mut cast, alloc)?;
+    cast.waiter(alloc)?.ready(alloc)
 }
 
 #[test]
@@ -123,16 +131,20 @@ fn rows_are_tried_in_the_order_of_the_roster(rt: HostRuntime) -> Result<(), Fail
     Ok(())
 }
 
+/// A parent stops at its fork, and its child at `Stop::Start`.
+fn fork<A: Allocator + Copy>(cast: &mut Cast<A>, alloc: A) -> Result<(), Fail> {
+    let child = cast.tracee(alloc)?;
+    let _parent = cast.tracee(alloc)?.stop(Stop::Fork(101), 0)?;
+    let _child = child.stop(Stop::Start, 0)?;
+    Ok(())
+}
+
 /// The calls over a parent at its fork and its child at `Stop::Start`.
 fn over_a_fork<A: Allocator + Copy>(alloc: A) -> Result<Calls<A>, Fail> {
     let rows = [row(100, 100, 77, 0), row(101, 101, 77, 100)];
     let mut cast = open_for(alloc, &rows, 1)?;
-    let child = cast.tracee(alloc)?;
-    let parent = cast.tracee(alloc)?;
-    let _parent = parent.stop(Stop::Fork(101), 0)?;
-    let _child = child.stop(Stop::Start, 0)?;
-    let waiter = cast.waiter(alloc)?;
-    waiter.ready(alloc)
+    fork(&mut cast, alloc)?;
+    cast.waiter(alloc)?.ready(alloc)
 }
 
 #[test]
@@ -174,7 +186,7 @@ fn a_death_is_reaped_once(rt: HostRuntime) -> Result<(), Fail> {
 
 #[test]
 fn with_wnohang_a_blocking_wait_answers_at_once(rt: HostRuntime) -> Result<(), Fail> {
-    let (_root, mut calls) = with_running_root(rt.alloc())?;
+    let mut calls = over_running_root(rt.alloc())?;
     let flags = both(WaitFlags::WEXITED, WaitFlags::WNOHANG);
     // The root runs, and nothing will ever be reported of it.
     let nothing = Ok(WaitStatus::StillAlive);

@@ -2,7 +2,7 @@
 
 use crate::cells::runner::{AtRest, Running};
 use crate::waits::answers::started;
-use crate::waits::caller::{end, root_and_waiter, with_stopped_root};
+use crate::waits::caller::{end, over_stopped_root, root_and_waiter, with_stopped_root};
 use std::alloc::{Allocator, Global};
 use std::sync::Wait;
 use std::test::Fail;
@@ -31,21 +31,21 @@ fn refusals<A: Allocator>(calls: &mut Calls<A>) -> [Result<(), Errno>; 3] {
     [(100, Some(65)), (999, Some(65)), (-100, None)].map(|(pid, signal)| calls.cont(pid, signal))
 }
 
-/// The root with its page at `Stop::Start`, and the calls.
-fn with_a_page(alloc: Global) -> Result<(AtRest, Calls), Fail> {
+/// The calls over the root with its page, at `Stop::Start`.
+fn over_a_page(alloc: Global) -> Result<Calls, Fail> {
     let (root, waiter) = root_and_waiter(alloc)?;
     let Ok(running) = root.take_up() else {
         return Err(Fail::new("a root runs"));
     };
-    let Some(root) = start_with_a_page(running) else {
+    if start_with_a_page(running).is_none() {
         return Err(Fail::new("there is no memory for a page"));
-    };
-    Ok((root, waiter.ready(alloc)?))
+    }
+    waiter.ready(alloc)
 }
 
 #[test]
 fn what_is_claimed_is_read(rt: HostRuntime) -> Result<(), Fail> {
-    let (_root, mut calls) = with_a_page(rt.alloc())?;
+    let mut calls = over_a_page(rt.alloc())?;
     assert_eq!(rt; calls.read(100, 0x10000), Err(Errno::ESRCH));
     assert_eq!(rt; calls.waitid(Id::All, WaitFlags::WSTOPPED), started(100));
     let found = words(&mut calls);
@@ -97,7 +97,7 @@ fn a_signal_is_handed_over(rt: HostRuntime) -> Result<(), Fail> {
     Ok(())
 }
 
-/// The root at the entry of call 39, and the calls.
+/// The calls over the root at the entry of call 39.
 fn at_call_39(alloc: Global) -> Result<Calls, Fail> {
     let (root, waiter) = root_and_waiter(alloc)?;
     let Ok(mut running) = root.take_up() else {
@@ -141,7 +141,7 @@ fn ends<R: Wait>(rt: &R, calls: Calls) -> bool {
 
 #[test]
 fn calls_end_once_nothing_is_claimed(rt: HostRuntime) -> Result<(), Fail> {
-    let (_root, mut calls) = with_stopped_root(rt.alloc(), Stop::Start)?;
+    let mut calls = over_stopped_root(rt.alloc(), Stop::Start)?;
     assert_eq!(rt; calls.count(100), Some(0));
     assert_eq!(rt;
         calls.waitid(Id::PGid(77), WaitFlags::WSTOPPED),

@@ -61,12 +61,10 @@ pub(crate) fn root_and_waiter<A: Allocator + Copy>(
     Ok((root, waiter))
 }
 
-/// The one root, which runs, and a tracer's calls.
-pub(crate) fn with_running_root<A: Allocator + Copy>(
-    alloc: A,
-) -> Result<(AtRest<A>, Calls<A>), Fail> {
-    let (root, waiter) = root_and_waiter(alloc)?;
-    Ok((root, waiter.ready(alloc)?))
+/// The calls over the one root, which runs.
+pub(crate) fn over_running_root<A: Allocator + Copy>(alloc: A) -> Result<Calls<A>, Fail> {
+    let (_root, waiter) = root_and_waiter(alloc)?;
+    waiter.ready(alloc)
 }
 
 /// The one root, at this stop, and a tracer's calls.
@@ -77,6 +75,15 @@ pub(crate) fn with_stopped_root<A: Allocator + Copy>(
     let (root, waiter) = root_and_waiter(alloc)?;
     let root = root.stop(stop, 0)?;
     Ok((root, waiter.ready(alloc)?))
+}
+
+/// The calls over the one root, at this stop.
+pub(crate) fn over_stopped_root<A: Allocator + Copy>(
+    alloc: A,
+    stop: Stop,
+) -> Result<Calls<A>, Fail> {
+    let (_root, calls) = with_stopped_root(alloc, stop)?;
+    Ok(calls)
 }
 
 /// Lets the tracees of these pids that are claimed run on, and ends the calls.

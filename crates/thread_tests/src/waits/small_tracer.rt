@@ -1,10 +1,8 @@
 //! The loop of a small tracer, as docs/calls.md has it.
 
-use crate::cells::cast::open_for;
 use crate::cells::runner::AtRest;
 use crate::cells::stress::runs_on;
-use crate::rows::ROOT;
-use crate::waits::caller::{Waiter, end};
+use crate::waits::caller::{Waiter, end, root_and_waiter};
 use std::alloc::Allocator;
 use std::sync::Wait;
 use std::test::Fail;
@@ -62,9 +60,7 @@ fn count<R: Wait + Clock>(rt: &R, waiter: Waiter, alloc: std::alloc::Global) -> 
 #[test]
 fn the_small_tracer_counts_the_stops_of_a_call(rt: HostRuntime) -> Result<(), Fail> {
     let alloc = rt.alloc();
-    let mut cast = open_for(alloc, &[ROOT], 1)?;
-    let root = cast.tracee(alloc)?;
-    let waiter = cast.waiter(alloc)?;
+    let (root, waiter) = root_and_waiter(alloc)?;
     let (counted, lived) = thread::join(&rt, || count(&rt, waiter, alloc), || live(&rt, root));
     assert!(rt; lived, "its stops were made");
     assert_eq!(rt; counted, Some(2));

@@ -1,15 +1,16 @@
 //! Waits on threads of their own.
 
-use crate::cells::cast::open_for;
+use crate::cells::cast::{Cast, open_for};
 use crate::cells::runner::AtRest;
-use crate::cells::stress::runs_on;
-use crate::rows::{ROOT, roots};
+use crate::cells::stress::{have_lived, runs_on};
+use crate::rows::roots;
 use crate::waits::answers::started;
-use crate::waits::caller::{Waiter, end};
+use crate::waits::caller::{Waiter, end, root_and_waiter};
 use std::alloc::Global;
 use std::sync::Wait;
 use std::test::Fail;
 use std::thread;
+use std::thread::{JoinHandle, Threads};
 use std::time::Clock;
 use trace_calls::Id;
 use trace_options::{Errno, WaitFlags};
@@ -43,9 +44,7 @@ fn wait_for_a_stop<R: Wait + Clock>(
 #[test]
 fn a_blocking_wait_sees_a_stop_that_comes_later(rt: HostRuntime) -> Result<(), Fail> {
     let alloc = rt.alloc();
-    let mut cast = open_for(alloc, &[ROOT], 1)?;
-    let root = cast.tracee(alloc)?;
-    let waiter = cast.waiter(alloc)?;
+    let (root, waiter) = root_and_waiter(alloc)?;
     let (answer, published) = thread::join(
         &rt,
         || wait_for_a_stop(&rt, waiter, alloc),
@@ -96,39 +95,76 @@ fn reap<R: Wait + Clock>(rt: &R, waiter: Waiter, alloc: Global) -> Option<[u8; T
     unreachable!()
 }
 
-#[test]
-fn each_death_is_answered_once(rt: HostRuntime) -> Result<(), Fail> {
+/// Starts a thread for each tracee.
+fn start_tracees<R: Threads + Wait + AllocGlobal + Copy + Send + 'static>(
+    rt: R,
+    cast: &mut Cast,
+) -> Result<Vec<JoinHandle<bool>>, Fail> {
     let alloc = rt.alloc();
-    let rows = roots(alloc, TRACEES as u32)?;
-    let mut cast = open_for(alloc, rows.as_slice(), WAITERS as u32)?;
     let mut tracees = Vec::with_capacity(alloc, TRACEES)?;
     for _ in 0..TRACEES {
         let tracee = cast.tracee(alloc)?;
-        tracees.push(
-            thread::spawn(&rt, move || live(&rt, tracee))
-                .ok()
-                .expect(&rt, "a thread"),
-        )?;
+        let Ok(thread) = thread::spawn(&rt, move || live(&rt, tracee)) else {
+            return Err(Fail::new("there is no thread for a tracee"));
+        };
+        tracees.push(thread)?;
     }
+    Ok(tracees)
+}
+
+/// Starts the threads that wait for them.
+fn start_waiters<R: Threads + Wait + Clock + AllocGlobal + Copy + Send + 'static>(
+    rt: R,
+    cast: &mut Cast,
+) -> Result<Vec<JoinHandle<Option<[u8; TRACEES]>>>, Fail> {
+    let alloc = rt.alloc();
     let mut waiters = Vec::with_capacity(alloc, WAITERS)?;
     for _ in 0..WAITERS {
         let waiter = cast.waiter(alloc)?;
-        waiters.push(
-            thread::spawn(&rt, move || reap(&rt, waiter, alloc))
-                .ok()
-                .expect(&rt, "a thread"),
-        )?;
+        let Ok(thread) = thread::spawn(&rt, move || reap(&rt, waiter, alloc)) else {
+            return Err(Fail::new("there is no thread for a tracer"));
+        };
+        waiters.push(thread)?;
     }
+    Ok(waiters)
+}
+
+/// How often each death was answered; None where a thread had no memory.
+fn count_answers<R: Threads + Wait>(
+    rt: &R,
+    waiters: Vec<JoinHandle<Option<[u8; TRACEES]>>>,
+) -> Option<[u8; TRACEES]> {
     let mut answered = [0u8; TRACEES];
+    let mut has_memory = true;
     for waiter in waiters {
-        let deaths = waiter.join(&rt).expect(&rt, "memory");
-        for (count, more) in answered.iter_mut().zip(deaths.iter()) {
-            *count = count.saturating_add(*more);
+        match waiter.join(rt) {
+            Some(deaths) => {
+                for (count, more) in answered.iter_mut().zip(deaths.iter()) {
+                    *count = count.saturating_add(*more);
+                }
+            }
+            None => has_memory = false,
         }
     }
-    for tracee in tracees {
-        assert!(rt; tracee.join(&rt), "a tracee's calls did what they should");
-    }
+    has_memory.then_some(answered)
+}
+
+/// New cells of the tracees, with the tracers.
+fn open_crowd(alloc: Global) -> Result<Cast, Fail> {
+    let rows = roots(alloc, TRACEES as u32)?;
+    open_for(alloc, rows.as_slice(), WAITERS as u32)
+}
+
+#[test]
+fn each_death_is_answered_once(rt: HostRuntime) -> Result<(), Fail> {
+    let mut cast = open_crowd(rt.alloc())?;
+    let tracees = start_tracees(rt, &mut cast)?;
+    let waiters = start_waiters(rt, &mut cast)?;
+    let answered = count_answers(&rt, waiters).expect(&rt, "memory");
+    assert!(rt;
+        have_lived(&rt, tracees),
+        "a tracee's calls did what they should"
+    );
     assert!(rt; answered.iter().all(|count| *count == 1), "each death once");
     Ok(())
 }

@@ -215,6 +215,18 @@ impl<A: Allocator + Copy> Party<A> {
         }
     }
 
+    /// The tracee makes its next stop, at which the tracer claims it; the piece of the stop.
+    fn serve(self, alloc: A, stop: Stop, how: Resume) -> Option<(Party<A>, Piece<A>)>
+        requires { IsStop stop × (child_of stop ≡ None) × IsResume how }
+    {
+        self.stop(stop)?.claim(alloc, how)
+    }
+
+    /// The tracee is killed, and the tracer claims its death; its piece.
+    fn end(self) -> Option<(Party<A>, Piece<A>)> {
+        self.die(KILLED)?.reap()
+    }
+
     /// Gathers the handles with these pieces.
     fn gathered(self, alloc: A, pieces: Vec<Piece<A>, A>) -> Option<Result<Text<A>, RunError>> {
         let Party {
@@ -260,11 +272,9 @@ fn show() -> Show {
 
 /// The whole life, and its pieces: of the start, of the signal, and of the death.
 fn live<A: Allocator + Copy>(alloc: A) -> Option<(Party<A>, Piece<A>, Piece<A>, Piece<A>)> {
-    let party = new_party(alloc)?.stop(Stop::Start)?;
-    let (party, first) = party.claim(alloc, CONT)?;
-    let party = party.stop(Stop::Signal(SIGTERM))?;
-    let (party, second) = party.claim(alloc, DELIVER)?;
-    let (party, death) = party.die(KILLED)?.reap()?;
+    let (party, first) = new_party(alloc)?.serve(alloc, Stop::Start, CONT)?;
+    let (party, second) = party.serve(alloc, Stop::Signal(SIGTERM), DELIVER)?;
+    let (party, death) = party.end()?;
     Some((party, first, second, death))
 }
 

@@ -199,31 +199,38 @@ fn schedules_by_chance_print_the_same(rt: HostRuntime) -> Result<(), Fail> {
 /// At least so many growths: the copies of the roster, the words, the folder's rows, the rows, and each row's image.
 const GROWTHS: u64 = 8;
 
-#[test]
-fn a_refused_growth_leaves_no_text(rt: HostRuntime) -> Result<(), Fail> {
-    let config = Config {
-        workers: 2,
-        ..all()
+/// A run of the worked case with so many growths: whether it prints its text, and whether a growth was refused. None
+/// where the case cannot be read.
+fn run_with(
+    rt: &HostRuntime,
+    granted: u64,
+    schedule: &[u32],
+) -> Option<(Result<bool, RunError>, bool)> {
+    let heap = RefusingAllocator::new(rt.alloc(), granted);
+    let Ok(case) = Case::read(&heap, FORK.as_bytes()) else {
+        return None;
     };
+    let ran = match run_scheduled(&heap, &case, &all(), schedule) {
+        Ok(text) => Ok(text.as_bytes() == FORK_TEXT.as_bytes()),
+        Err(error) => Err(error),
+    };
+    Some((ran, heap.has_refused()))
+}
+
+#[test]
+fn a_refused_growth_leaves_no_text(rt: HostRuntime) {
     let mut refusals = 0u64;
     for granted in 0..200 {
-        let heap = RefusingAllocator::new(rt.alloc(), granted);
-        let Ok(case) = Case::read(&heap, FORK.as_bytes()) else {
-            continue;
-        };
-        match run_scheduled(&heap, &case, &config, &[2, 0]) {
-            Ok(text) => assert!(rt; text.as_bytes() == FORK_TEXT.as_bytes(), "{granted}"),
-            Err(error) => {
+        match run_with(&rt, granted, &[2, 0]) {
+            None => {}
+            Some((Ok(is_right), _)) => assert!(rt; is_right, "{granted}"),
+            Some((Err(error), has_refused)) => {
                 assert_eq!(rt; error, RunError::NoMemory, "{granted}");
-                assert!(rt; heap.has_refused(), "{granted}");
+                assert!(rt; has_refused, "{granted}");
                 refusals = refusals.wrapping_add(1);
             }
         }
     }
     assert!(rt; refusals >= GROWTHS, "{refusals}");
-    let heap = RefusingAllocator::new(rt.alloc(), 200);
-    let case = Case::read(&heap, FORK.as_bytes())?;
-    assert!(rt; run_scheduled(&heap, &case, &config, &[]).is_ok());
-    assert!(rt; !heap.has_refused());
-    Ok(())
+    assert_eq!(rt; run_with(&rt, 200, &[]), Some((Ok(true), false)));
 }

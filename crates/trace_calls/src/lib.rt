@@ -23,6 +23,3 @@ mod settle;
 
 pub use calls::Calls;
 pub use id::Id;
-
-#[cfg(test)]
-mod tests;

@@ -29,22 +29,3 @@ pub use thread_laws::{claimed_pieces_were_made, what_is_driven_stays_so};
 pub use threaded::run_case;
 pub use tracee_thread::run_tracee;
 pub use worker_thread::{Worked, run_worker};
-
-#[cfg(test)]
-mod gate_tests;
-#[cfg(test)]
-mod gather_tests;
-#[cfg(test)]
-mod overlap_tests;
-#[cfg(test)]
-mod run_tests;
-#[cfg(test)]
-mod stress_tests;
-#[cfg(test)]
-mod tests;
-#[cfg(test)]
-mod thread_growth_tests;
-#[cfg(test)]
-mod thread_tests;
-#[cfg(test)]
-mod worker_growth_tests;

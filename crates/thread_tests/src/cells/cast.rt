@@ -1,0 +1,135 @@
+//! Who acts in a test: the tracees and tracers of new cells.
+
+ghost use Rattle.std.specs.Prelude.{◌≡◌, ◌<◌, IfOk};
+ghost use Rattle.std.specs.Coded.{codes};
+ghost use Rattle.trace_pages.specs.FlatMemory.{flat_code};
+ghost use Rattle.stop_history.specs.declared.limits.TheConstants.{TRACERS};
+ghost use Rattle.stop_table.specs.Opening.{AreTracees, AreTracers};
+
+use crate::cells::desk::Desk;
+use crate::cells::runner::AtRest;
+use crate::rows::ROOT;
+use std::alloc::{Allocator, Global};
+use std::test::Fail;
+use stop_history::{Roster, Row};
+use stop_table::{Ends, OpenError, Tracer, open};
+use trace_record::Stop;
+
+/// The handles of new cells that are still to be given out, the last first. All are of the table of a tracer that no test
+/// uses.
+#[derive(Drop)]
+pub(crate) struct Cast<A: Allocator = Global> {
+    pub ends: Ends<A>,
+    pub roster: Roster<A>,
+    pub unused: Tracer<A>,
+    pub ghost tracees: { AreTracees unused.table_id roster ends.tracees.items } by { Prim.hlevel (codes, flat_code) },
+    pub ghost tracers: { AreTracers unused.table_id roster ends.tracers.items } by { Prim.hlevel (codes, flat_code) },
+}
+
+/// New cells of these rows.
+pub(crate) fn open_for<A: Allocator + Copy>(
+    alloc: A,
+    rows: &[Row],
+    tracers: u32,
+) -> Result<Cast<A>, Fail>
+    requires { tracers < TRACERS }
+{
+    let roster = Roster::new(alloc, rows)?;
+    let mut ends = open(alloc, &roster, tracers + 1)?;
+    let Some(unused) = ends.tracers.pop() else {
+        return Err(Fail::new("no tracer was opened"));
+    };
+    Ok(Cast {
+        ends,
+        roster,
+        unused,
+    })
+}
+
+impl<A: Allocator + Copy> Cast<A> {
+    /// The tracee of the last row that is left.
+    pub(crate) fn tracee(&mut self, alloc: A) -> Result<AtRest<A>, Fail>
+        ensures table { IfOk result (λ t. t.tracee.table_id ≡ self.old.unused.table_id) }
+        ensures same { self.new.unused.table_id ≡ self.old.unused.table_id }
+    {
+        let roster = Roster::new(alloc, self.roster.rows())?;
+        let Some(tracee) = self.ends.tracees.pop() else {
+            return Err(Fail::new("no tracee is left"));
+        };
+        let Ok(row) = u32::try_from(self.ends.tracees.len()) else {
+            return Err(Fail::new("no roster has so many rows"));
+        };
+        Ok(AtRest {
+            tracee,
+            roster,
+            row,
+            births: 0,
+        })
+    }
+
+    /// The last tracer that is left.
+    pub(crate) fn desk(&mut self) -> Result<Desk<A>, Fail>
+        ensures table { IfOk result (λ d. d.tracer.table_id ≡ self.old.unused.table_id) }
+        ensures same { self.new.unused.table_id ≡ self.old.unused.table_id }
+    {
+        let Some(tracer) = self.ends.tracers.pop() else {
+            return Err(Fail::new("no tracer is left"));
+        };
+        Ok(Desk {
+            tracer,
+            rows: self.roster.len(),
+        })
+    }
+}
+
+/// A tracee and two tracers of one table.
+#[derive(Drop)]
+pub(crate) struct Trio<A: Allocator = Global> {
+    pub tracee: AtRest<A>,
+    pub first: Desk<A>,
+    pub second: Desk<A>,
+    pub ghost one_table: { (first.tracer.table_id ≡ tracee.tracee.table_id)
+        × (second.tracer.table_id ≡ tracee.tracee.table_id) },
+}
+
+/// The tracee of the one row, and tracers 0 and 1.
+pub(crate) fn open_trio<A: Allocator + Copy>(alloc: A) -> Result<Trio<A>, Fail> {
+    let mut cast = open_for(alloc, &[ROOT], 2)?;
+    let tracee = cast.tracee(alloc)?;
+    let second = cast.desk()?;
+    let first = cast.desk()?;
+    Ok(Trio {
+        tracee,
+        first,
+        second,
+    })
+}
+
+/// The same, with the tracee at this stop.
+pub(crate) fn stopped_trio<A: Allocator + Copy>(
+    alloc: A,
+    stop: Stop,
+    mark: u64,
+) -> Result<Trio<A>, Fail> {
+    let Trio {
+        tracee,
+        first,
+        second,
+    } = open_trio(alloc)?;
+    let tracee = tracee.stop(stop, mark)?;
+    Ok(Trio {
+        tracee,
+        first,
+        second,
+    })
+}
+
+/// How many tracees and how many tracers an opening has.
+pub(crate) fn opened<A: Allocator + Copy, B: Allocator>(
+    alloc: A,
+    roster: &Roster<B>,
+    tracers: u32,
+) -> Result<(usize, usize), OpenError> {
+    let ends = open(alloc, roster, tracers)?;
+    Ok((ends.tracees.len(), ends.tracers.len()))
+}

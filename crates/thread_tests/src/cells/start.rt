@@ -1,0 +1,57 @@
+//! Whether a tracee may begin to run.
+
+use crate::cells::cast::open_for;
+use crate::cells::desk::Desk;
+use crate::cells::runner::AtRest;
+use crate::rows::{CHILD, ROOT, THREAD};
+use std::alloc::Allocator;
+use std::test::Fail;
+use stop_table::{Shown, Start};
+use trace_record::Stop;
+
+/// A parent, and its child, which is not born yet.
+fn open_family<A: Allocator + Copy>(alloc: A) -> Result<(AtRest<A>, AtRest<A>), Fail> {
+    let mut cast = open_for(alloc, &[ROOT, CHILD], 1)?;
+    let child = cast.tracee(alloc)?;
+    let parent = cast.tracee(alloc)?;
+    Ok((parent, child))
+}
+
+#[test]
+fn a_child_is_born_by_its_fork(rt: HostRuntime) -> Result<(), Fail> {
+    let (parent, mut child) = open_family(rt.alloc())?;
+    assert_eq!(rt; child.start(), Start::NotYet);
+    let parent = parent.take_up().ok().expect(&rt, "a root runs");
+    assert_eq!(rt; child.start(), Start::NotYet);
+    let _parent = parent.publish(Stop::Fork(101), 0).expect(&rt, "its child");
+    assert_eq!(rt; child.start(), Start::Born);
+    assert!(rt; child.take_up().is_ok(), "it may run");
+    Ok(())
+}
+
+#[test]
+fn a_child_of_a_parent_that_ended_without_a_fork_is_never_born(
+    rt: HostRuntime,
+) -> Result<(), Fail> {
+    let (parent, mut child) = open_family(rt.alloc())?;
+    assert_eq!(rt; child.start(), Start::NotYet);
+    assert!(rt; parent.ends(0), "its child is of another group");
+    assert_eq!(rt; child.start(), Start::Never);
+    assert!(rt; child.take_up().is_err(), "it never runs");
+    Ok(())
+}
+
+/// A thread that is not born yet, and a tracer.
+fn open_thread<A: Allocator + Copy>(alloc: A) -> Result<(AtRest<A>, Desk<A>), Fail> {
+    let mut cast = open_for(alloc, &[ROOT, THREAD], 1)?;
+    let thread = cast.tracee(alloc)?;
+    Ok((thread, cast.desk()?))
+}
+
+#[test]
+fn a_thread_is_not_born_before_its_clone(rt: HostRuntime) -> Result<(), Fail> {
+    let (thread, mut desk) = open_thread(rt.alloc())?;
+    assert!(rt; thread.take_up().is_err(), "its leader has made no clone");
+    assert_eq!(rt; desk.look(1), Shown::Unborn);
+    Ok(())
+}

@@ -1,0 +1,8 @@
+//! Waits and calls by pid over the cells that threads share.
+
+mod answers;
+mod by_pid;
+pub(crate) mod caller;
+mod growth;
+mod small_tracer;
+mod threads;

@@ -1,0 +1,14 @@
+//! Runs of a case: how it is traced, on schedules and on threads, and what is gathered of it.
+
+mod cases;
+mod config;
+mod gate;
+mod gathering;
+mod growth;
+mod laws;
+mod overlap;
+mod run_error;
+mod scheduled;
+mod stress;
+mod threaded;
+mod worker_thread;

@@ -1,0 +1,86 @@
+//! What a gate is told, and when: between the claim of a stop and its restart.
+
+use crate::workers::cases::all;
+use std::sync::Wait;
+use std::sync::atomic::{AtomicBool, AtomicU32, Ordering};
+use std::test::Fail;
+use std::thread;
+use std::thread::Threads;
+use std::time::{Clock, Duration};
+use trace_script::Case;
+use tracer_workers::{Config, Gate, run_case};
+
+/// A root that exits at once. It stops when it starts and when it calls exit(2).
+const ROOT: &str = "tracee 100 100 77 0\nexit 0\nend\n";
+
+const ROOT_TEXT: &str = "100 exit(0) = ?\n100 +++ exited with 0 +++\n";
+
+const STOPS: u32 = 2;
+
+/// How many workers serve it.
+const WORKERS: u32 = 2;
+
+/// For how many milliseconds its first stop is held.
+const TURNS: u32 = 50;
+
+/// A gate that holds the first stop of the root. No other stop may come meanwhile.
+#[derive(Drop)]
+struct Holding<'a, R> {
+    rt: &'a R,
+    calls: AtomicU32,
+    /// Whether a stop came while the first one was held.
+    is_overtaken: AtomicBool,
+    /// Whether the gate was told another worker, thread id or number than it may be.
+    is_strange: AtomicBool,
+}
+
+impl<'a, R: Clock> Gate for Holding<'a, R> {
+    fn between(&self, worker: u32, tid: u32, number: u32) {
+        let before = self.calls.fetch_add(1, Ordering::SeqCst);
+        if worker >= WORKERS || tid != 100 || number != before.wrapping_add(1) {
+            self.is_strange.store(true, Ordering::SeqCst);
+        }
+        if before != 0 {
+            return;
+        }
+        for _ in 0..TURNS {
+            thread::sleep(self.rt, Duration::from_millis(1));
+        }
+        if self.calls.load(Ordering::SeqCst) != 1 {
+            self.is_overtaken.store(true, Ordering::SeqCst);
+        }
+    }
+}
+
+/// Whether the root stays at a stop that is held, and the gate is called once for each of its stops.
+fn holds<R: Threads + Wait + Clock + AllocGlobal + Sync>(
+    rt: &R,
+    seccomp: bool,
+) -> Result<bool, Fail> {
+    let case = Case::read(rt.alloc(), ROOT.as_bytes())?;
+    let config = Config {
+        seccomp,
+        workers: WORKERS,
+        ..all()
+    };
+    let gate = Holding {
+        rt,
+        calls: AtomicU32::new(0),
+        is_overtaken: AtomicBool::new(false),
+        is_strange: AtomicBool::new(false),
+    };
+    let printed = run_case(rt, rt.alloc(), &case, &config, &gate)?;
+    let calls = gate.calls.load(Ordering::SeqCst);
+    let is_overtaken = gate.is_overtaken.load(Ordering::SeqCst);
+    let is_strange = gate.is_strange.load(Ordering::SeqCst);
+    let is_right = printed.as_bytes() == ROOT_TEXT.as_bytes();
+    Ok(is_right && calls == STOPS && !is_overtaken && !is_strange)
+}
+
+#[test]
+fn a_tracee_stays_at_a_stop_that_a_gate_holds(rt: HostRuntime) -> Result<(), Fail> {
+    for seccomp in [false, true] {
+        assert!(rt; holds(&rt, seccomp)?);
+    }
+    Ok(())
+}

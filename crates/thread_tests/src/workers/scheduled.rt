@@ -1,0 +1,236 @@
+//! Runs of cases on schedules: their texts, worked out by hand, and each growth refused in turn.
+
+use crate::workers::cases::{
+    EXEC, EXEC_TEXT, FORK, FORK_TEXT, MEMORY, MEMORY_TEXT, THREAD, THREAD_TEXT, all,
+};
+use refusing_allocator::RefusingAllocator;
+use std::test::Fail;
+use trace_options::CallSet;
+use trace_script::Case;
+use tracer_workers::{Config, RunError, run_scheduled};
+
+/// Schedules of two rows and two workers: none, turns of each actor, actors that are none, one actor alone, and long ones.
+const SCHEDULES: [&[u32]; 7] = [
+    &[],
+    &[2, 2, 1, 0, 2],
+    &[9, 1, 3, 0],
+    &[3; 40],
+    &[0; 300],
+    &[2; 300],
+    &[u32::MAX, 0, 2],
+];
+
+/// Whether a case prints a text on a schedule, with and without a filter, by one worker, by two, and by 16.
+fn prints_on(
+    rt: &impl AllocGlobal,
+    case: &Case,
+    config: &Config,
+    schedule: &[u32],
+    text: &str,
+) -> Result<bool, Fail> {
+    for seccomp in [false, true] {
+        let config = Config { seccomp, ..*config };
+        let one = Config {
+            workers: 1,
+            ..config
+        };
+        let two = Config {
+            workers: 2,
+            ..config
+        };
+        let most = Config {
+            workers: 16,
+            ..config
+        };
+        let alone = run_scheduled(rt.alloc(), case, &one, schedule)?;
+        let shared = run_scheduled(rt.alloc(), case, &two, schedule)?;
+        let crowded = run_scheduled(rt.alloc(), case, &most, schedule)?;
+        for printed in [&alone, &shared, &crowded] {
+            if printed.as_bytes() != text.as_bytes() {
+                return Ok(false);
+            }
+        }
+    }
+    Ok(true)
+}
+
+/// Whether a case prints a text on each of the schedules.
+fn prints(rt: &impl AllocGlobal, file: &str, config: &Config, text: &str) -> Result<bool, Fail> {
+    let case = Case::read(rt.alloc(), file.as_bytes())?;
+    for schedule in SCHEDULES {
+        if !prints_on(rt, &case, config, schedule, text)? {
+            return Ok(false);
+        }
+    }
+    Ok(true)
+}
+
+#[test]
+fn a_case_without_rows_prints_nothing(rt: HostRuntime) -> Result<(), Fail> {
+    assert!(rt; prints(&rt, "", &all(), "")?);
+    Ok(())
+}
+
+#[test]
+fn each_schedule_prints_the_worked_case(rt: HostRuntime) -> Result<(), Fail> {
+    assert!(rt; prints(&rt, FORK, &all(), FORK_TEXT)?);
+    Ok(())
+}
+
+#[test]
+fn a_child_that_is_not_followed_is_not_printed(rt: HostRuntime) -> Result<(), Fail> {
+    let text =
+        "100 write(1, \"hi\\n\", 3) = 3\n100 fork() = 101\n100 exit(3) = ?\n100 +++ exited with 3 +++\n";
+    let config = Config {
+        follow: false,
+        ..all()
+    };
+    assert!(rt; prints(&rt, FORK, &config, text)?);
+    Ok(())
+}
+
+#[test]
+fn a_string_is_cut_at_the_limit(rt: HostRuntime) -> Result<(), Fail> {
+    let text = "100 write(1, \"hi\"..., 3) = 3\n100 fork() = 101\n100 exit(3) = ?\n\
+                100 +++ exited with 3 +++\n101 exit(0) = ?\n101 +++ exited with 0 +++\n";
+    let config = Config { limit: 2, ..all() };
+    assert!(rt; prints(&rt, FORK, &config, text)?);
+    Ok(())
+}
+
+#[test]
+fn calls_that_are_not_shown_are_not_printed(rt: HostRuntime) -> Result<(), Fail> {
+    let mut shown = CallSet::none();
+    // The number of write(2).
+    shown.add(1);
+    let text =
+        "100 write(1, \"hi\\n\", 3) = 3\n100 +++ exited with 3 +++\n101 +++ exited with 0 +++\n";
+    let config = Config { shown, ..all() };
+    assert!(rt; prints(&rt, FORK, &config, text)?);
+    Ok(())
+}
+
+#[test]
+fn a_leader_waits_for_its_thread(rt: HostRuntime) -> Result<(), Fail> {
+    assert!(rt; prints(&rt, THREAD, &all(), THREAD_TEXT)?);
+    Ok(())
+}
+
+#[test]
+fn a_signal_is_handed_over(rt: HostRuntime) -> Result<(), Fail> {
+    let deadly = "tracee 200 200 200 0\nsignal 15 deadly\nexit 0\nend\n";
+    let killed = "200 --- SIGTERM ---\n200 +++ killed by SIGTERM +++\n";
+    assert!(rt; prints(&rt, deadly, &all(), killed)?);
+    let handled = "tracee 200 200 200 0\nsignal 15\nexit 0\nend\n";
+    let exited = "200 --- SIGTERM ---\n200 exit(0) = ?\n200 +++ exited with 0 +++\n";
+    assert!(rt; prints(&rt, handled, &all(), exited)?);
+    Ok(())
+}
+
+#[test]
+fn bytes_are_printed_as_they_were_at_the_stops(rt: HostRuntime) -> Result<(), Fail> {
+    assert!(rt; prints(&rt, MEMORY, &all(), MEMORY_TEXT)?);
+    Ok(())
+}
+
+#[test]
+fn an_execve_is_printed_by_the_memory_before_it(rt: HostRuntime) -> Result<(), Fail> {
+    assert!(rt; prints(&rt, EXEC, &all(), EXEC_TEXT)?);
+    Ok(())
+}
+
+#[test]
+fn a_row_has_many_stops(rt: HostRuntime) -> Result<(), Fail> {
+    let mut file = String::new(rt.alloc());
+    let mut text = String::new(rt.alloc());
+    file.push_str("tracee 100 100 77 0\n")?;
+    for _ in 0..300 {
+        file.push_str("call getpid = 100\n")?;
+        text.push_str("100 getpid() = 100\n")?;
+    }
+    file.push_str("end\n")?;
+    text.push_str("100 +++ exited with 0 +++\n")?;
+    assert!(rt; prints(&rt, file.as_str(), &all(), text.as_str())?);
+    Ok(())
+}
+
+#[test]
+fn there_are_64_rows(rt: HostRuntime) -> Result<(), Fail> {
+    let mut file = String::new(rt.alloc());
+    let mut text = String::new(rt.alloc());
+    file.push_str("tracee 100 100 77 0\n")?;
+    for child in 101..164 {
+        file.push_str(format!(in rt.alloc(); "fork {child}\n")?.as_str())?;
+        text.push_str(format!(in rt.alloc(); "100 fork() = {child}\n")?.as_str())?;
+    }
+    file.push_str("end\n")?;
+    text.push_str("100 +++ exited with 0 +++\n")?;
+    for child in 101..164 {
+        file.push_str(format!(in rt.alloc(); "tracee {child} {child} 77 100\nend\n")?.as_str())?;
+        text.push_str(format!(in rt.alloc(); "{child} +++ exited with 0 +++\n")?.as_str())?;
+    }
+    assert!(rt; prints(&rt, file.as_str(), &all(), text.as_str())?);
+    Ok(())
+}
+
+/// The next of a sequence of numbers that look random, whose higher bits are used.
+fn next(number: u32) -> u32 {
+    number.wrapping_mul(1_664_525).wrapping_add(1_013_904_223)
+}
+
+#[test]
+fn schedules_by_chance_print_the_same(rt: HostRuntime) -> Result<(), Fail> {
+    let mut number = 1u32;
+    for (file, text) in [(FORK, FORK_TEXT), (THREAD, THREAD_TEXT), (EXEC, EXEC_TEXT)] {
+        let case = Case::read(rt.alloc(), file.as_bytes())?;
+        for _ in 0..20 {
+            let mut schedule = [0u32; 40];
+            for entry in schedule.iter_mut() {
+                number = next(number);
+                // Two rows, two workers and two numbers of no actor.
+                *entry = (number >> 16) % 6;
+            }
+            assert!(rt; prints_on(&rt, &case, &all(), &schedule, text)?);
+        }
+    }
+    Ok(())
+}
+
+/// At least so many growths: the copies of the roster, the words, the folder's rows, the rows, and each row's image.
+const GROWTHS: u64 = 8;
+
+/// A run of the worked case with so many growths: whether it prints its text, and whether a growth was refused. None
+/// where the case cannot be read.
+fn run_with(
+    rt: &HostRuntime,
+    granted: u64,
+    schedule: &[u32],
+) -> Option<(Result<bool, RunError>, bool)> {
+    let heap = RefusingAllocator::new(rt.alloc(), granted);
+    let Ok(case) = Case::read(&heap, FORK.as_bytes()) else {
+        return None;
+    };
+    let ran = match run_scheduled(&heap, &case, &all(), schedule) {
+        Ok(text) => Ok(text.as_bytes() == FORK_TEXT.as_bytes()),
+        Err(error) => Err(error),
+    };
+    Some((ran, heap.has_refused()))
+}
+
+#[test]
+fn a_refused_growth_leaves_no_text(rt: HostRuntime) {
+    let mut refusals = 0u64;
+    for granted in 0..200 {
+        match run_with(&rt, granted, &[2, 0]) {
+            None => {}
+            Some((Ok(is_right), _)) => assert!(rt; is_right, "{granted}"),
+            Some((Err(error), has_refused)) => {
+                assert_eq!(rt; error, RunError::NoMemory, "{granted}");
+                assert!(rt; has_refused, "{granted}");
+                refusals = refusals.wrapping_add(1);
+            }
+        }
+    }
+    assert!(rt; refusals >= GROWTHS, "{refusals}");
+    assert_eq!(rt; run_with(&rt, 200, &[]), Some((Ok(true), false)));
+}

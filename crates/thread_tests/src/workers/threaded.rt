@@ -1,0 +1,135 @@
+//! Runs of cases on threads: their texts, worked out by hand, whatever the workers, the filter and the gate are.
+
+use crate::workers::cases::{
+    EXEC, EXEC_TEXT, FORK, FORK_TEXT, MEMORY, MEMORY_TEXT, THREAD, THREAD_TEXT, all,
+};
+use std::sync::Wait;
+use std::test::Fail;
+use std::thread;
+use std::thread::Threads;
+use std::time::Clock;
+use trace_options::CallSet;
+use trace_script::Case;
+use tracer_workers::{Config, Gate, run_case};
+
+/// A process that a signal kills.
+const DEADLY: &str = "tracee 200 200 200 0\nsignal 15 deadly\nexit 0\nend\n";
+
+const DEADLY_TEXT: &str = "200 --- SIGTERM ---\n200 +++ killed by SIGTERM +++\n";
+
+/// A process that handles a signal.
+const HANDLED: &str = "tracee 200 200 200 0\nsignal 15\nexit 0\nend\n";
+
+/// A gate that returns at once.
+pub(crate) struct Open;
+
+impl Gate for Open {
+    fn between(&self, _worker: u32, _tid: u32, _number: u32) {}
+}
+
+/// A gate that holds each call of one worker for some turns of the others.
+struct Slow {
+    worker: u32,
+}
+
+impl Gate for Slow {
+    fn between(&self, worker: u32, _tid: u32, _number: u32) {
+        if worker == self.worker {
+            for _ in 0..50 {
+                thread::yield_now();
+            }
+        }
+    }
+}
+
+/// How many workers run each case.
+const WORKERS: [u32; 3] = [1, 2, 16];
+
+/// Whether a case prints a text on threads, with and without a filter, by one worker, by two, and by 16.
+fn prints<R: Threads + Wait + Clock + AllocGlobal + Sync, G: Gate + Sync>(
+    rt: &R,
+    file: &str,
+    config: &Config,
+    gate: &G,
+    text: &str,
+) -> Result<bool, Fail> {
+    let case = Case::read(rt.alloc(), file.as_bytes())?;
+    for seccomp in [false, true] {
+        for workers in WORKERS {
+            let config = Config {
+                seccomp,
+                workers,
+                ..*config
+            };
+            let printed = run_case(rt, rt.alloc(), &case, &config, gate)?;
+            if printed.as_bytes() != text.as_bytes() {
+                return Ok(false);
+            }
+        }
+    }
+    Ok(true)
+}
+
+#[test]
+fn threads_print_the_worked_case(rt: HostRuntime) -> Result<(), Fail> {
+    assert!(rt; prints(&rt, "", &all(), &Open, "")?);
+    assert!(rt; prints(&rt, FORK, &all(), &Open, FORK_TEXT)?);
+    let alone =
+        "100 write(1, \"hi\\n\", 3) = 3\n100 fork() = 101\n100 exit(3) = ?\n100 +++ exited with 3 +++\n";
+    let config = Config {
+        follow: false,
+        ..all()
+    };
+    assert!(rt; prints(&rt, FORK, &config, &Open, alone)?);
+    let short = "100 write(1, \"hi\"..., 3) = 3\n100 fork() = 101\n100 exit(3) = ?\n\
+                 100 +++ exited with 3 +++\n101 exit(0) = ?\n101 +++ exited with 0 +++\n";
+    let config = Config { limit: 2, ..all() };
+    assert!(rt; prints(&rt, FORK, &config, &Open, short)?);
+    Ok(())
+}
+
+#[test]
+fn threads_print_the_calls_that_are_shown(rt: HostRuntime) -> Result<(), Fail> {
+    let mut shown = CallSet::none();
+    // The number of write(2).
+    shown.add(1);
+    let config = Config { shown, ..all() };
+    // Of these only FORK calls write(2). Signals and deaths are shown always.
+    let cases = [
+        (
+            FORK,
+            "100 write(1, \"hi\\n\", 3) = 3\n100 +++ exited with 3 +++\n101 +++ exited with 0 +++\n",
+        ),
+        (
+            THREAD,
+            "100 +++ exited with 3 +++\n101 +++ exited with 0 +++\n",
+        ),
+        (DEADLY, DEADLY_TEXT),
+        (HANDLED, "200 --- SIGTERM ---\n200 +++ exited with 0 +++\n"),
+        (MEMORY, "300 +++ exited with 0 +++\n"),
+        (EXEC, "400 +++ exited with 0 +++\n"),
+    ];
+    for (file, text) in cases {
+        assert!(rt; prints(&rt, file, &config, &Open, text)?);
+        assert!(rt; prints(&rt, file, &config, &Slow { worker: 1 }, text)?);
+    }
+    Ok(())
+}
+
+#[test]
+fn threads_print_each_kind_of_case(rt: HostRuntime) -> Result<(), Fail> {
+    let handled = "200 --- SIGTERM ---\n200 exit(0) = ?\n200 +++ exited with 0 +++\n";
+    let cases = [
+        (FORK, FORK_TEXT),
+        (THREAD, THREAD_TEXT),
+        (DEADLY, DEADLY_TEXT),
+        (HANDLED, handled),
+        (MEMORY, MEMORY_TEXT),
+        (EXEC, EXEC_TEXT),
+    ];
+    for (file, text) in cases {
+        assert!(rt; prints(&rt, file, &all(), &Open, text)?);
+        assert!(rt; prints(&rt, file, &all(), &Slow { worker: 1 }, text)?);
+    }
+    Ok(())
+}

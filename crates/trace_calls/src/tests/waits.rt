@@ -1,7 +1,0 @@
-//! Waits and calls by pid over the cells that threads share.
-
-mod answers;
-mod by_pid;
-pub(crate) mod caller;
-mod small_tracer;
-mod threads;

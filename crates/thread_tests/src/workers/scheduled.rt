@@ -210,7 +210,11 @@ fn run_with(
     let Ok(case) = Case::read(&heap, FORK.as_bytes()) else {
         return None;
     };
-    let ran = match run_scheduled(&heap, &case, &all(), schedule) {
+    let config = Config {
+        workers: 2,
+        ..all()
+    };
+    let ran = match run_scheduled(&heap, &case, &config, schedule) {
         Ok(text) => Ok(text.as_bytes() == FORK_TEXT.as_bytes()),
         Err(error) => Err(error),
     };

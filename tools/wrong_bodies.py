@@ -31,6 +31,8 @@ from body_report import Verdict
 TRIED = "tools/wrong_bodies.tried"
 RT = os.environ.get("RT", "rt")
 PARTS = ("src", "specs", "proofs")
+# This many crates are proved in turn; of more, every crate of the repository side by side.
+FEW = 3
 printing = threading.Lock()
 
 
@@ -174,9 +176,11 @@ def groups_of(crate):
 
 
 def try_all(crates, lanes):
-    """The verdicts on all edits of these crates, by edit; checks of different crates run side by side, the longest first."""
-    told, left = {}, []
+    """The verdicts on all edits of these crates, by edit; checks of different crates run side by side, the longest first.
+    The digest of a crate is written as soon as none of its edits is left."""
+    told, left, digests = {}, [], {}
     for crate in crates:
+        digests[crate.name] = crate.digest()
         groups, bad = groups_of(crate)
         told.update(bad)
         left += [(crate, it) for it in groups]
@@ -191,20 +195,23 @@ def try_all(crates, lanes):
                 found, again = it.result()
                 told.update(found)
                 running.update({pool.submit(try_some, crate, group): (crate, group) for group in again})
+                if not any(other is crate for other, _ in running.values()):
+                    keep_digest(crate, told, digests[crate.name])
     return told
 
 
 def is_proved(root, crates, lanes):
     """Whether the crates are proved as they are; what this check keeps is what the wrong bodies are tried over."""
-    if len(crates) == 1:
-        words, folder = [RT, "check"], crates[0].folder
-    else:
-        words, folder = [RT, "all", "check", "--jobs", str(lanes)], root
-    say(f"proving {crates[0].name if len(crates) == 1 else 'the crates'} as written, over what earlier checks kept")
-    ran = subprocess.run(words, cwd=folder, stdin=subprocess.DEVNULL, stdout=subprocess.PIPE, stderr=subprocess.STDOUT, errors="replace")
-    if ran.returncode:
-        print(ran.stdout[-3000:])
-    return ran.returncode == 0
+    checks = [([RT, "check"], it.folder) for it in crates]
+    if len(crates) > FEW:
+        checks = [([RT, "all", "check", "--jobs", str(lanes)], root)]
+    for words, folder in checks:
+        say(f"proving {folder.name if folder != root else 'every crate'} as written, over what earlier checks kept")
+        ran = subprocess.run(words, cwd=folder, stdin=subprocess.DEVNULL, stdout=subprocess.PIPE, stderr=subprocess.STDOUT, errors="replace")
+        if ran.returncode:
+            print(ran.stdout[-3000:])
+            return False
+    return True
 
 
 def tried_before(root):
@@ -213,17 +220,16 @@ def tried_before(root):
     return dict(row.split() for row in file.read_text().split("\n") if row) if file.is_file() else {}
 
 
-def keep_digests(root, crates, told, digests):
-    """Writes the digest of each crate whose edits were all refused, and takes away those of crates where one was not."""
-    kept = tried_before(root)
-    for crate in crates:
-        well = not crate.bad and all(told[it][0] is Verdict.REFUSED for it in crate.edits)
-        if well and crate.digest() == digests[crate.name]:
-            kept[crate.name] = digests[crate.name]
-        else:
-            kept.pop(crate.name, None)
-    (root / TRIED).parent.mkdir(exist_ok=True)
-    (root / TRIED).write_text("".join(f"{name} {digest}\n" for name, digest in sorted(kept.items())))
+def keep_digest(crate, told, digest):
+    """Writes the digest of a crate whose edits were all refused on what is still there, and else takes the crate's line away."""
+    kept = tried_before(crate.root)
+    well = not crate.bad and all(told[it][0] is Verdict.REFUSED for it in crate.edits)
+    kept.pop(crate.name, None)
+    if well and crate.digest() == digest:
+        kept[crate.name] = digest
+    file = crate.root / TRIED
+    file.parent.mkdir(exist_ok=True)
+    file.write_text("".join(f"{name} {digest}\n" for name, digest in sorted(kept.items())))
 
 
 def words_of(arguments):
@@ -264,7 +270,6 @@ def main(arguments):
     if words.list:
         list_groups(crates)
         return 0
-    digests = {it.name: it.digest() for it in crates}
     if crates and not is_proved(words.root, crates, words.jobs):
         say("a crate is not proved as it is, so no wrong body was tried")
         print("0 passed, 1 failed")
@@ -273,7 +278,6 @@ def main(arguments):
     for crate in crates:
         for name, why in crate.bad.items():
             say(f"{crate.name}/{name}: BAD EDIT: {why}")
-    keep_digests(words.root, crates, told, digests)
     failed = [str(it) for it, (verdict, _) in told.items() if verdict is not Verdict.REFUSED]
     failed += [f"{crate.name}/{name}" for crate in crates for name in crate.bad]
     if failed:

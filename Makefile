@@ -10,11 +10,11 @@ PREFIX ?= /usr/local
 OUT = bench/out
 COMMA = ,
 
-.PHONY: all kit demo examples man-page refused-code check wrong-bodies wrong-bodies-changed wrong-bodies-test test bench bench-case bench-cells bench-pages bench-fold bench-run bench-threads \
-	tools install clean
+.PHONY: all kit demo examples man-page refused-code check wrong-bodies wrong-bodies-changed wrong-bodies-test test \
+	bench bench-case bench-cells bench-pages bench-fold bench-run bench-threads tools install clean
 
 all: kit
-	@echo "make: proving the program and what it stands on, over what earlier runs kept (the first time: three quarters of an hour)"
+	@echo "make: proving the program and what it stands on, over what earlier runs kept (the first time: 45 minutes)"
 	@cd crates/tracer && $(RT) run -- --help > /dev/null
 	@mkdir -p bin && cp crates/tracer/out/tracer bin/tracer
 	@echo "make: bin/tracer is built"
@@ -32,7 +32,8 @@ demo: kit
 
 # PROGRAM=FILE runs a program that is built already, as bin/tracer: some seconds.
 examples: kit
-	@echo "examples: running $(or $(PROGRAM),the program$(COMMA) without its proofs,) on examples/ and the cases of tests/cases/ (six minutes; with PROGRAM=bin/tracer seconds)"
+	@echo "examples: running $(or $(PROGRAM),the program without its proofs) on examples/ and tests/cases/"
+	@echo "examples: (six minutes; with PROGRAM=bin/tracer seconds)"
 	@echo "examples/run/fork.case:"; cat examples/run/fork.case; echo "prints:"; cat examples/run/fork.case.stdout
 	@$(PYTHON) tools/cases.py --self-test
 	@RT="$(RT)" $(PYTHON) tools/cases.py check $(if $(PROGRAM),--program $(PROGRAM))
@@ -59,7 +60,8 @@ define part
 endef
 
 check: kit
-	$(call part,proving every crate from nothing$(COMMA) then must-fail edits$(COMMA) tests and programs (docs/STATUS.md has the time))
+	@echo "check: docs/STATUS.md has the time"
+	$(call part,proofs from nothing$(COMMA) must-fail edits$(COMMA) tests and programs)
 	@RT_JOBS=$${RT_JOBS:-$(CHECKS)} $(RT) ci
 	$(call part,wrong bodies)
 	@$(MAKE) --no-print-directory wrong-bodies-test
@@ -72,7 +74,7 @@ check: kit
 
 # The edits of wrong-bodies/; those of must-fail/ are tried by rt ci. CRATE=NAME tries those of one crate.
 wrong-bodies: kit
-	@echo "wrong-bodies: trying the edits of crates/$(or $(CRATE),*)/wrong-bodies, many in one check (docs/STATUS.md has the time)"
+	@echo "wrong-bodies: trying crates/$(or $(CRATE),*)/wrong-bodies, many in one check (docs/STATUS.md has the time)"
 	@RT=$(RT) $(PYTHON) tools/wrong_bodies.py --jobs $(CHECKS) $(CRATE)
 
 wrong-bodies-changed: kit

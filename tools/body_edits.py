@@ -1,7 +1,7 @@
 """Edits that make a body wrong: how they are read, applied, and put into groups that one check can try.
 
-An edit is a file of lines. `file: PATH` names a file of the crate; each pair `old: TEXT`, `new: TEXT` replaces a text that
-stands there exactly once. Later pairs apply to what the earlier ones made.
+An edit is a file of lines. `file: PATH` names a file of the crate; each pair `old: TEXT`, `new: TEXT` replaces a text
+that stands there exactly once. Later pairs apply to what the earlier ones made.
 """
 
 import dataclasses
@@ -85,7 +85,7 @@ def applied(edit, texts):
 
 
 def functions_of(edit, texts):
-    """The functions whose bodies the edit changes, or None where it changes something else, as a constant, a type or a clause."""
+    """The functions whose bodies the edit changes, or None where it changes something else, as a constant."""
     texts, found = dict(texts), set()
     for file, old, new in edit.pairs:
         at = texts[file].index(old)
@@ -98,9 +98,9 @@ def functions_of(edit, texts):
 
 
 def grouped(edits, texts):
-    """Groups of edits for one check each. In a group no edited function is another edit's, nor calls one, directly or through
-    others; so each one's proof rests on its own body, and on contracts that no edit changes. What changes more than bodies
-    stands alone."""
+    """Groups of edits for one check each. In a group no edited function is another edit's, nor calls one, directly or
+    through others; so each one's proof rests on its own body, and on contracts that no edit changes. What changes more
+    than bodies stands alone."""
     changed = {it: functions_of(it, texts) for it in edits}
     reach = rattle_source.reached(texts)
     calls = {it: frozenset().union(*(reach.get(f, set()) for f in fs)) for it, fs in changed.items() if fs}
@@ -109,7 +109,8 @@ def grouped(edits, texts):
     groups = []
     for edit in inside:
         for group in groups:
-            if len(group) < MOST_IN_A_GROUP and not any(meet(edit, other) for other in group) and fits(edit, group, texts):
+            apart = len(group) < MOST_IN_A_GROUP and not any(meet(edit, other) for other in group)
+            if apart and fits(edit, group, texts):
                 group.append(edit)
                 break
         else:

@@ -1,7 +1,7 @@
 """What the report of a check says of wrong bodies.
 
-Of each function the report has a line `fn PATH: proved`, or one that says why it is not. What fails is told before it, by
-its place: in the function's own lines, or in a file of its own proof.
+Of each function the report has a line `fn PATH: proved`, or one that says why it is not. What fails is told before it,
+by its place: in the function's own lines, or in a file of its own proof.
 """
 
 import enum
@@ -38,8 +38,8 @@ def is_of_the_prover(report):
 
 def blamed(report, texts):
     """The functions in which the text could not be read."""
-    found = (rattle_source.function_on(texts[file], file, int(line)) for file, line, _ in ERROR.findall(report) if file in texts)
-    return {it for it in found if it}
+    lines = [(file, int(line)) for file, line, _ in ERROR.findall(report) if file in texts]
+    return {rattle_source.function_on(texts[file], file, line) for file, line in lines} - {None}
 
 
 def why_refused(functions, report, texts):
@@ -52,7 +52,8 @@ def why_refused(functions, report, texts):
         if NOT_FOUND.search(told):
             return told
         for file, line, said in GOAL.findall(report):
-            if "not proved" in said and file in texts and rattle_source.function_on(texts[file], file, int(line)) in mine:
+            is_goal = "not proved" in said and file in texts
+            if is_goal and rattle_source.function_on(texts[file], file, int(line)) in mine:
                 return f"{file}:{line}: {said}"
         for folder, said in PROOF.findall(report):
             named = "::".join(it.lstrip("+") for it in folder.split("/"))
@@ -62,7 +63,7 @@ def why_refused(functions, report, texts):
 
 
 def alone(status, report, changed):
-    """The verdict on an edit that was tried alone, with the files that it changes, and why: as `rt must-fail` counts it."""
+    """The verdict on an edit of these files that was tried alone, and why: as `rt must-fail` counts it."""
     for line in report.split("\n"):
         at = re.match(r"(?:\./)?(\S+?):\d+:\d+: error: (?:(`[^`]*`): )?(.*)", line)
         if at and (at[1] in changed or at[1].startswith(("src/", "specs/"))):

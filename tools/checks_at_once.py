@@ -1,4 +1,4 @@
-"""Prints how many checks of a crate may run side by side here: one a processor, and one for each 3 GB of free memory."""
+"""Prints how many checks may run side by side here: one a processor, and one for each 3 GB of free memory."""
 
 import os
 import pathlib

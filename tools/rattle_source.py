@@ -1,7 +1,7 @@
 """The functions of a Rattle source file: where each body is, and what it calls.
 
-It reads just enough of the language to know which function an edit changes, and which functions may call which. Comments,
-strings and characters are blanked first, so that no brace or word in them counts.
+It reads just enough of the language to know which function an edit changes, and which functions may call which.
+Comments, strings and characters are blanked first, so that no brace or word in them counts.
 """
 
 import dataclasses
@@ -19,7 +19,7 @@ WORD = re.compile(r"(\.\s*|\w+\s*(?:::\s*<[^<>]*>\s*)?::\s*)?\b([a-z_]\w*)\b(?!\
 
 @dataclasses.dataclass(frozen=True)
 class Function:
-    """A function with a body. `owner` is the type whose impl it stands in, `of_trait` the trait of that impl, if any."""
+    """A function with a body. `owner` is the type in whose impl it is, `of_trait` the trait of that impl, if any."""
 
     file: str
     owner: str
@@ -31,8 +31,8 @@ class Function:
         return [it for it in parts if it not in ("lib", "main")]
 
     def is_named(self, path):
-        """Whether a report means this function by the path, which begins after the crate's name. It names a method by the module
-        of its type, whichever file has the impl, and a closure by `fn::`, its function, and what it is passed to."""
+        """Whether a report means this function by the path, which begins after the crate's name. It names a method by
+        the module of its type, whichever file has the impl, and a closure by `fn::` and its function."""
         whole, is_closure, inner = f"::{path}".partition("::fn::")
         parts, modules = path.split("::"), self.modules()
         if is_closure:
@@ -74,7 +74,7 @@ def closing(code, at):
 
 
 def body_of(code, at):
-    """The characters of the body of a function whose name ends at `at`, or None where it has none: clauses come before it."""
+    """The characters of the body of a function whose name ends at `at`, after its clauses; None where it has none."""
     depth, last = 0, at
     while at < len(code):
         it = code[at]
@@ -103,7 +103,7 @@ def without_generics(text):
 
 
 def owner_of(kind, header):
-    """The type and the trait that the head of an impl or a trait names; a trait with what it is of, as `FromAllocError`."""
+    """The type and the trait that the head of an impl or a trait names; a trait with its types, as `FromAllocError`."""
     head = re.sub(r"^\s*<(?:[^<>]|<[^<>]*>)*>", "", re.split(r"\bwhere\b", header)[0])
     last = lambda it: (re.findall(r"\w+", without_generics(it).replace("dyn ", "")) or [""])[-1]
     if kind == "trait":
@@ -116,7 +116,7 @@ def owner_of(kind, header):
 
 
 def first_line(text, at):
-    """The first line of the function whose name is at this place: with its attributes and its comment, where reports begin it."""
+    """The first line of a function whose name is here: that of its comment and attributes, where reports begin it."""
     before = text[:at].split("\n")
     first = len(before)
     while first > 1 and before[first - 2].strip().startswith(("#[", "///")):

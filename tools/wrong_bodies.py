@@ -1,11 +1,11 @@
 #!/usr/bin/env python3
 """Tries the wrong bodies of crates/NAME/wrong-bodies/, many in one check: the prover must refuse each.
 
-A function's proof rests on its own body and on the contracts of what it calls, never on their bodies. So wrong bodies of
-functions of which none calls another are tried in one check of a copy of the crate, over the work that earlier checks
-kept. An edit counts as refused there only where the report names a goal of its own function that fails. Any other edit is
-tried alone, and counts as `rt must-fail` would count it. The last line is `N passed, M failed`, and the status is 1 where
-an edit failed.
+A function's proof rests on its own body and on the contracts of what it calls, never on their bodies. So wrong bodies
+of functions of which none calls another are tried in one check of a copy of the crate, over the work that earlier
+checks kept. An edit counts as refused there only where the report names a goal of its own function that fails. Any
+other edit is tried alone, and counts as `rt must-fail` would count it. The last line is `N passed, M failed`, and the
+status is 1 where an edit failed.
 
 tools/wrong_bodies.tried has a line for each crate whose edits were all refused: a digest of the crate's sources,
 definitions, proofs and edits, and of the sources and definitions below it.
@@ -28,6 +28,7 @@ import body_edits
 import body_report
 from body_report import Verdict
 
+TOP = pathlib.Path(__file__).resolve().parent.parent
 TRIED = "tools/wrong_bodies.tried"
 RT = os.environ.get("RT", "rt")
 PARTS = ("src", "specs", "proofs")
@@ -43,7 +44,7 @@ def say(text):
 
 @dataclasses.dataclass
 class Crate:
-    """A crate of the repository, with its line of crates.txt and its libraries that the repository has, lowest first."""
+    """A crate of the repository, with its line of crates.txt and the crates that it stands on, lowest first."""
 
     name: str
     root: pathlib.Path
@@ -108,6 +109,12 @@ def copied(crate, room):
     return folder
 
 
+def ran_in(folder, words):
+    """What a command answers that is run in this folder: its status, and what it wrote on both streams."""
+    how = {"stdin": subprocess.DEVNULL, "stdout": subprocess.PIPE, "stderr": subprocess.STDOUT, "errors": "replace"}
+    return subprocess.run(words, cwd=folder, **how)
+
+
 def checked(crate, texts):
     """The status and the report of a check of a copy of the crate with these texts."""
     with tempfile.TemporaryDirectory(prefix="wrong-bodies-") as room:
@@ -115,8 +122,7 @@ def checked(crate, texts):
         for file, text in texts.items():
             if text != crate.texts[file]:
                 (folder / file).write_text(text, encoding="utf-8")
-        how = {"stdin": subprocess.DEVNULL, "stdout": subprocess.PIPE, "stderr": subprocess.STDOUT, "errors": "replace"}
-        ran = subprocess.run([RT, "check", "--jobs", "1"], cwd=folder, **how)
+        ran = ran_in(folder, [RT, "check", "--jobs", "1"])
         if os.environ.get("WRONG_BODIES_REPORTS"):
             name = f"{crate.name}_{time.monotonic_ns()}.txt"
             pathlib.Path(os.environ["WRONG_BODIES_REPORTS"], name).write_text(ran.stdout)
@@ -133,7 +139,7 @@ def try_alone(crate, edit):
 
 
 def try_group(crate, group):
-    """The verdicts on edits of one check, and why; and those edits that this check tells nothing of, to be tried again."""
+    """The verdicts on edits of one check, and why; and those that it tells nothing of, in groups to be tried again."""
     texts = body_edits.all_applied(group, crate.texts)
     functions = {it: body_edits.functions_of(it, crate.texts) for it in group}
     _, report = checked(crate, texts)
@@ -144,7 +150,8 @@ def try_group(crate, group):
             return {}, [[it] for it in group]
         return {}, [*([it] for it in group if it not in others), others]
     found = {it: body_report.why_refused(functions[it], report, texts) for it in group}
-    return {it: (Verdict.REFUSED, why) for it, why in found.items() if why}, [[it] for it, why in found.items() if not why]
+    again = [[it] for it, why in found.items() if not why]
+    return {it: (Verdict.REFUSED, why) for it, why in found.items() if why}, again
 
 
 def try_some(crate, group):
@@ -154,9 +161,9 @@ def try_some(crate, group):
         told, again = {group[0]: try_alone(crate, group[0])}, []
     else:
         told, again = try_group(crate, group)
-    lines = [f"{crate.name}: {sum(it is Verdict.REFUSED for it, _ in told.values())} of {len(group)} refused"]
-    lines[0] += f" in a check of {time.monotonic() - began:.0f} s" + (f", {sum(map(len, again))} to be tried again" if again else "")
-    lines += [f"{edit}: {verdict.value}{': ' if why else ''}{why}" for edit, (verdict, why) in told.items() if verdict is not Verdict.REFUSED]
+    well = [edit for edit, (verdict, _) in told.items() if verdict is Verdict.REFUSED]
+    lines = [f"{crate.name}: {len(well)} of {len(group)} refused in a check of {time.monotonic() - began:.0f} s"]
+    lines += [f"{edit}: {told[edit][0].value}: {told[edit][1]}".removesuffix(": ") for edit in told if edit not in well]
     lines += [f"{it[0]} told nothing, and is tried alone" for it in again if len(it) == 1]
     say("\n".join(lines).replace("\n", "\nwrong-bodies: "))
     return told, again
@@ -176,8 +183,8 @@ def groups_of(crate):
 
 
 def try_all(crates, lanes):
-    """The verdicts on all edits of these crates, by edit; checks of different crates run side by side, the longest first.
-    The digest of a crate is written as soon as none of its edits is left."""
+    """The verdicts on all edits of these crates, by edit; checks run side by side, the longest first. The digest of a
+    crate is written as soon as none of its edits is left."""
     told, left, digests = {}, [], {}
     for crate in crates:
         digests[crate.name] = crate.digest()
@@ -207,7 +214,7 @@ def is_proved(root, crates, lanes):
         checks = [([RT, "all", "check", "--jobs", str(lanes)], root)]
     for words, folder in checks:
         say(f"proving {folder.name if folder != root else 'every crate'} as written, over what earlier checks kept")
-        ran = subprocess.run(words, cwd=folder, stdin=subprocess.DEVNULL, stdout=subprocess.PIPE, stderr=subprocess.STDOUT, errors="replace")
+        ran = ran_in(folder, words)
         if ran.returncode:
             print(ran.stdout[-3000:])
             return False
@@ -221,7 +228,7 @@ def tried_before(root):
 
 
 def keep_digest(crate, told, digest):
-    """Writes the digest of a crate whose edits were all refused on what is still there, and else takes the crate's line away."""
+    """Writes the digest of a crate whose edits were all refused on what is still there; else takes its line away."""
     kept = tried_before(crate.root)
     well = not crate.bad and all(told[it][0] is Verdict.REFUSED for it in crate.edits)
     kept.pop(crate.name, None)
@@ -235,10 +242,10 @@ def keep_digest(crate, told, digest):
 def words_of(arguments):
     said = argparse.ArgumentParser(description=__doc__, formatter_class=argparse.RawDescriptionHelpFormatter)
     said.add_argument("crates", metavar="CRATE", nargs="*", help="only these crates' edits")
-    said.add_argument("--changed", action="store_true", help="only crates that are not as when their edits were last tried")
+    said.add_argument("--changed", action="store_true", help="only crates that have changed since all were refused")
     said.add_argument("--list", action="store_true", help="print the groups, and try nothing")
     said.add_argument("--jobs", type=int, default=len(os.sched_getaffinity(0)), help="how many checks run side by side")
-    said.add_argument("--root", type=pathlib.Path, default=pathlib.Path(__file__).resolve().parent.parent, help=argparse.SUPPRESS)
+    said.add_argument("--root", type=pathlib.Path, default=TOP, help=argparse.SUPPRESS)
     return said.parse_args(arguments)
 
 

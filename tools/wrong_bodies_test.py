@@ -111,13 +111,15 @@ class WrongBodies(unittest.TestCase):
         texts = body_edits.sources(self.crate)
         report = (
             "note: src/lib.rt:7:1: it is not proved that what the function ensures holds when it returns (`returns`)\n"
-            "fn sample::first: no proof: expected answers in ./proofs/first/Answers.antt; `search` did not prove `returns`\n"
+            "fn sample::first: no proof: expected answers in ./proofs/first/Answers.antt; "
+            "`search` did not prove `returns`\n"
             "fn sample::third: no proof: it calls `sample::first`, which is not proved\n"
             "logic=not-proved\n"
         )
         self.assertTrue(body_report.why_refused({first}, report, texts))
         self.assertIsNone(body_report.why_refused({third}, report, texts))
-        lost = "./proofs/third/Answers.antt:3:4: error: `returns`: record `Lts` has no field `first`\nfn sample::third: not proved\n"
+        lost = "./proofs/third/Answers.antt:3:4: error: `returns`: record `Lts` has no field `first`\n"
+        lost += "fn sample::third: not proved\n"
         self.assertIsNone(body_report.why_refused({third}, lost, texts))
 
     def test_what_is_let_through_and_what_is_bad_is_named(self):
@@ -136,9 +138,9 @@ class WrongBodies(unittest.TestCase):
         (self.root / "tools" / "wrong_bodies.tried").write_text(f"sample {sample.digest()}\n")
         words = wrong_bodies.words_of(["--changed", "--root", str(self.root)])
         self.assertEqual(wrong_bodies.chosen(words), [])
-        for file, text in [("src/lib.rt", "// It calls."), ("wrong-bodies/gives_zero.edit", ""), ("proofs/Lib.antt", "mod New")]:
+        for file in ("src/lib.rt", "specs/Lib.antt", "proofs/Lib.antt", "wrong-bodies/gives_zero.edit"):
             before = (self.crate / file).read_text()
-            (self.crate / file).write_text(before + text + "\n")
+            (self.crate / file).write_text(before + "\n")
             self.assertEqual([it.name for it in wrong_bodies.chosen(words)], ["sample"], file)
             (self.crate / file).write_text(before)
         self.assertEqual(wrong_bodies.chosen(words), [])

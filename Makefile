@@ -82,7 +82,7 @@ wrong-bodies-changed: kit
 	@RT=$(RT) $(PYTHON) tools/wrong_bodies.py --jobs $(CHECKS) --changed
 
 wrong-bodies-test: kit
-	@echo "wrong-bodies: trying the tool on a crate of four functions (half a minute)"
+	@echo "wrong-bodies: trying the tool on a crate of four functions (a minute)"
 	@RT=$(RT) $(PYTHON) tools/wrong_bodies_test.py
 
 test: kit

@@ -1,4 +1,4 @@
-"""Tries wrong_bodies.py on a crate of four functions, with edits of which some must not pass (half a minute).
+"""Tries wrong_bodies.py on a crate of four functions, with edits of which some must not pass (a minute).
 
     wrong_bodies_test.py      uses the command that RT names, or rt
 """

@@ -1,5 +1,5 @@
 //! Tests of memory at its greatest size, of a piece's growths, of case files and machines, and of the program. They are
-//! in one crate at the top, because tests cost a crate a second proof, for which its must-fail edits wait.
+//! in one crate at the top, because a crate with tests is proved twice.
 #![tactic(auto)]
 
 #[cfg(test)]

@@ -199,7 +199,7 @@ fn schedules_by_chance_print_the_same(rt: HostRuntime) -> Result<(), Fail> {
 /// At least so many growths: the copies of the roster, the words, the folder's rows, the rows, and each row's image.
 const GROWTHS: u64 = 8;
 
-/// A run of the worked case with so many growths: whether it prints its text, and whether a growth was refused. None
+/// A run of the worked case with this many growths: whether it prints its text, and whether a growth was refused. None
 /// where the case cannot be read.
 fn run_with(
     rt: &HostRuntime,

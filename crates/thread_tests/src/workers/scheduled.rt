@@ -196,7 +196,7 @@ fn schedules_by_chance_print_the_same(rt: HostRuntime) -> Result<(), Fail> {
     Ok(())
 }
 
-/// At least so many growths: the copies of the roster, the words, the folder's rows, the rows, and each row's image.
+/// At least this many growths: the copies of the roster, the words, the folder's rows, the rows, and each row's image.
 const GROWTHS: u64 = 8;
 
 /// A run of the worked case with this many growths: whether it prints its text, and whether a growth was refused. None

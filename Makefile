@@ -27,7 +27,7 @@ kit:
 		echo "make: proved with a kit of $(KIT), but $(RT) is $$($(RT) --version): a proof may fail";; esac
 
 demo: kit
-	@echo "demo: running the program on five files of examples/, without the proofs (a minute and a half)"
+	@echo "demo: running the program on five files of examples/, without the proofs (a minute)"
 	@RT="$(RT)" $(PYTHON) tools/cases.py demo replay/first replay/refused run/fork.case run/signal.case run/shown.case
 
 # PROGRAM=FILE runs a program that is built already, as bin/tracer: some seconds.
@@ -39,7 +39,7 @@ examples: kit
 	@RT="$(RT)" $(PYTHON) tools/cases.py check $(if $(PROGRAM),--program $(PROGRAM))
 
 man-page: kit
-	@echo "man-page: comparing man/tracer.1 with the program's help, and running its examples (half a minute)"
+	@echo "man-page: comparing man/tracer.1 with the program's help, and running its examples (two minutes)"
 	@rm -rf $(OUT)/man_page && $(PYTHON) tools/man_page.py inputs man/tracer.1 $(OUT)/man_page
 	@(cd crates/tracer && $(RT) try --cases ../../$(OUT)/man_page) > $(OUT)/man_page.txt 2>&1 \
 	  || { cat $(OUT)/man_page.txt; echo "man-page: FAILED: an example printed another text than the page says" >&2; exit 1; }
@@ -47,7 +47,7 @@ man-page: kit
 	@echo "man-page: the page has the options of the help, and its examples print what it says"
 
 refused-code:
-	@echo "refused-code: compiling programs that must not compile, and one that must (a minute)"
+	@echo "refused-code: compiling programs that must not compile, and one that must (a minute and a half)"
 	@RT=$(RT) tools/must_not_compile/check.sh $(OUT)/refused_code
 	@echo "refused-code: each was refused by the error that it names"
 

@@ -105,22 +105,20 @@ fill_added filled bytes all more start len all_is start_is len_is =
     ∙ take-append_seam bytes more
 
 -- the steps that are kept, with one more, whose bytes are added to theirs
-module _ {Z : Type 0} (filled bytes all : List ℕ) (old closed new : List (KeptStep Z)) (kept : KeptStep Z) (s : Step)
-    (all_is : all ≡ filled ++ bytes) (new_is : new ≡ closed ++ kept ∷ [])
-    (same : (filled : List ℕ) → steps_of filled closed ≡ steps_of filled old)
+module _ {Z : Type 0} (filled bytes all : List ℕ) (old new : List (KeptStep Z)) (kept : KeptStep Z) (s : Step)
+    (all_is : all ≡ filled ++ bytes) (new_is : new ≡ old ++ kept ∷ [])
     (whole : (more : List ℕ) → steps_of (filled ++ more) old ≡ steps_of filled old)
     (kept_is : (more : List ℕ) → step_of (all ++ more) kept ≡ s) where
-  before_it : (more : List ℕ) → steps_of (all ++ more) closed ≡ steps_of filled old
+  before_it : (more : List ℕ) → steps_of (all ++ more) old ≡ steps_of filled old
   before_it more =
-      same (all ++ more)
-      ∙ ap (λ b. steps_of (b ++ more) old) all_is
+      ap (λ b. steps_of (b ++ more) old) all_is
       ∙ ap (λ b. steps_of b old) (append_assoc filled bytes more)
       ∙ whole (bytes ++ more)
 
   with_more : (more : List ℕ) → steps_of (all ++ more) new ≡ steps_of filled old ++ s ∷ []
   with_more more =
       ap (λ steps. steps_of (all ++ more) steps) new_is
-      ∙ map-append (step_of (all ++ more)) closed (kept ∷ [])
+      ∙ map-append (step_of (all ++ more)) old (kept ∷ [])
       ∙ ap (λ steps. steps ++ step_of (all ++ more) kept ∷ []) (before_it more)
       ∙ ap (λ x. steps_of filled old ++ x ∷ []) (kept_is more)
 

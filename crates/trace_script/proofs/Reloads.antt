@@ -124,10 +124,3 @@ still_counted (Ok done) block new part counted takes same_bytes =
           ∙ sym now;
     }
 still_counted (Err cause) block new part counted takes same_bytes = tt
-
--- a script with the same bytes, and the same steps whatever the bytes are
-pub same_script : {Z : Type 0} (old new : KeptScript Z)
-    → ((filled : List ℕ) → script_by filled new ≡ script_by filled old) → new.filled.items ≡ old.filled.items
-    → script_of new ≡ script_of old
-same_script old new same same_bytes =
-    same new.filled.items ∙ ap (λ (b : List ℕ). script_by b old) same_bytes

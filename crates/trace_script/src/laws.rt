@@ -8,6 +8,7 @@ ghost use Rattle.trace_record.specs.declared.death.Death.{Death};
 ghost use Rattle.trace_record.specs.declared.resume.Resume.{Resume};
 ghost use Rattle.trace_record.specs.Content.{Content};
 ghost use Rattle.trace_pages.specs.FlatMemory.{SameAddresses};
+ghost use Rattle.trace_pages.specs.declared.pages.TheConstants.{MOST_PAGES, PAGE_SIZE};
 ghost use Rattle.trace_script.specs.Births.{AreGood, AreInRange, IsGoodOutcome, ReportsBirths, ReportsNoBirths};
 ghost use Rattle.trace_script.specs.Births.{born_by, children_reported};
 ghost use Rattle.trace_script.specs.CaseFacts.{IsCase, IsScript};
@@ -100,11 +101,13 @@ pub fn signals_are_known()
     ensures later { signal_name (LAST_STANDARD + 1) ≡ None }
 {}
 
-/// The limits of files and scripts, the flags of the clone that makes a thread (`<linux/sched.h>`, `CLONE_VM`,
-/// `CLONE_SIGHAND` and `CLONE_THREAD`), and how many words a line may begin with.
+/// The limits of files, scripts and images, the bytes of a page (getpagesize(2)), the flags of the clone that makes a
+/// thread (`<linux/sched.h>`, `CLONE_VM`, `CLONE_SIGHAND` and `CLONE_THREAD`), and how many words a line may begin with.
 pub fn numbers_are_fixed()
     ensures bytes { MOST_BYTES ≡ 2 ^ 24 }
     ensures steps { MOST_STEPS ≡ 2 ^ 16 }
+    ensures pages { MOST_PAGES ≡ 256 }
+    ensures page { PAGE_SIZE ≡ 4096 }
     ensures thread { CLONE_THREAD_FLAGS ≡ 0x100 + 0x800 + 0x10000 }
     ensures words { length KEYWORDS ≡ 11 }
 {}

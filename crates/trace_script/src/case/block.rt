@@ -5,12 +5,12 @@ ghost use Rattle.std.specs.Prelude.{option_to_list};
 ghost use Rattle.trace_script.specs.CaseFile.{children_of, fill_fault, late_of, next_step_fault, no_script};
 ghost use Rattle.trace_script.specs.CaseFile.{place_after, step_fault};
 ghost use Rattle.trace_script.specs.CaseFile as file;
-ghost use Rattle.trace_script.specs.Kept.{fill_in, image_of, script_by, script_of, step_of};
+ghost use Rattle.trace_script.specs.Kept.{fill_in, image_of, script_of, step_of};
 ghost use Rattle.trace_script.specs.OpenBlock.{IsCounted, IsSmallStep, exec_after, fill_bytes, filled_by};
 ghost use Rattle.trace_script.specs.RawLine.{IsTestedCall, IsTestedFill, IsTestedStep, call_said, fill_said, step_said};
 
 use crate::case::digits::DigitValues;
-use crate::case::image::{close_image, decode_onto, no_image};
+use crate::case::image::{decode_onto, no_image};
 use crate::case::keyword::Place;
 use crate::case::late::{Late, LateStep};
 use crate::case::raw_line::{RawCall, RawFill, RawStep};
@@ -114,11 +114,10 @@ fn fill_fault<A: Allocator>(image: &Image<A>, fill: Option<RawFill>) -> Option<C
     }
 }
 
-/// Adds a step that has no fault to a block. The image that the lines before it described is closed.
+/// Adds a step that has no fault to a block.
 pub fn add_step<A: Allocator + Copy>(
     alloc: A,
     digits: &DigitValues,
-    place: Place,
     block: &mut Block<A>,
     step: RawStep,
 ) -> Result<(), NoMemory>
@@ -133,23 +132,12 @@ pub fn add_step<A: Allocator + Copy>(
         }) }
     ensures counted { OnOk result (IsCounted block.new) }
 {
-    close_loaded(place, &mut block.script);
     let kept = keep_step(alloc, digits, &mut block.script.filled, step)?;
     let at = block.script.steps.len();
     block.script.steps.push(kept)?;
     block.exec = exec_after(block.exec, at, step);
     block.births += births_of(step);
     Ok(())
-}
-
-/// Closes the image that the lines before this place have described.
-pub fn close_loaded<A: Allocator>(place: Place, script: &mut Script<A>)
-    ensures script { (filled : List ℕ) → script_by filled script.new ≡ script_by filled script.old }
-    ensures filled { script.new.filled.items ≡ script.old.filled.items }
-{
-    if place == Place::Loading {
-        close_image(script);
-    }
 }
 
 /// The place of the last exec after a step at this place.

@@ -8,9 +8,7 @@ ghost use Rattle.trace_script.specs.OpenBlock.{IsCounted};
 ghost use Rattle.trace_script.specs.RawLine.{IsTested, IsTestedPart, IsTestedStep, line_said, part_said, step_said};
 ghost use Rattle.trace_script.specs.Reading.{TakesLine};
 
-use crate::case::block::{
-    Block, add_step, close_loaded, late_of, new_block, next_step_fault, place_after,
-};
+use crate::case::block::{Block, add_step, late_of, new_block, next_step_fault, place_after};
 use crate::case::digits::DigitValues;
 use crate::case::image::load_part;
 use crate::case::keyword::Place;
@@ -141,7 +139,7 @@ fn take_step<A: Allocator + Copy>(
     if push_late(&mut draft.late, late).is_err() {
         return Err(Cause::NoMemory);
     }
-    if add_step(alloc, &draft.digits, draft.place, &mut draft.block, step).is_err() {
+    if add_step(alloc, &draft.digits, &mut draft.block, step).is_err() {
         return Err(Cause::NoMemory);
     }
     draft.place = place_after(step);
@@ -163,7 +161,6 @@ fn close_block<A: Allocator + Copy>(alloc: A, draft: &mut Draft<A>) -> Result<()
     ensures line { TakesLine result (reading_of draft.new) (with_line 0 (reading_of draft.old) line.Closes) }
     ensures counted { OnOk result (IsCounted draft.new.block) }
 {
-    close_loaded(draft.place, &mut draft.block.script);
     let Block { script, .. } = mem::replace(&mut draft.block, new_block(alloc));
     if draft.scripts.push(script).is_err() {
         return Err(Cause::NoMemory);

@@ -161,25 +161,3 @@ fn put_bytes<A: Allocator + Copy>(
         Err(_) => unreachable!(),
     }
 }
-
-/// Gives back the room that the image described now has kept for further pages.
-pub fn close_image<A: Allocator>(script: &mut Script<A>)
-    ensures script { (filled : List ℕ) → script_by filled script.new ≡ script_by filled script.old }
-    ensures filled { script.new.filled.items ≡ script.old.filled.items }
-{
-    let count = script.steps.len();
-    if count == 0 {
-        script.image.memory.shrink_to_fit();
-    } else {
-        close_step(&mut script.steps[count - 1]);
-    }
-}
-
-fn close_step<A: Allocator>(step: &mut Step<A>)
-    ensures { (filled : List ℕ) → step_of filled step.new ≡ step_of filled step.old }
-{
-    match step {
-        Step::Exec { image, .. } => image.memory.shrink_to_fit(),
-        _ => (),
-    }
-}

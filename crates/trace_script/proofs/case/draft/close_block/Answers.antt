@@ -6,7 +6,6 @@ use Rattle.trace_script.specs.CaseFile.{Reading, no_script}
 use Rattle.trace_script.specs.Draft.{reading_of}
 use Rattle.trace_script.specs.Kept.{script_of}
 use Rattle.trace_script.specs.Script.{Script}
-use Rattle.trace_script.proofs.Reloads.{same_script}
 use Rattle.trace_script.proofs.case.draft.close_block.Goals as goal
 
 pub returns-clause-line : goal.returns-clause-line
@@ -16,9 +15,7 @@ returns-clause-line g c =
     record { place = Outside; rows = old.rows; scripts = scripts; script = script; late = old.late } in
     let closed = c.replace-script.result.script in
     let same : script_of closed ≡ old.script =
-    ap (λ b. script_of b.script) c.replace-script.ensures.value
-    ∙ same_script c.args.draft.now.block.script c.close_loaded.new.script c.close_loaded.ensures.script
-    c.close_loaded.ensures.filled in
+    ap (λ b. script_of b.script) c.replace-script.ensures.value in
     let pushed = rw c.if-is_err.ensures.negation at c.push.ensures.items in
     let all : map script_of c.push.new.self.items ≡ old.scripts ++ old.script ∷ [] =
     ap (map script_of) pushed ∙ map-append script_of c.args.draft.now.scripts.items (closed ∷ [])

@@ -27,14 +27,16 @@ use Rattle.stop_table.specs.declared.claim.Taken.{Taken}
 use Rattle.stop_table.specs.declared.claim.Taken.TheVariants as taken
 use Rattle.stop_table.specs.declared.shown.Shown.{Shown}
 use Rattle.stop_table.specs.declared.shown.Shown.TheVariants as shows
-use Rattle.stop_table.specs.Claiming.{IsTaken, IsTakenOrLost}
+use Rattle.stop_table.specs.Claiming.{GetsNothing, IsTaken, IsTakenOrLost}
 use Rattle.stop_table.specs.Entry.{AreLegal, Begins, Cell, Entry, IsCarried, bare, cell_after, content_after}
 use Rattle.stop_table.specs.Entry.{content_with, history_of, word_of}
-use Rattle.stop_table.specs.Handle.{AnswersAt, Claims, EndsWith, IsExitOf, IsHolding, IsLostSince, IsStepOf, Looked}
-use Rattle.stop_table.specs.Handle.{LooksAt, LosesAt, Reaps, SeenAt, is_claimable, shown_of}
+use Rattle.stop_table.specs.Handle.{Claims, EndsWith, IsExitOf, IsHolding, IsLostSince, IsStepOf, Looked}
+use Rattle.stop_table.specs.Handle.{LookedAtParent, LooksAt, LosesAt, LosesClaim, Reaps, SawUnborn, SeenAt}
+use Rattle.stop_table.specs.Handle.{is_claimable, shown_of}
 use Rattle.stop_table.specs.Seat.{MissedAt, ReapedAt, Saw, TookStop}
 use Rattle.stop_table.specs.Steps.{Seated, Sees}
 use Rattle.stop_table.specs.View.{View, actors_of, an_exchange, a_look}
+use Rattle.stop_table.proofs.Attempts.{no_exchange, no_exchange_seen}
 use Rattle.stop_table.proofs.Entries.{born_on, content_number, history_append, legal_append, own_cell, own_content}
 use Rattle.stop_table.proofs.Entries.{quiet_sooner, same_cell, shown_state}
 use Rattle.stop_table.proofs.Moves.{not_both}
@@ -63,10 +65,6 @@ looks_at_word u m n row w there first born s =
         shown = ap shown_of (state_seen m n row w (subst (λ rows. row < length rows) (sym same) there) s now);
       },
     )
-
-pub answers : (u w : View) (row : ℕ) (a : Shown) → LooksAt u w row a → AnswersAt u w row a
-answers u w row a l =
-    (l.0, record { point = l.1.point; sooner = l.1.sooner; later = l.1.later; step = inl l.1.step; shown = l.1.shown })
 
 -- ---- what a row's content and its last event are
 
@@ -450,7 +448,7 @@ lost_claim m n row seen w p a there born legal_m s other word phase_is waits aft
 
 -- what was lost after the look, the whole attempt lost
 loses_from : (u v w : View) (row : ℕ) (a : Shown) → Looked u v → IsStepOf u v (a_look row v.seen) → LosesAt v w row a
-    → AnswersAt u w row a
+    → LosesClaim u w row a
 loses_from u v w row a first look l =
     let same = first.grows.same.roster in (
       looked_on u v w first l.0,
@@ -458,7 +456,7 @@ loses_from u v w row a first look l =
         point = l.1.point;
         sooner = goes_from u v l.1.point first.grows.goes_on first.grows.same l.1.sooner;
         later = l.1.later;
-        step = inr (
+        step = (
           v.seen,
           step_on u v w (a_look row v.seen) look l.0.grows.steps,
           lost_since_from v.seen u v w row l.1.point same first.grows.steps l.1.step,
@@ -503,7 +501,7 @@ taken_from deaths u v w row (taken.Ended death number) first look is =
       ),
       is.1,
     )
-taken_from deaths u v w row (taken.Nothing a) first look is = (loses_from u v w row a first look is.0, is.1)
+taken_from deaths u v w row (taken.Nothing a) first look is = (inr (loses_from u v w row a first look is.0), is.1)
 
 -- ---- an attempt that finds nothing to claim
 
@@ -515,12 +513,29 @@ born_after u m n row w first s born =
     ap (λ rows. is_born rows (history_of n.0.seen) row) (look.grows.same.roster ∙ first.grows.same.roster)
     ∙ born_on u.roster (actors_of m.0) row m.0.seen n.0.seen look.grows.goes_on born
 
+-- the look at its parent's word showed it unborn
+pub not_born : (v w : View) (row : ℕ) → Looked v w → LookedAtParent v w row → SawUnborn v w row
+    → GetsNothing v w row shows.Unborn
+not_born v w row l parent unborn =
+    inl (l, no_exchange v w row parent row, inr unborn, ap shown_of (sym unborn.0))
+
+-- the look at its own word showed nothing to claim
 pub nothing_there : (u : View) (m n : Seated) (row : ℕ) (w : Word) (a : Shown) → row < length u.roster → Looked u m.0
-    → is_born u.roster (history_of m.0.seen) row ≡ true → Saw m n row w
-    → shown_of (shown true w.number w.phase) ≡ a → AnswersAt u n.0 row a
-nothing_there u m n row w a there first born s is =
-    subst (AnswersAt u n.0 row) is
-    (answers u n.0 row (shown_of (shown true w.number w.phase)) (looks_at_word u m n row w there first born s))
+    → LookedAtParent u m.0 row → is_born u.roster (history_of m.0.seen) row ≡ true → Saw m n row w
+    → shown_of (shown true w.number w.phase) ≡ a → GetsNothing u n.0 row a
+nothing_there u m n row w a there first parent born s is =
+    let same = first.grows.same.roster in
+    let now : is_born m.0.roster (history_of n.0.seen) row ≡ true =
+    ap (λ rows. is_born rows (history_of n.0.seen) row) same
+    ∙ born_on u.roster (actors_of m.0) row m.0.seen n.0.seen (one_look m n row w s).grows.goes_on born in
+    let state_is : shown true w.number w.phase ≡ state_after m.0.roster (history_of n.0.seen) row =
+    state_seen m n row w (subst (λ rows. row < length rows) (sym same) there) s now in
+    inl (
+      looked_on u m.0 n.0 first (one_look m n row w s),
+      no_exchange_seen u m n row w parent s row,
+      inl (last_look u m n row w first s),
+      sym is ∙ ap shown_of state_is ∙ ap (λ rows. shown_of (state_after rows (history_of n.0.seen) row)) same,
+    )
 
 -- what can be claimed of a row that has not ended is a stop
 pub claimable_stop : (deaths : Bool) (number : ℕ) (p : Phase) → is_claimable deaths (shown_of (shown true number p)) ≡ true

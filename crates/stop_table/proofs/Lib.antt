@@ -1,6 +1,7 @@
 -- Other crates cite the modules that are `pub`. The others prove what this crate ensures.
 mod Allowed
 pub mod Answering
+mod Attempts
 mod Births
 mod Dealing
 pub mod Entries

@@ -1,5 +1,6 @@
 -- What a call tells of a handle, from the view before it (v) to the view after it (w).
-use Rattle.std.specs.Prelude.{◌≡◌, ◌∷◌, ◌++◌, ◌⊎◌, [], ℕ, Bool, true, false, List, Some, filter}
+use Rattle.std.specs.Prelude.{◌≡◌, ◌==◌, ◌≤◌, ◌+◌, ◌∷◌, ◌++◌, ◌⊎◌, [], ℕ, Bool, true, false, List, Some, filter}
+use Rattle.std.specs.Prelude.{MatchOption, if◌then◌else◌}
 use Rattle.trace_record.specs.Content.{Content}
 use Rattle.trace_record.specs.Death.{IsDeath, death_status}
 use Rattle.trace_record.specs.Resume.{IsResume}
@@ -14,6 +15,7 @@ use Rattle.stop_history.specs.Actor.{actor_of}
 use Rattle.stop_history.specs.Change.{restart_in}
 use Rattle.stop_history.specs.Event as event
 use Rattle.stop_history.specs.Event.{History, events_of}
+use Rattle.stop_history.specs.History.{is_of_parent}
 use Rattle.stop_history.specs.Roster.{parent_of}
 use Rattle.stop_history.specs.State.{is_waitable, state_after}
 use Rattle.stop_history.specs.Word.{Word}
@@ -21,7 +23,7 @@ use Rattle.stop_table.specs.declared.shown.Shown.{Shown}
 use Rattle.stop_table.specs.declared.shown.Shown.TheVariants as shows
 use Rattle.std.specs.Prelude.{Ok}
 use Rattle.stop_table.specs.Entry.{AreLegal, Begins, Entry, GoesOn, bare, cell_after, content_after, history_of, word_of}
-use Rattle.stop_table.specs.View.{Observation, View, actors_of, an_exchange, a_look}
+use Rattle.stop_table.specs.View.{Observation, View, actors_of, an_exchange, a_look, exchanges_of, looks_at}
 
 -- the events of a handle's own actors
 abbrev pub own_events : View → List Entry
@@ -84,6 +86,12 @@ SawUnborn v w row =
     IsUnborn v.roster row w.seen
     × ((parent : ℕ) × IsStepOf v w (a_look parent w.seen) × (parent_of v.roster row ≡ Some parent))
 
+-- the call's only step was a look at the word of the row's parent; a row without a parent takes none
+abbrev pub LookedAtParent : View → View → ℕ → Type 0
+LookedAtParent v w row =
+    MatchOption (parent_of v.roster row) (w.observations ≡ v.observations)
+    (λ parent. w.observations ≡ a_look parent w.seen ∷ v.observations)
+
 -- What a look showed, a stop or a death, was lost to another: the row's next event was a claim, h is the history directly
 -- after it, and an exchange of this call came later. Up to its point a call makes no event (`SeenAt`), so the claim is
 -- another's.
@@ -127,13 +135,31 @@ pub record SeenAt (v w : View) (Step : List Entry → Type 0) (row : ℕ) (a : S
 abbrev pub LooksAt : View → View → ℕ → Shown → Type 0
 LooksAt v w row a = Looked v w × SeenAt v w (IsPoint v w row) row a
 
--- the call changed nothing, and showed what stood at one of its looks, or directly after the claim that it lost to
-abbrev pub AnswersAt : View → View → ℕ → Shown → Type 0
-AnswersAt v w row a = Looked v w × SeenAt v w (λ h. IsPoint v w row h ⊎ IsLost v w row h) row a
+-- the call made no exchange of the row's word, and showed what stood at its last look
+abbrev pub LooksLast : View → View → ℕ → Shown → Type 0
+LooksLast v w row a =
+    Looked v w × (exchanges_of row w.observations ≡ exchanges_of row v.observations) × IsPoint v w row w.seen
+    × (a ≡ shown_of (state_after v.roster (history_of w.seen) row))
+
+-- the call lost to another's claim what a look of it had shown, and showed what stood directly after that claim
+abbrev pub LosesClaim : View → View → ℕ → Shown → Type 0
+LosesClaim v w row a = Looked v w × SeenAt v w (IsLost v w row) row a
 
 -- the same of what a call does after its look at the row: it lost what the look showed
 abbrev pub LosesAt : View → View → ℕ → Shown → Type 0
 LosesAt v w row a = Looked v w × SeenAt v w (IsLostSince v.seen v w row) row a
+
+-- ---- how often a call looks
+
+-- how many looks at the word of `at` one attempt at a row takes: one if it is the row, one if it is the row's parent
+unfoldable pub looks_for : List Row → (row at : ℕ) → ℕ
+looks_for rows row at =
+    (if row == at then 1 else 0) + (if is_of_parent at (parent_of rows row) then 1 else 0)
+
+-- the call made one attempt at the row at most: it looked at no row's word more often than that takes
+abbrev pub TriesOnce : View → View → ℕ → Type 0
+TriesOnce v w row =
+    (at : ℕ) → looks_at at w.observations ≤ looks_at at v.observations + looks_for v.roster row at
 
 -- ---- claims
 

@@ -1,5 +1,5 @@
 -- What a handle knows of the cells: whom it acts for, the history up to its last step, and its steps.
-use Rattle.std.specs.Prelude.{◌==◌, ℕ, Bool, true, false, List, []}
+use Rattle.std.specs.Prelude.{◌==◌, ◌&&◌, ℕ, Bool, true, false, not, List, [], count_by}
 use Rattle.std.specs.List.{list_any}
 use Rattle.stop_history.specs.declared.actor.Actor.{Actor}
 use Rattle.stop_history.specs.declared.actor.Actor.TheVariants.{Tracee, Tracer}
@@ -17,6 +17,13 @@ a_look row h = record { row = row; is_look = true; seen = h }
 
 abbrev pub an_exchange : ℕ → List Entry → Observation
 an_exchange row h = record { row = row; is_look = false; seen = h }
+
+-- how many of these steps are looks at a row's word, and how many are exchanges of it
+unfoldable pub looks_at : ℕ → List Observation → ℕ
+looks_at row steps = count_by (λ o. o.is_look && o.row == row) steps
+
+unfoldable pub exchanges_of : ℕ → List Observation → ℕ
+exchanges_of row steps = count_by (λ o. not o.is_look && o.row == row) steps
 
 -- the actors for which a handle acted, and what it had seen, when it met another
 pub record Past : Type 0 where

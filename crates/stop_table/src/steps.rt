@@ -17,7 +17,7 @@ ghost use Rattle.stop_history.specs.State.{is_born};
 ghost use Rattle.stop_history.specs.Step.{published};
 ghost use Rattle.stop_table.specs.Entry.{AreLegal, cell_after, history_of, word_of};
 ghost use Rattle.stop_table.specs.Group.{IsGroupSettled};
-ghost use Rattle.stop_table.specs.Handle.{Looked, SawUnborn};
+ghost use Rattle.stop_table.specs.Handle.{Looked, LookedAtParent, SawUnborn};
 ghost use Rattle.stop_table.specs.Place.{place};
 ghost use Rattle.stop_table.specs.Seat.{HasEnded, HoldsAtHand, IsSameSeat, IsSeatOf, LetRun, Met, MissedAt, Published, ReapedAt};
 ghost use Rattle.stop_table.specs.Seat.{Saw, TookStop, TookUp};
@@ -81,6 +81,7 @@ impl<A: Allocator> Cells<A> {
         ensures born { MatchBool result
             (is_born seat.old.me.0.roster (history_of seat.new.me.0.seen) row ≡ true)
             (SawUnborn seat.old.me.0 seat.new.me.0 row) }
+        ensures steps { LookedAtParent seat.old.me.0 seat.new.me.0 row }
     {
         let rows = self.roster.rows();
         let Some(parent) = parent_place(rows, row) else {

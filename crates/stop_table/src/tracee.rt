@@ -1,6 +1,7 @@
 //! The handle of a tracee.
 
-ghost use Rattle.std.specs.Prelude.{◌≡◌, ◌≢◌, ◌∷◌, ◌+◌, ◌<◌, ◌≤◌, [], true, false, IfErr, IfNone, IfSome, OnOk, length};
+ghost use Rattle.std.specs.Prelude.{◌≡◌, ◌≢◌, ◌∷◌, ◌+◌, ◌<◌, ◌≤◌, [], true, false, IfErr, IfNone, IfSome, IsNone};
+ghost use Rattle.std.specs.Prelude.{OnOk, length};
 ghost use Rattle.std.specs.Arc.{arc_value};
 ghost use Rattle.trace_record.specs.Death.{IsDeath};
 ghost use Rattle.trace_record.specs.Stop.{IsStop};
@@ -113,16 +114,20 @@ impl<A: Allocator> Tracee<A> {
 
     /// Takes the row up, once it is born and is to run: how it runs on, and the record of its last stop, which is the
     /// caller's until the next `publish` or `exit`. A row that has not run yet has the restart `Cont` without a signal
-    /// and an empty record (ptrace(2), "Restarting").
+    /// and an empty record (ptrace(2), "Restarting"). `None` where the row does not run, and where the handle has it
+    /// taken up already, which then changes nothing.
     #[inline(always)]
     pub fn take_up(&mut self) -> Option<(Resume, StopRecord<A>)>
-        requires { self.old.view.taken ≡ false }
         ensures handle { (self.new.table_id ≡ self.old.table_id) × (self.new.row ≡ self.old.row) }
+        ensures held { self.old.view.taken ≡ true → IsNone result × (self.new ≡ self.old) }
         ensures some { IfSome result (λ r. TakesUp self.old.view self.new.view self.old.row r.0 r.1
             × (self.new.view.taken ≡ true)) }
-        ensures none { IfNone result ((a : _) × LooksAt self.old.view self.new.view self.old.row a
-            × (a ≢ shows.Running)) }
+        ensures none { self.old.view.taken ≡ false → IfNone result ((a : _)
+            × LooksAt self.old.view self.new.view self.old.row a × (a ≢ shows.Running)) }
     {
+        if self.holder.has_box() {
+            return None;
+        }
         let row = self.row as usize;
         let seen = self.cells.see_bits(&mut self.seat, row);
         let word = seen.word;

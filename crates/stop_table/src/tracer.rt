@@ -10,9 +10,10 @@ ghost use Rattle.stop_history.specs.Roster.{IsRoster};
 ghost use Rattle.stop_history.specs.State.{is_born};
 ghost use Rattle.stop_table.specs.Claiming.{IsTaken, IsTakenOrLost};
 ghost use Rattle.stop_table.specs.Entry.{bare, cell_after, history_of, word_of};
-ghost use Rattle.stop_table.specs.Handle.{EndsWith, IsHolding, LooksAt, Meets};
+ghost use Rattle.stop_table.specs.Handle.{EndsWith, IsHolding, LooksAt, Meets, TriesOnce};
 ghost use Rattle.stop_table.specs.Opening.{new_view};
 ghost use Rattle.stop_table.specs.Tracer.{IsTracerHandle, KeepsHandle, held_rows};
+ghost use Rattle.stop_table.specs.View.{an_exchange};
 
 use crate::cells::{Cells, Seat};
 use crate::claim::{Claim, Taken};
@@ -93,11 +94,13 @@ impl<A: Allocator> Tracer<A> {
         self.held.len() as u32
     }
 
-    /// The state of a row at a point of this call. It looks at the parent's word first, then at the row's.
+    /// The state of a row at a point of this call. It looks at the parent's word first, then at the row's, once each at
+    /// most.
     pub fn look(&mut self, row: u32) -> Shown
         requires { row < length self.old.view.roster }
         ensures handle { KeepsHandle self.old self.new }
         ensures shown { LooksAt self.old.view self.new.view row result }
+        ensures once { TriesOnce self.old.view self.new.view row }
     {
         let row = row as usize;
         if !self.cells.sees_born(&mut self.seat, row) {
@@ -107,12 +110,13 @@ impl<A: Allocator> Tracer<A> {
     }
 
     /// Claims a row's stop, or its death (waitid(2), `WSTOPPED`, `WEXITED`). A claim that another tracer wins answers
-    /// the state that the other left: `Claimed` with the number of the stop, or `Reaped`.
+    /// the state that the other left: `Claimed` with the number of the stop, or `Reaped`. It does not look again.
     #[inline(always)]
     pub fn claim(&mut self, row: u32) -> Taken<A>
         requires { row < length self.old.view.roster }
         ensures handle { KeepsHandle self.old self.new }
         ensures taken { IsTaken true self.old.view self.new.view row result }
+        ensures once { TriesOnce self.old.view self.new.view row }
     {
         self.try_row(row, true)
     }
@@ -123,6 +127,7 @@ impl<A: Allocator> Tracer<A> {
         requires { row < length self.old.view.roster }
         ensures handle { KeepsHandle self.old self.new }
         ensures taken { IsTaken false self.old.view self.new.view row result }
+        ensures once { TriesOnce self.old.view self.new.view row }
     {
         self.try_row(row, false)
     }
@@ -133,6 +138,7 @@ impl<A: Allocator> Tracer<A> {
         requires { row < length self.old.view.roster }
         ensures handle { KeepsHandle self.old self.new }
         ensures taken { IsTaken deaths self.old.view self.new.view row result }
+        ensures once { TriesOnce self.old.view self.new.view row }
     {
         let at = row as usize;
         if !self.cells.sees_born(&mut self.seat, at) {
@@ -159,6 +165,7 @@ impl<A: Allocator> Tracer<A> {
             × ((status : _) × (seen.phase ≡ Stopped status)) }
         ensures handle { KeepsHandle self.old self.new }
         ensures taken { IsTakenOrLost deaths self.old.view self.new.view row result }
+        ensures step { self.new.view.observations ≡ an_exchange row self.new.view.seen ∷ self.old.view.observations }
     {
         let word = seen.word;
         match self
@@ -188,6 +195,7 @@ impl<A: Allocator> Tracer<A> {
             × (seen.phase ≡ Dead status) }
         ensures handle { KeepsHandle self.old self.new }
         ensures taken { IsTakenOrLost true self.old.view self.new.view row result }
+        ensures step { self.new.view.observations ≡ an_exchange row self.new.view.seen ∷ self.old.view.observations }
     {
         let word = seen.word;
         if let Err(_) = self

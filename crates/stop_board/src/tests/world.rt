@@ -13,19 +13,19 @@ use std::alloc::{AllocError, Allocator};
 use std::test::Fail;
 use trace_record::{Death, Kind, Resume, Stop};
 
-const SYSCALL: Resume = Resume {
+pub(crate) const SYSCALL: Resume = Resume {
     kind: Kind::Syscall,
     signal: 0,
 };
 
 /// What a tracee takes up for its first stop.
-const CONT: Resume = Resume {
+pub(crate) const CONT: Resume = Resume {
     kind: Kind::Cont,
     signal: 0,
 };
 
 /// Stop 1, claimed by tracer 1: 0x0200000000000204.
-const CLAIMED: Word = Word {
+pub(crate) const CLAIMED: Word = Word {
     phase: Phase::Claimed { tracer: 1 },
     births: 0,
     number: 1,

@@ -1,34 +1,39 @@
-//! Each growth of a roster and of a board refused in turn.
+//! Each growth of a roster and of a board refused in turn, over the rows of two replays that were worked out by hand.
 
 use crate::tests::rows::{ROOT, THREAD, roots};
-use crate::{Board, NoMemory, Roster, RosterError, Row, State};
+use crate::{Board, Got, NoMemory, Refused, Roster, RosterError, Row, State};
 use refusing_allocator::RefusingAllocator;
 use std::alloc::Allocator;
 use std::test::Fail;
+use trace_record::Stop;
 
-const ROWS: [Row; 2] = [ROOT, THREAD];
+/// A root, and a root with a thread.
+const REPLAYED: [&[Row]; 2] = [&[ROOT], &[ROOT, THREAD]];
 
 /// More than any call here has growths.
 const MOST: u64 = 20;
 
 #[test]
 fn a_roster_wants_memory_once(rt: HostRuntime) {
-    let mut refusals = 0u32;
-    for granted in 0..MOST {
-        let heap = RefusingAllocator::new(rt.alloc(), granted);
-        match Roster::new(&heap, &ROWS) {
-            Ok(roster) => {
-                assert!(rt; roster.len() == 2 && !heap.has_refused());
-                break;
-            }
-            Err(fault) => {
-                assert_eq!(rt; fault, RosterError::NoMemory);
-                assert!(rt; heap.has_refused());
-                refusals = refusals.wrapping_add(1);
+    for rows in REPLAYED {
+        let mut refusals = 0u32;
+        for granted in 0..MOST {
+            let heap = RefusingAllocator::new(rt.alloc(), granted);
+            match Roster::new(&heap, rows) {
+                Ok(roster) => {
+                    assert_eq!(rt; roster.rows(), rows);
+                    assert!(rt; !heap.has_refused());
+                    break;
+                }
+                Err(fault) => {
+                    assert_eq!(rt; fault, RosterError::NoMemory);
+                    assert!(rt; heap.has_refused());
+                    refusals = refusals.wrapping_add(1);
+                }
             }
         }
+        assert_eq!(rt; refusals, 1);
     }
-    assert_eq!(rt; refusals, 1);
 }
 
 #[test]
@@ -49,34 +54,39 @@ fn a_fault_of_the_rows_is_found_before_a_growth(rt: HostRuntime) -> Result<(), F
     Ok(())
 }
 
-/// The state of the first row of a new board.
-fn first_state<A: Allocator + Copy, B: Allocator>(
+/// Whether the first stop of a new board's root is claimed by the first of two tracers alone.
+fn is_claimed_once<A: Allocator + Copy, B: Allocator>(
     alloc: A,
     roster: &Roster<B>,
-) -> Result<State, NoMemory> {
-    let board = Board::new(alloc, roster)?;
-    Ok(board.state(0))
+) -> Result<bool, NoMemory> {
+    let mut board = Board::new(alloc, roster)?;
+    Ok(
+        board.publish(0, Stop::Start) == Ok(1)
+            && board.claim(0, 0) == Ok(Got::Stop(1, 0x80057f))
+            && board.claim(0, 1) == Err(Refused::NotWaitable)
+            && board.state(0) == State::Claimed(1, 0),
+    )
 }
 
 #[test]
-fn a_board_wants_memory_twice(rt: HostRuntime) {
-    let Ok(roster) = Roster::new(rt.alloc(), &ROWS) else {
-        return assert!(rt; false, "there is memory");
-    };
-    let mut refusals = 0u32;
-    for granted in 0..MOST {
-        let heap = RefusingAllocator::new(rt.alloc(), granted);
-        match first_state(&heap, &roster) {
-            Ok(state) => {
-                assert_eq!(rt; state, State::Running);
-                assert!(rt; !heap.has_refused());
-                break;
-            }
-            Err(NoMemory) => {
-                assert!(rt; heap.has_refused());
-                refusals = refusals.wrapping_add(1);
+fn a_board_wants_memory_twice(rt: HostRuntime) -> Result<(), Fail> {
+    for rows in REPLAYED {
+        let roster = Roster::new(rt.alloc(), rows)?;
+        let mut refusals = 0u32;
+        for granted in 0..MOST {
+            let heap = RefusingAllocator::new(rt.alloc(), granted);
+            match is_claimed_once(&heap, &roster) {
+                Ok(is_right) => {
+                    assert!(rt; is_right && !heap.has_refused());
+                    break;
+                }
+                Err(NoMemory) => {
+                    assert!(rt; heap.has_refused());
+                    refusals = refusals.wrapping_add(1);
+                }
             }
         }
+        assert_eq!(rt; refusals, 2);
     }
-    assert_eq!(rt; refusals, 2);
+    Ok(())
 }

@@ -1,43 +1,64 @@
-//! Each growth of a World and of a run refused in turn.
+//! Each growth of a World and of a run refused in turn, over a race of two tracers that was worked out by hand.
 
+use crate::tests::expected_words::stopped_at_start;
 use crate::tests::rows::ROOT;
-use crate::{Action, NoMemory, Reply, Roster, World};
+use crate::tests::world::{CLAIMED, CONT, SYSCALL};
+use crate::{Action, NoMemory, Refused, Reply, Roster, World};
 use refusing_allocator::RefusingAllocator;
 use std::alloc::Allocator;
-use trace_record::{Kind, Resume, Stop};
+use trace_record::Stop;
 
-const TURNS: [(u32, Action); 2] = [(0, Action::TakeUp), (0, Action::Publish(Stop::Start))];
+/// A root stops. Both tracers look at it, and the second claims it before the first does, and resumes it.
+const TURNS: [(u32, Action); 10] = [
+    (0, Action::TakeUp),
+    (0, Action::Publish(Stop::Start)),
+    (1, Action::Look(0)),
+    (2, Action::Look(0)),
+    (2, Action::Claim(0)),
+    (1, Action::Claim(0)),
+    (1, Action::Resume(0, SYSCALL)),
+    (2, Action::Resume(0, SYSCALL)),
+    (1, Action::Resume(0, SYSCALL)),
+    (0, Action::Publish(Stop::Enter)),
+];
 
 /// What the turns reply in a World that stands before any event.
-const REPLIES: [Reply; 2] = [
-    Reply::Took(Resume {
-        kind: Kind::Cont,
-        signal: 0,
-    }),
-    Reply::Number(1),
-];
+fn replies() -> [Reply; 10] {
+    let stopped = stopped_at_start();
+    [
+        Reply::Took(CONT),
+        Reply::Number(1),
+        Reply::Word(stopped),
+        Reply::Word(stopped),
+        Reply::Got(stopped),
+        Reply::Missed(CLAIMED),
+        Reply::Refused(Refused::NotHolder),
+        Reply::Done,
+        Reply::Refused(Refused::NotClaimed),
+        Reply::Refused(Refused::NotTaken),
+    ]
+}
 
 /// More than any call here has growths.
 const MOST: u64 = 20;
 
-/// How often a run is asked for until it is not refused: a refused run has done nothing.
+/// How often a run is asked for until it is not refused, where it then replies as in a World before any event: a refused
+/// run has done nothing. 0 where it replies otherwise.
 fn run_twice<A: Allocator + Copy, B: Allocator>(
     alloc: A,
     roster: &Roster<B>,
 ) -> Result<u32, NoMemory> {
-    let mut world = World::new(alloc, roster, 1)?;
-    match world.run(&TURNS) {
-        Ok(replies) if replies.as_slice() == REPLIES.as_slice() => Ok(1),
-        Ok(_) => Ok(0),
-        Err(NoMemory) => {
-            let replies = world.run(&TURNS)?;
-            Ok(if replies.as_slice() == REPLIES.as_slice() {
-                2
-            } else {
-                0
-            })
-        }
-    }
+    let mut world = World::new(alloc, roster, 2)?;
+    let expected = replies();
+    let (replied, asked) = match world.run(&TURNS) {
+        Ok(replied) => (replied, 1),
+        Err(NoMemory) => (world.run(&TURNS)?, 2),
+    };
+    Ok(if replied.as_slice() == expected.as_slice() {
+        asked
+    } else {
+        0
+    })
 }
 
 #[test]

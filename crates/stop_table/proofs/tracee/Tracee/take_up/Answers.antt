@@ -17,10 +17,10 @@ returns-in_default-clause-none g c =
     let x = c.self.inside in
     let key = (arc_value x.cells).table.shared.key in
     let idle = idle_tracee key x.seat.me x.row x.word x.holder c.self.invariant.1
-    (ap (λ (h : TraceeHandle). h.view.taken) c.self.view_is ∙ c.requires) in
+    (c.self.invariant.1.taken ∙ sym c.has_box.ensures ∙ c.if-has_box.false) in
     let word = ap (λ (w : Word). w.phase) (c.word.view_is ∙ c.seen.view_is) in
-    subst (λ (h : TraceeHandle). (a : Shown) × LooksAt h.view c.see_bits-seen.new.seat.me.0 h.row a × (a ≢ shows.Running))
-    c.self.view_is
+    λ _. subst (λ (h : TraceeHandle). (a : Shown) × LooksAt h.view c.see_bits-seen.new.seat.me.0 h.row a
+    × (a ≢ shows.Running)) c.self.view_is
     (does_not_run key x.seat.me c.see_bits-seen.new.seat.me x.row x.word c.see_bits-seen.result idle c.see_bits-seen.ensures.1
     c.in_default.field-0 (ap restart_in (sym word) ∙ sym c.restart_in.ensures ∙ c.in_default.is))
 
@@ -28,8 +28,8 @@ pub returns-then-not-sees_running-clause-none : goal.returns-then-not-sees_runni
 returns-then-not-sees_running-clause-none g c =
     let x = c.self.inside in
     let s = c.if-not-sees_running.ensures in
-    subst (λ (h : TraceeHandle). (a : Shown) × LooksAt h.view c.sees_running.new.seat.me.0 h.row a × (a ≢ shows.Running))
-    c.self.view_is (
+    λ _. subst (λ (h : TraceeHandle). (a : Shown) × LooksAt h.view c.sees_running.new.seat.me.0 h.row a
+    × (a ≢ shows.Running)) c.self.view_is (
       shows.Unborn,
       looks_unborn x.seat.me.0 c.see_bits-seen.new.seat.me.0 c.sees_running.new.seat.me.0 x.row
           (one_look x.seat.me c.see_bits-seen.new.seat.me x.row c.see_bits-seen.result c.see_bits-seen.ensures.1) s.seat.2 s.born,
@@ -41,7 +41,7 @@ take_record-boxed-requires-clause-seen g c =
     let x = c.self.inside in
     let key = (arc_value x.cells).table.shared.key in
     let idle = idle_tracee key x.seat.me x.row x.word x.holder c.self.invariant.1
-    (ap (λ (h : TraceeHandle). h.view.taken) c.self.view_is ∙ c.requires) in
+    (c.self.invariant.1.taken ∙ sym c.has_box.ensures ∙ c.if-has_box.false) in
     let word = ap (λ (w : Word). w.phase) (c.word.view_is ∙ c.seen.view_is) in
     let restart : restart_in c.see_bits-seen.result.phase ≡ Ok c.in-Ok.how =
     ap restart_in (sym word) ∙ sym c.restart_in.ensures ∙ c.in-Ok.is in (
@@ -55,7 +55,7 @@ invariant_of-self-2 g c =
     let x = c.self.inside in
     let key = (arc_value x.cells).table.shared.key in
     let idle = idle_tracee key x.seat.me x.row x.word x.holder c.self.invariant.1
-    (ap (λ (h : TraceeHandle). h.view.taken) c.self.view_is ∙ c.requires) in
+    (c.self.invariant.1.taken ∙ sym c.has_box.ensures ∙ c.if-has_box.false) in
     let word = ap (λ (w : Word). w.phase) (c.word.view_is ∙ c.seen.view_is) in
     let s = c.if-not-sees_running.ensures in
     let restart : restart_in c.see_bits-seen.result.phase ≡ Ok c.in-Ok.how =
@@ -73,7 +73,7 @@ returns-clause-some g c =
     let x = c.self.inside in
     let key = (arc_value x.cells).table.shared.key in
     let idle = idle_tracee key x.seat.me x.row x.word x.holder c.self.invariant.1
-    (ap (λ (h : TraceeHandle). h.view.taken) c.self.view_is ∙ c.requires) in
+    (c.self.invariant.1.taken ∙ sym c.has_box.ensures ∙ c.if-has_box.false) in
     let word = ap (λ (w : Word). w.phase) (c.word.view_is ∙ c.seen.view_is) in
     let s = c.if-not-sees_running.ensures in
     let restart : restart_in c.see_bits-seen.result.phase ≡ Ok c.in-Ok.how =

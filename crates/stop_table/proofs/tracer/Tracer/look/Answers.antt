@@ -2,9 +2,10 @@
 use Rattle.std.proofs.Common.{◌∙◌, ◌<◌, length, subst, sym}
 use Rattle.std.specs.Arc.{arc_value}
 use Rattle.stop_table.specs.declared.shown.Shown.TheVariants as shows
-use Rattle.stop_table.specs.Handle.{LooksAt}
+use Rattle.stop_table.specs.Handle.{LooksAt, TriesOnce}
 use Rattle.stop_table.specs.Tracer.{TracerHandle}
 use Rattle.stop_table.proofs.Answering.{looks_at_word}
+use Rattle.stop_table.proofs.Attempts.{tried_parent, tried_row}
 use Rattle.stop_table.proofs.Tracers.{seen_unborn, tracer_looked}
 use Rattle.stop_table.proofs.Walking.{looked_on, one_look}
 use Rattle.stop_table.proofs.tracer.Tracer.look.Goals as goal
@@ -49,3 +50,14 @@ returns-clause-shown g c =
     (subst (LooksAt x.seat.me.0 c.see.new.seat.me.0 c.args.row) (sym c.show.ensures)
     (looks_at_word x.seat.me.0 c.sees_born.new.seat.me c.see.new.seat.me c.args.row c.see.result there s.seat.2 s.born
     c.see.ensures.1))
+
+pub returns-then-not-sees_born-clause-once : goal.returns-then-not-sees_born-clause-once
+returns-then-not-sees_born-clause-once g c =
+    subst (λ (h : TracerHandle). TriesOnce h.view c.sees_born.new.seat.me.0 c.args.row) c.self.view_is
+    (tried_parent c.self.inside.seat.me.0 c.sees_born.new.seat.me.0 c.args.row c.if-not-sees_born.ensures.steps)
+
+pub returns-clause-once : goal.returns-clause-once
+returns-clause-once g c =
+    subst (λ (h : TracerHandle). TriesOnce h.view c.see.new.seat.me.0 c.args.row) c.self.view_is
+    (tried_row c.self.inside.seat.me.0 c.sees_born.new.seat.me c.see.new.seat.me c.args.row c.see.result
+    c.if-not-sees_born.ensures.steps c.see.ensures.1)

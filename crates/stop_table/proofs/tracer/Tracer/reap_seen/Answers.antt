@@ -1,14 +1,17 @@
 -- A claim of a death that was seen.
-use Rattle.std.proofs.Common.{◌≡◌, ◌∙◌, ◌<◌, ap, length, refl, subst, sym, false, true}
+use Rattle.std.proofs.Common.{◌≡◌, ◌∙◌, ◌<◌, ◌∷◌, [], ap, length, refl, subst, sym, false, true}
 use Rattle.std.specs.Arc.{arc_value}
 use Rattle.stop_history.specs.declared.phase.Phase.TheVariants as phase
+use Rattle.stop_history.specs.Event as event
 use Rattle.stop_history.specs.State.{is_born}
 use Rattle.stop_history.specs.Word.{Word}
 use Rattle.stop_table.specs.declared.shown.Shown.TheVariants as shows
-use Rattle.stop_table.specs.Entry.{AreLegal, cell_after, history_of, word_of}
+use Rattle.stop_table.specs.Entry.{AreLegal, bare, cell_after, history_of, word_of}
 use Rattle.stop_table.specs.Handle.{LosesAt, Reaps}
 use Rattle.stop_table.specs.Tracer.{TracerHandle}
+use Rattle.stop_table.specs.View.{an_exchange}
 use Rattle.stop_table.proofs.Answering.{did_reap, has_death, lost_claim}
+use Rattle.stop_table.proofs.Attempts.{newest}
 use Rattle.stop_table.proofs.Tracers.{kept_reap, missed_claim}
 use Rattle.stop_table.proofs.tracer.Tracer.reap_seen.Goals as goal
 
@@ -73,3 +76,20 @@ returns-clause-taken g c =
           c.in_default.ensures.reaped c.requires.word.1 told.0 told.1)),
       refl,
     )
+
+pub returns-clause-step : goal.returns-clause-step
+returns-clause-step g c =
+    let x = c.self.inside in
+    let n = c.try_reap.new.seat.me.0 in
+    subst (λ (h : TracerHandle). n.observations ≡ an_exchange c.args.row n.seen ∷ h.view.observations) c.self.view_is
+    (newest x.seat.me.0 n c.in_default.ensures.reaped.1
+    (bare (event.Claim c.args.row c.args.seen.number x.seat.me.0.number) ∷ []) x.seat.me.0.taken
+    c.in_default.ensures.reaped.2.0)
+
+pub returns-in-Err-clause-step : goal.returns-in-Err-clause-step
+returns-in-Err-clause-step g c =
+    let x = c.self.inside in
+    let n = c.try_reap.new.seat.me.0 in
+    let missed = c.in-Err.ensures.reaped.0 in
+    subst (λ (h : TracerHandle). n.observations ≡ an_exchange c.args.row n.seen ∷ h.view.observations) c.self.view_is
+    (newest x.seat.me.0 n missed.1 [] x.seat.me.0.taken missed.2)

@@ -4,11 +4,12 @@ use Rattle.std.specs.Arc.{arc_value}
 use Rattle.stop_history.specs.declared.phase.Phase.TheVariants as phase
 use Rattle.stop_history.specs.Word.{Word, shown}
 use Rattle.stop_table.specs.declared.shown.Shown.TheVariants as shows
-use Rattle.stop_table.specs.Claiming.{IsTaken, IsTakenOrLost}
-use Rattle.stop_table.specs.Handle.{AnswersAt, is_claimable, shown_of}
+use Rattle.stop_table.specs.Claiming.{GetsNothing, IsTaken, IsTakenOrLost}
+use Rattle.stop_table.specs.Handle.{TriesOnce, is_claimable, shown_of}
 use Rattle.stop_table.specs.Tracer.{TracerHandle}
-use Rattle.stop_table.proofs.Answering.{answers, born_after, claimable_stop, last_look, nothing_there, taken_from}
-use Rattle.stop_table.proofs.Tracers.{seen_unborn, tracer_looked, tracer_looked_twice}
+use Rattle.stop_table.proofs.Answering.{born_after, claimable_stop, last_look, not_born, nothing_there, taken_from}
+use Rattle.stop_table.proofs.Attempts.{tried_claim, tried_parent, tried_row}
+use Rattle.stop_table.proofs.Tracers.{tracer_looked, tracer_looked_twice}
 use Rattle.stop_table.proofs.Walking.{idle_word, looked_on, one_look}
 use Rattle.stop_table.proofs.tracer.Tracer.try_row.Goals as goal
 
@@ -24,12 +25,9 @@ invariant_of-self g c =
 pub returns-then-not-sees_born-clause-taken : goal.returns-then-not-sees_born-clause-taken
 returns-then-not-sees_born-clause-taken g c =
     let x = c.self.inside in
-    let key = (arc_value x.cells).table.shared.key in
     let s = c.if-not-sees_born.ensures in (
-      subst (λ (h : TracerHandle). AnswersAt h.view c.sees_born.new.seat.me.0 c.args.row shows.Unborn) c.self.view_is
-          (answers x.seat.me.0 c.sees_born.new.seat.me.0 c.args.row shows.Unborn
-          (seen_unborn key x.seat.me c.sees_born.new.seat.me.0 x.number x.held c.args.row c.self.invariant.1 s.seat.2
-          s.born)),
+      subst (λ (h : TracerHandle). GetsNothing h.view c.sees_born.new.seat.me.0 c.args.row shows.Unborn) c.self.view_is
+          (not_born x.seat.me.0 c.sees_born.new.seat.me.0 c.args.row s.seat.2 s.steps s.born),
       refl,
     )
 
@@ -68,9 +66,10 @@ returns-then-not-is_claimable-clause-taken g c =
     let x = c.self.inside in
     let s = c.if-not-sees_born.ensures in
     let there = subst (λ (h : TracerHandle). c.args.row < length h.view.roster) (sym c.self.view_is) c.requires in (
-      subst (λ (h : TracerHandle). AnswersAt h.view c.see_bits-seen.new.seat.me.0 c.args.row c.show-shown.result) c.self.view_is
+      subst (λ (h : TracerHandle). GetsNothing h.view c.see_bits-seen.new.seat.me.0 c.args.row c.show-shown.result)
+          c.self.view_is
           (nothing_there x.seat.me.0 c.sees_born.new.seat.me c.see_bits-seen.new.seat.me c.args.row c.see_bits-seen.result
-          c.show-shown.result there s.seat.2 s.born c.see_bits-seen.ensures.1
+          c.show-shown.result there s.seat.2 s.steps s.born c.see_bits-seen.ensures.1
           (sym (c.show-shown.ensures ∙ ap (λ (w : Word). shown_of (shown true w.number w.phase)) c.seen.view_is))),
       sym c.is_claimable.ensures ∙ c.if-not-is_claimable.true,
     )
@@ -142,4 +141,27 @@ returns-in_default g c =
           c.claim_seen.result looked
           (last_look x.seat.me.0 c.sees_born.new.seat.me c.see_bits-seen.new.seat.me c.args.row c.see_bits-seen.result e.2 c.see_bits-seen.ensures.1)
           c.claim_seen.ensures.taken);
+      once = subst (λ (h : TracerHandle). TriesOnce h.view c.claim_seen.new.self.view c.args.row) c.self.view_is
+          (tried_claim x.seat.me.0 c.see_bits-seen.new.seat.me.0 c.claim_seen.new.self.view c.args.row
+          (tried_row x.seat.me.0 c.sees_born.new.seat.me c.see_bits-seen.new.seat.me c.args.row c.see_bits-seen.result
+          c.sees_born.ensures.steps c.see_bits-seen.ensures.1) c.claim_seen.ensures.step);
     }
+
+pub returns-then-not-sees_born-clause-once : goal.returns-then-not-sees_born-clause-once
+returns-then-not-sees_born-clause-once g c =
+    subst (λ (h : TracerHandle). TriesOnce h.view c.sees_born.new.seat.me.0 c.args.row) c.self.view_is
+    (tried_parent c.self.inside.seat.me.0 c.sees_born.new.seat.me.0 c.args.row c.if-not-sees_born.ensures.steps)
+
+pub returns-then-not-is_claimable-clause-once : goal.returns-then-not-is_claimable-clause-once
+returns-then-not-is_claimable-clause-once g c =
+    subst (λ (h : TracerHandle). TriesOnce h.view c.see_bits-seen.new.seat.me.0 c.args.row) c.self.view_is
+    (tried_row c.self.inside.seat.me.0 c.sees_born.new.seat.me c.see_bits-seen.new.seat.me c.args.row
+    c.see_bits-seen.result c.if-not-sees_born.ensures.steps c.see_bits-seen.ensures.1)
+
+pub returns-in-Dead-clause-once : goal.returns-in-Dead-clause-once
+returns-in-Dead-clause-once g c =
+    let x = c.self.inside in
+    subst (λ (h : TracerHandle). TriesOnce h.view c.reap_seen.new.self.view c.args.row) c.self.view_is
+    (tried_claim x.seat.me.0 c.see_bits-seen.new.seat.me.0 c.reap_seen.new.self.view c.args.row
+    (tried_row x.seat.me.0 c.sees_born.new.seat.me c.see_bits-seen.new.seat.me c.args.row c.see_bits-seen.result
+    c.sees_born.ensures.steps c.see_bits-seen.ensures.1) c.reap_seen.ensures.step)

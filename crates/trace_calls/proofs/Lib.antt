@@ -6,3 +6,4 @@ mod Rests
 mod Retries
 mod Scans
 mod Settled
+mod Tries

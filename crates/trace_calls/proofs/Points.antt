@@ -6,7 +6,8 @@ use Rattle.stop_history.specs.Event as event
 use Rattle.stop_history.specs.State.{state_after}
 use Rattle.stop_table.specs.declared.shown.Shown.{Shown}
 use Rattle.stop_table.specs.Entry.{Begins, Entry, bare, history_of}
-use Rattle.stop_table.specs.Handle.{AnswersAt, EndsWith, HasSteps, IsPoint, Looked, LooksAt}
+use Rattle.stop_table.specs.Claiming.{GetsNothing}
+use Rattle.stop_table.specs.Handle.{EndsWith, HasSteps, IsPoint, Looked, LooksAt}
 use Rattle.stop_table.specs.Handle.{is_claimable, shown_of}
 use Rattle.stop_table.specs.View.{View, a_look}
 use Rattle.stop_table.proofs.Entries.{begins_on}
@@ -27,14 +28,30 @@ saw_as v w row P Q on s = record {
   state = on (state_after v.roster (history_of s.point) row) s.state;
 }
 
-pub saw_answer : (v w : View) (row : ℕ) (a : Shown) → AnswersAt v w row a → Saw v w row (λ at. a ≡ shown_of at)
-saw_answer v w row a l = record {
-  point = l.1.point;
-  sooner = l.1.sooner;
-  later = l.1.later;
-  step = l.1.step;
-  state = l.1.shown;
-}
+-- an attempt that got nothing only looked, and saw its answer at a point of its own
+pub looked_in_vain : (v w : View) (row : ℕ) (a : Shown) → GetsNothing v w row a → Looked v w
+looked_in_vain v w row a nothing = elim nothing [ inl last ↦ last.0 | inr lost ↦ lost.0 ]
+
+saw_nothing : (v w : View) (row : ℕ) (a : Shown) → GetsNothing v w row a → Saw v w row (λ at. a ≡ shown_of at)
+saw_nothing v w row a nothing =
+    elim nothing [
+      | inl last ↦
+          record {
+            point = w.seen;
+            sooner = last.0.grows.goes_on;
+            later = ([], refl);
+            step = inl last.2;
+            state = last.3;
+          }
+      | inr lost ↦
+          record {
+            point = lost.1.point;
+            sooner = lost.1.sooner;
+            later = lost.1.later;
+            step = inr lost.1.step;
+            state = lost.1.shown;
+          }
+    ]
 
 pub saw_look : (v w : View) (row : ℕ) (a : Shown) → LooksAt v w row a → Saw v w row (λ at. a ≡ shown_of at)
 saw_look v w row a l = record {
@@ -65,7 +82,7 @@ pending_shown (state.Dead number status) = refl
 pending_shown state.Reaped = refl
 
 -- a row that was not claimed
-pub passed : (deaths pending : Bool) (v w : View) (row : ℕ) (a : Shown) → AnswersAt v w row a
+pub passed : (deaths pending : Bool) (v w : View) (row : ℕ) (a : Shown) → GetsNothing v w row a
     → is_claimable deaths a ≡ false → pending ≡ is_pending_shown a
     → Saw v w row (λ at. (is_waitable_for deaths at ≡ false) × (is_pending at ≡ pending))
 passed deaths pending v w row a l free is =
@@ -74,7 +91,7 @@ passed deaths pending v w row a l free is =
       not_waitable deaths at (ap (is_claimable deaths) (sym same) ∙ free),
       pending_shown at ∙ ap is_pending_shown (sym same) ∙ sym is,
     ))
-    (saw_answer v w row a l)
+    (saw_nothing v w row a l)
 
 -- ---- parts of a call
 

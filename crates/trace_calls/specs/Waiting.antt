@@ -1,17 +1,20 @@
 -- What a wait answers, from the view of its caller before it (v) to the view after it (w) (waitid(2), waitpid(2)).
-use Rattle.std.specs.Prelude.{◌≡◌, ◌⊎◌, ◌<◌, ◌++◌, ℕ, Bool, true, false, List}
+use Rattle.std.specs.Prelude.{◌≡◌, ◌⊎◌, ◌<◌, ◌≤◌, ◌+◌, ◌++◌, ℕ, Bool, true, false, List, length, map, sum}
+use Rattle.std.specs.Prelude.{if◌then◌else◌}
+use Rattle.std.specs.List.{range_with_len}
 use Rattle.stop_history.specs.declared.roster.Row.{Row}
 use Rattle.stop_history.specs.declared.state.State.{State}
 use Rattle.stop_history.specs.declared.state.State.TheVariants as state
 use Rattle.stop_history.specs.Event as event
 use Rattle.stop_history.specs.Over.{is_gone}
+use Rattle.stop_history.specs.Roster.{row_at}
 use Rattle.stop_history.specs.State.{state_after}
 use Rattle.stop_table.specs.Entry.{AreLegal, Begins, Entry, GoesOn, bare, history_of}
-use Rattle.stop_table.specs.Handle.{EndsWith, IsLost, IsPoint, Looked}
-use Rattle.stop_table.specs.View.{View, actors_of}
+use Rattle.stop_table.specs.Handle.{EndsWith, IsLost, IsPoint, Looked, looks_for}
+use Rattle.stop_table.specs.View.{View, actors_of, looks_at}
 use Rattle.trace_calls.specs.declared.request.Request.{Request}
 use Rattle.trace_calls.specs.declared.selection.Selection.{Selection}
-use Rattle.trace_calls.specs.Selection.{IsSelected, has_parents}
+use Rattle.trace_calls.specs.Selection.{IsSelected, has_parents, is_selected}
 
 -- ---- states
 
@@ -96,3 +99,19 @@ pub record NoChild (request : Request) (v w : View) : Type 0 where
       → Saw v w row (λ at. is_gone request.deaths at ≡ true)
   pub final : has_parents request.selection ≡ true
       → AreGoneForGood v.roster request.selection request.deaths w.seen
+
+-- ---- one try
+
+-- how many looks at the word of `at` one attempt at each selected row below k takes
+unfoldable pub looks_below : List Row → Selection → (k at : ℕ) → ℕ
+looks_below rows selection k at =
+    sum (map (λ row. if is_selected selection (row_at rows row) then looks_for rows row at else 0) (range_with_len 0 k))
+
+-- the call tried each selected row below k once at most: it looked at no row's word more often than that takes
+abbrev pub TriesBelow : Request → View → View → (k : ℕ) → Type 0
+TriesBelow request v w k =
+    (at : ℕ) → looks_at at w.observations ≤ looks_at at v.observations + looks_below v.roster request.selection k at
+
+-- One try of a wait and no more (WNOHANG): each selected row was tried once at most.
+abbrev pub IsOneTry : Request → View → View → Type 0
+IsOneTry request v w = TriesBelow request v w (length v.roster)

@@ -1,12 +1,13 @@
 //! The waits that block.
 
-ghost use Rattle.std.specs.Prelude.{◌≡◌, ◌≢◌, ◌↔◌, IsTrue, Ok, false};
+ghost use Rattle.std.specs.Prelude.{◌≡◌, ◌≢◌, ◌↔◌, IfSome, IsTrue, Ok, false, true};
 ghost use Rattle.trace_options.specs.declared.wait_flags.TheConstants.WaitFlags as flag;
 ghost use Rattle.trace_status.specs.declared.wait_status.WaitStatus.TheVariants.{StillAlive};
 ghost use Rattle.stop_table.specs.Entry.{AreLegal};
 ghost use Rattle.trace_calls.specs.Answer.{IsAnswer, IsWaitAnswer};
 ghost use Rattle.trace_calls.specs.Handle.{KeepsTable};
 ghost use Rattle.trace_calls.specs.Request.{has, waitid_request, waitpid_request};
+ghost use Rattle.trace_calls.specs.Waiting.{IsOneTry};
 
 use crate::calls::Calls;
 use crate::id::Id;
@@ -22,8 +23,8 @@ use trace_status::WaitStatus;
 const PAUSE: u64 = 1;
 
 impl<A: Allocator> Calls<A> {
-    /// `waitid` that tries again while the answer is `StillAlive`, unless WNOHANG is given. Between two tries it sleeps
-    /// for a millisecond. It may never return.
+    /// `waitid` that tries again while the answer is `StillAlive`; with WNOHANG it tries once. Between two tries it
+    /// sleeps for a millisecond. It may never return.
     pub fn waitid_blocking<R: Wait + Clock>(
         &mut self,
         rt: &R,
@@ -33,6 +34,8 @@ impl<A: Allocator> Calls<A> {
         ensures table { KeepsTable self.old self.new }
         ensures answer { IsWaitAnswer (waitid_request id flags) self.old self.new result }
         ensures waits { has flags flag.WNOHANG ≡ false → result ≢ Ok StillAlive }
+        ensures once { has flags flag.WNOHANG ≡ true →
+            IfSome (waitid_request id flags) (λ request. IsOneTry request self.old.view self.new.view) }
     {
         let Some(request) = waitid_request(id, flags) else {
             return Err(Errno::EINVAL);
@@ -43,8 +46,8 @@ impl<A: Allocator> Calls<A> {
         self.wait_until(rt, request)
     }
 
-    /// `waitpid` that tries again while the answer is `StillAlive`, unless WNOHANG is given. Between two tries it sleeps
-    /// for a millisecond. It may never return.
+    /// `waitpid` that tries again while the answer is `StillAlive`; with WNOHANG it tries once. Between two tries it
+    /// sleeps for a millisecond. It may never return.
     pub fn waitpid_blocking<R: Wait + Clock>(
         &mut self,
         rt: &R,
@@ -54,6 +57,8 @@ impl<A: Allocator> Calls<A> {
         ensures table { KeepsTable self.old self.new }
         ensures answer { IsWaitAnswer (waitpid_request pid flags) self.old self.new result }
         ensures waits { has flags flag.WNOHANG ≡ false → result ≢ Ok StillAlive }
+        ensures once { has flags flag.WNOHANG ≡ true →
+            IfSome (waitpid_request pid flags) (λ request. IsOneTry request self.old.view self.new.view) }
     {
         let Some(request) = waitpid_request(pid, flags) else {
             return Err(Errno::EINVAL);

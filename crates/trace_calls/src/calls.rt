@@ -1,11 +1,12 @@
 //! The calls of one tracer.
 
-ghost use Rattle.std.specs.Prelude.{◌≡◌, ◌≢◌, [], IfOk, MatchResult, None, false, is_some, length, replicate};
+ghost use Rattle.std.specs.Prelude.{◌≡◌, ◌≢◌, [], IfOk, IfSome, MatchResult, None, false, is_some, length, replicate};
 ghost use Rattle.std.specs.List.{list_any};
 ghost use Rattle.stop_table.specs.Tracer.{IsTracerHandle, held_rows};
 ghost use Rattle.trace_calls.specs.Answer.{IsAnswer, IsWaitAnswer};
 ghost use Rattle.trace_calls.specs.Handle.{KeepsTable, handle_of, tracer_of};
 ghost use Rattle.trace_calls.specs.Request.{waitid_request, waitpid_request};
+ghost use Rattle.trace_calls.specs.Waiting.{IsOneTry};
 
 use crate::id::Id;
 use crate::request::{Request, waitid_request, waitpid_request};
@@ -111,6 +112,7 @@ impl<A: Allocator> Calls<A> {
     pub fn waitid(&mut self, id: Id, flags: WaitFlags) -> Result<WaitStatus, Errno>
         ensures table { KeepsTable self.old self.new }
         ensures answer { IsWaitAnswer (waitid_request id flags) self.old self.new result }
+        ensures once { IfSome (waitid_request id flags) (λ request. IsOneTry request self.old.view self.new.view) }
     {
         let Some(request) = waitid_request(id, flags) else {
             return Err(Errno::EINVAL);
@@ -127,6 +129,7 @@ impl<A: Allocator> Calls<A> {
     pub fn waitpid(&mut self, pid: i32, flags: WaitFlags) -> Result<WaitStatus, Errno>
         ensures table { KeepsTable self.old self.new }
         ensures answer { IsWaitAnswer (waitpid_request pid flags) self.old self.new result }
+        ensures once { IfSome (waitpid_request pid flags) (λ request. IsOneTry request self.old.view self.new.view) }
     {
         let Some(request) = waitpid_request(pid, flags) else {
             return Err(Errno::EINVAL);
@@ -138,6 +141,7 @@ impl<A: Allocator> Calls<A> {
     pub(crate) fn wait(&mut self, request: Request) -> Result<WaitStatus, Errno>
         ensures table { KeepsTable self.old self.new }
         ensures answer { IsAnswer request self.old self.new result }
+        ensures once { IsOneTry request self.old.view self.new.view }
     {
         let _number = self.tracer.number();
         let found = scan(&mut self.tracer, &self.roster, request);

@@ -3,9 +3,11 @@
 
 ghost use Rattle.std.specs.Prelude.{◌≡◌, ◌<◌, ◌||◌, false, length, true};
 ghost use Rattle.stop_table.specs.Claiming.{IsTaken};
+ghost use Rattle.stop_table.specs.Handle.{TriesOnce};
 ghost use Rattle.stop_table.specs.Tracer.{IsTracerHandle, KeepsHandle};
 ghost use Rattle.trace_calls.specs.Scan.{IsFinding, IsTried, IsTurn, is_pending_shown, report_in};
 ghost use Rattle.trace_calls.specs.Selection.{IsSelected};
+ghost use Rattle.trace_calls.specs.Waiting.{IsOneTry};
 
 use crate::request::Request;
 use std::alloc::Allocator;
@@ -34,7 +36,7 @@ pub(crate) enum Finding<A: Allocator> {
     NoChild,
 }
 
-/// Tries the selected rows one after the other, and stops at the first that has a status.
+/// Tries the selected rows one after the other, each once, and stops at the first that has a status.
 pub(crate) fn scan<A: Allocator>(
     tracer: &mut Tracer<A>,
     roster: &Roster<A>,
@@ -43,6 +45,7 @@ pub(crate) fn scan<A: Allocator>(
     requires { roster.now ≡ tracer.old.view.roster }
     ensures handle { KeepsHandle tracer.old tracer.new }
     ensures finding { IsFinding request tracer.old.view tracer.new.view result }
+    ensures once { IsOneTry request tracer.old.view tracer.new.view }
 {
     let _number = tracer.number();
     let mut pending = false;
@@ -82,6 +85,7 @@ fn turn<A: Allocator>(
     requires { (roster.now ≡ tracer.old.view.roster) × (row < length roster.now) }
     ensures handle { KeepsHandle tracer.old tracer.new }
     ensures turn { IsTurn request tracer.old.view tracer.new.view row result }
+    ensures once { TriesOnce tracer.old.view tracer.new.view row }
 {
     if !request.selection.has(roster.row(row)) {
         return Try::Passes { pending: false };
@@ -97,6 +101,7 @@ fn peek<A: Allocator>(tracer: &mut Tracer<A>, row: u32, request: Request) -> Try
     requires { (row < length tracer.old.view.roster) × (request.keeps ≡ true) }
     ensures handle { KeepsHandle tracer.old tracer.new }
     ensures tried { IsTried request tracer.old.view tracer.new.view row result }
+    ensures once { TriesOnce tracer.old.view tracer.new.view row }
 {
     let shown = tracer.look(row);
     match report_in(shown, request.deaths) {
@@ -112,6 +117,7 @@ fn take<A: Allocator>(tracer: &mut Tracer<A>, row: u32, request: Request) -> Try
     requires { (row < length tracer.old.view.roster) × (request.keeps ≡ false) }
     ensures handle { KeepsHandle tracer.old tracer.new }
     ensures tried { IsTried request tracer.old.view tracer.new.view row result }
+    ensures once { TriesOnce tracer.old.view tracer.new.view row }
 {
     match claim(tracer, row, request.deaths) {
         Taken::Stop(claim) => Try::Stop(claim),
@@ -128,6 +134,7 @@ fn claim<A: Allocator>(tracer: &mut Tracer<A>, row: u32, deaths: bool) -> Taken<
     requires { row < length tracer.old.view.roster }
     ensures handle { KeepsHandle tracer.old tracer.new }
     ensures taken { IsTaken deaths tracer.old.view tracer.new.view row result }
+    ensures once { TriesOnce tracer.old.view tracer.new.view row }
 {
     if deaths {
         return tracer.claim(row);

@@ -1,7 +1,8 @@
 -- What the scan found.
-use Rattle.std.proofs.Common.{◌∙◌, ◌≤◌, ◌+◌, arith, length, subst, sym}
+use Rattle.std.proofs.Common.{◌∙◌, ◌≤◌, ◌+◌, ap, arith, length, subst, sym}
 use Rattle.trace_calls.specs.Scan.{Scanned}
 use Rattle.trace_calls.proofs.Scans.{scan_on, found_stop, found_death, found_shown, found_none}
+use Rattle.trace_calls.proofs.Tries.{tried_all, tried_on}
 use Rattle.trace_calls.proofs.scan.scan.Goals as goal
 
 pub returns-in-Stop-clause-finding : goal.returns-in-Stop-clause-finding
@@ -29,6 +30,9 @@ loop-row-preserved g c = (
       (scan_on c.args.request c.args.tracer.now.view c.loop-row.tracer.view c.turn.new.tracer.view c.loop-row.row
       c.loop-row.pending c.number-number.ensures.handle.placed c.loop-row.invariant.1 c.in-Passes.more
       c.in-Passes.ensures.turn),
+  tried_on c.args.request c.args.tracer.now.view c.loop-row.tracer.view c.turn.new.tracer.view c.loop-row.row _
+      c.loop-row.invariant.1.looked.grows.same.roster c.loop-row.invariant.2 c.in-Passes.ensures.turn
+      c.turn.ensures.once,
 )
 
 pub returns-clause-finding : goal.returns-clause-finding
@@ -37,3 +41,36 @@ returns-clause-finding g c =
     let long = subst (λ rows. length rows ≤ c.loop-row.row) c.requires here in
     found_none c.args.request c.args.tracer.now.view c.loop-row.tracer.view c.loop-row.row c.loop-row.pending
     c.loop-row.invariant.1 long c.if-pending.false
+
+pub returns-in-Stop-clause-once : goal.returns-in-Stop-clause-once
+returns-in-Stop-clause-once g c =
+    let long = ap length c.requires in
+    tried_all c.args.request c.args.tracer.now.view c.turn.new.tracer.view (c.loop-row.row + 1) (omega arith)
+    (tried_on c.args.request c.args.tracer.now.view c.loop-row.tracer.view c.turn.new.tracer.view c.loop-row.row _
+    c.loop-row.invariant.1.looked.grows.same.roster c.loop-row.invariant.2 c.in-Stop.ensures.turn c.turn.ensures.once)
+
+pub returns-in-Ended-clause-once : goal.returns-in-Ended-clause-once
+returns-in-Ended-clause-once g c =
+    let long = ap length c.requires in
+    tried_all c.args.request c.args.tracer.now.view c.turn.new.tracer.view (c.loop-row.row + 1) (omega arith)
+    (tried_on c.args.request c.args.tracer.now.view c.loop-row.tracer.view c.turn.new.tracer.view c.loop-row.row _
+    c.loop-row.invariant.1.looked.grows.same.roster c.loop-row.invariant.2 c.in-Ended.ensures.turn c.turn.ensures.once)
+
+pub returns-in-Shows-clause-once : goal.returns-in-Shows-clause-once
+returns-in-Shows-clause-once g c =
+    let long = ap length c.requires in
+    tried_all c.args.request c.args.tracer.now.view c.turn.new.tracer.view (c.loop-row.row + 1) (omega arith)
+    (tried_on c.args.request c.args.tracer.now.view c.loop-row.tracer.view c.turn.new.tracer.view c.loop-row.row _
+    c.loop-row.invariant.1.looked.grows.same.roster c.loop-row.invariant.2 c.in-Shows.ensures.turn c.turn.ensures.once)
+
+pub returns-then-pending-clause-once : goal.returns-then-pending-clause-once
+returns-then-pending-clause-once g c =
+    let long = ap length c.requires in
+    tried_all c.args.request c.args.tracer.now.view c.loop-row.tracer.view c.loop-row.row (omega arith)
+    c.loop-row.invariant.2
+
+pub returns-clause-once : goal.returns-clause-once
+returns-clause-once g c =
+    let long = ap length c.requires in
+    tried_all c.args.request c.args.tracer.now.view c.loop-row.tracer.view c.loop-row.row (omega arith)
+    c.loop-row.invariant.2

@@ -1,11 +1,11 @@
 -- A row that could not be claimed is passed at a point of its own.
-use Rattle.trace_calls.proofs.Points.{passed}
+use Rattle.trace_calls.proofs.Points.{looked_in_vain, passed}
 use Rattle.trace_calls.proofs.scan.take.Goals as goal
 
 pub returns-in-Nothing-clause-tried : goal.returns-in-Nothing-clause-tried
 returns-in-Nothing-clause-tried g c =
     let t = c.in-Nothing.ensures.taken in (
-      t.0.0,
+      looked_in_vain c.args.tracer.now.view c.claim.new.tracer.view c.args.row c.in-Nothing.shown t.0,
       passed c.args.request.deaths c.is_pending.result c.args.tracer.now.view c.claim.new.tracer.view c.args.row
           c.in-Nothing.shown t.0 t.1 c.is_pending.ensures,
     )

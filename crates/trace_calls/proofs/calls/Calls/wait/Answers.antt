@@ -2,6 +2,7 @@
 use Rattle.std.proofs.Common.{subst}
 use Rattle.trace_calls.specs.Answer.{IsAnswer}
 use Rattle.trace_calls.specs.Handle.{CallsHandle, handle_of}
+use Rattle.trace_calls.specs.Waiting.{IsOneTry}
 use Rattle.trace_calls.proofs.Settled.{answered, kept, placed}
 use Rattle.trace_calls.proofs.calls.Calls.wait.Goals as goal
 
@@ -26,3 +27,8 @@ returns-clause-answer g c =
     (answered c.args.request x.roster x.tracer c.scan-found.new.tracer x.held.items x.counts.items
     c.number-number.ensures.handle c.self.invariant c.settle.new.held.items c.settle.new.counts.items c.settle.result
     c.scan-found.result c.scan-found.ensures.finding c.settle.ensures)
+
+pub returns-clause-once : goal.returns-clause-once
+returns-clause-once g c =
+    subst (λ (h : CallsHandle). IsOneTry c.args.request h.view c.scan-found.new.tracer.view) c.self.view_is
+    c.scan-found.ensures.once

@@ -10,6 +10,7 @@ use Rattle.trace_record.specs.Stop.{IsStop}
 use Rattle.trace_record.specs.declared.resume.Resume.{Resume as Restart}
 use Rattle.trace_record.specs.declared.stop.Stop.{Stop}
 use Rattle.trace_record.specs.declared.stop.Stop.TheVariants as stop
+use Rattle.stop_history.specs.declared.actor.Actor.TheVariants.{Tracer}
 use Rattle.stop_history.specs.declared.limits.TheConstants.{TRACERS}
 use Rattle.stop_history.specs.declared.roster.Row.{Row}
 use Rattle.stop_history.specs.declared.state.State.{State}
@@ -29,11 +30,12 @@ use Rattle.stop_table.specs.Entry.{AreLegal, Entry, IsCarried, content_after, co
 use Rattle.trace_script.specs.CaseFile.{CaseContent}
 use Rattle.tracer_workers.specs.Config.{plan_of, policy_of}
 use Rattle.tracer_workers.specs.Policy.{passed, plain_policy, seccomp_policy}
-use Rattle.tracer_workers.specs.Scheduled.{IsAtRest, IsKeptAt, KeptRow, Moved, RunState, Stands, is_claimed, run_left}
+use Rattle.tracer_workers.specs.Scheduled.{IsAtRest, IsKeptAt, KeptRow, MovedBy, RunState, Stands, is_claimed, run_left}
 use Rattle.tracer_workers.specs.Turn.{HasHeld}
 use Rattle.tracer_workers.proofs.Fewer.{fewer_left}
 use Rattle.tracer_workers.proofs.Left.{Left, other_left, own_left}
 use Rattle.tracer_workers.proofs.Made.{free_but, free_on, made_on}
+use Rattle.tracer_workers.proofs.OneActor.{by_one}
 use Rattle.tracer_workers.proofs.RunSteps.{Claimed, Resumed, claim_entry, claim_goes, claimed_next, dead_phase, last_most}
 use Rattle.tracer_workers.proofs.RunSteps.{reap_goes, resume_entry, resume_goes}
 
@@ -81,7 +83,8 @@ module _ (content : CaseContent) (run new : RunState) (h : List Entry) (row trac
   abbrev x : Entry
   x = claim_entry h row tracer
 
-  pub claim_reaps : state_after content.rows (history_of h) row ≡ state.Dead number status → Moved content run new h
+  pub claim_reaps : state_after content.rows (history_of h) row ≡ state.Dead number status
+      → MovedBy (Tracer tracer) content run new h
   claim_reaps dead =
       let goes = reap_goes content run new h row tracer number status stands.0 within dead low p in
       let reaped = dead_phase (is_born content.rows (history_of h) row) number status tracer (events_of row (history_of h))
@@ -89,6 +92,7 @@ module _ (content : CaseContent) (run new : RunState) (h : List Entry) (row trac
         x ∷ h,
         (made_on content run new h x stands.0 goes, free_on content.rows h x stands.1 (ap is_claimed reaped)),
         fewer_left content run new h x stands.0 goes (last_most content run h row stands.0 within),
+        by_one (Tracer tracer) x h refl,
       )
 
   pub claim_holds : state_after content.rows (history_of h) row ≡ state.Stopped number status
@@ -146,7 +150,7 @@ no_wait state.Reaped refusal is = refl
 abbrev pub GotLeaves : CaseContent → RunState → RunState → List Entry → (row tracer : ℕ) → Got → Type 0
 GotLeaves content run new h row tracer (got.Stop number status) =
     HasHeld content new (claim_entry h row tracer ∷ h) row tracer × (run_left new < run_left run)
-GotLeaves content run new h row tracer (got.Ended number status) = Moved content run new h
+GotLeaves content run new h row tracer (got.Ended number status) = MovedBy (Tracer tracer) content run new h
 
 module _ (content : CaseContent) (run new : RunState) (h : List Entry) (row tracer : ℕ)
     (stands : Stands content run h) (within : row < length content.rows) (low : tracer < TRACERS)
@@ -207,7 +211,8 @@ module _ (content : CaseContent) (run : RunState) (h : List Entry) (row tracer :
       ∙ resume_by_ok tracer (state_after content.rows (history_of h) row) (last_number (history_of h) row) s.low s.held
 
   pub restart_moves : (new : RunState) (how : Restart) (k : KeptRow) → slice_get run.rows row ≡ Some k
-      → how ≡ policy_of run.config k.content → Resumed content run new h row tracer how → Moved content run new h
+      → how ≡ policy_of run.config k.content → Resumed content run new h row tracer how
+      → MovedBy (Tracer tracer) content run new h
   restart_moves new how k there due p =
       let x = resume_entry h row tracer how in
       let goes = resume_goes content run new h row tracer how s.made s.within s.held s.phase s.low
@@ -215,4 +220,5 @@ module _ (content : CaseContent) (run : RunState) (h : List Entry) (row tracer :
         x ∷ h,
         (made_on content run new h x s.made goes, free_but content.rows h x s.others refl),
         fewer_left content run new h x s.made goes (last_most content run h row s.made s.within),
+        by_one (Tracer tracer) x h refl,
       )

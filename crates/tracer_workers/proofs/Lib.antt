@@ -14,6 +14,7 @@ pub mod Left
 pub mod Made
 pub mod Meeting
 pub mod ModeText
+pub mod OneActor
 pub mod OneThread
 pub mod OwnEntries
 pub mod Rearranged

@@ -44,7 +44,7 @@ use Rattle.tracer_workers.proofs.Claimed.{all_claimed, claims_are_whole}
 use Rattle.tracer_workers.proofs.Joined.{all_driven}
 use Rattle.tracer_workers.proofs.LastLooks.{all_gone_reaped}
 use Rattle.tracer_workers.proofs.ThreadLaws.{claimed_are_made}
-use Rattle.tracer_workers.proofs.WorkerThreads.{all_free, pieces_on}
+use Rattle.tracer_workers.proofs.WorkerThreads.{all_free, pieces_on, stays_driven}
 use Rattle.tracer_workers.proofs.Zips.{zip_all, zip_any, zip_length}
 
 -- ---- lists
@@ -196,19 +196,19 @@ tracer_acts id rows es are tracer within =
 
 module _ (id : TableId) (config : Config) (content : CaseContent) {S : Type 0} (tracee : S → TraceeHandle)
     (machine : S → Position) (es : List TraceeHandle) (ss : List S) (new : All (IsNewTracee id content.rows) es)
-    (given : AllZip (λ e s. (tracee s ≡ e) × IsToStart config content (tracee s) (machine s)) es ss) where
+    (given : AllZip (λ e s. (tracee s ≡ e) × IsToStart (plan_of config content) (tracee s) (machine s)) es ss) where
   pub all_can_run : All (λ s. CanRun (tracee s) (machine s)) ss
   all_can_run =
-      zip_all (IsNewTracee id content.rows) (λ e s. (tracee s ≡ e) × IsToStart config content (tracee s) (machine s))
+      zip_all (IsNewTracee id content.rows) (λ e s. (tracee s ≡ e) × IsToStart (plan_of config content) (tracee s) (machine s))
       (λ s. CanRun (tracee s) (machine s))
-      (λ e s fresh st. (ap (λ (t : TraceeHandle). t.view.taken) st.0 ∙ fresh.2, (config, content, st.1))) es ss given new
+      (λ e s fresh st. (ap (λ (t : TraceeHandle). t.view.taken) st.0 ∙ fresh.2, (plan_of config content, st.1))) es ss given new
 
   abbrev pub IsGiven : S → Type 0
-  IsGiven s = ((tracee s).table_id ≡ id) × IsToStart config content (tracee s) (machine s)
+  IsGiven s = ((tracee s).table_id ≡ id) × IsToStart (plan_of config content) (tracee s) (machine s)
 
   all_given : All IsGiven ss
   all_given =
-      zip_all (IsNewTracee id content.rows) (λ e s. (tracee s ≡ e) × IsToStart config content (tracee s) (machine s))
+      zip_all (IsNewTracee id content.rows) (λ e s. (tracee s ≡ e) × IsToStart (plan_of config content) (tracee s) (machine s))
       IsGiven (λ e s fresh st. (ap (λ (t : TraceeHandle). t.table_id) st.0 ∙ fresh.0, st.1)) es ss given new
 
   module _ (ts : List TraceeHandle) (run : AllZip (λ s t. HasRun (tracee s) (machine s) t) ss ts) where
@@ -225,7 +225,7 @@ module _ (id : TableId) (config : Config) (content : CaseContent) {S : Type 0} (
     tracees_driven =
         zip_all IsGiven (λ s t. HasRun (tracee s) (machine s) t)
         (λ (t : TraceeHandle). AreDrivenBy (actors_of t.view) (plan_of config content) t.view.seen)
-        (λ s t was ran. ran.driven config content was.1) ss ts run all_given
+        (λ s t was ran. ran.driven (plan_of config content) was.1) ss ts run all_given
 
     pub tracees_act : (actor : Actor)
         → list_any (λ (t : TraceeHandle). actors_of t.view actor) ts ≡ list_any (λ (e : TraceeHandle). actors_of e.view actor) es
@@ -233,7 +233,7 @@ module _ (id : TableId) (config : Config) (content : CaseContent) {S : Type 0} (
         sym (zip_any (λ s t. HasRun (tracee s) (machine s) t) (λ s. actors_of (tracee s).view actor)
         (λ (t : TraceeHandle). actors_of t.view actor)
         (λ s t ran. ap (λ (actors : Actor → Bool). actors actor) (sym (same_actors (tracee s).view t.view ran.same.2))) ss ts run)
-        ∙ sym (zip_any (λ e s. (tracee s ≡ e) × IsToStart config content (tracee s) (machine s))
+        ∙ sym (zip_any (λ e s. (tracee s ≡ e) × IsToStart (plan_of config content) (tracee s) (machine s))
         (λ (e : TraceeHandle). actors_of e.view actor) (λ s. actors_of (tracee s).view actor)
         (λ e s st. ap (λ (t : TraceeHandle). actors_of t.view actor) (sym st.0)) es ss given)
 
@@ -251,7 +251,7 @@ module _ (id : TableId) (config : Config) (content : CaseContent) {S : Type 0} (
       → HasWorked config e (tracer s) (pieces s) (short s) → IsServed (tracer s)
   served e s fresh done = (
     record { table = done.0 ∙ fresh.0; roster = done.1.same.roster ∙ fresh.1; idle = done.1.free },
-    done.1.restarts content (sym fresh.1)
+    stays_driven config content e.view (tracer s).view (sym fresh.1) done.1.same done.1.restarts
         (subst (λ (h : List Entry). AreDrivenBy (actors_of e.view) (plan_of config content) h) (sym fresh.2) tt),
   )
 
@@ -455,7 +455,7 @@ module _ (id : TableId) (config : Config) (content : CaseContent) {S T : Type 0}
     (ts : List TraceeHandle) (es : List TracerHandle) (first : AreTracees id content.rows tracees)
     (rows_long : length tracees ≡ length content.rows) (second : AreTracers id content.rows tracers)
     (tracers_long : length tracers ≡ TRACERS) (split : tracers ≡ ws ++ reverse spare)
-    (given : AllZip (λ e s. (tracee s ≡ e) × IsToStart config content (tracee s) (machine s)) tracees ss)
+    (given : AllZip (λ e s. (tracee s ≡ e) × IsToStart (plan_of config content) (tracee s) (machine s)) tracees ss)
     (run : AllZip (λ s t. HasRun (tracee s) (machine s) t) ss ts)
     (work : AllZip (λ e s. HasWorked config e (tracer s) (pieces s) (short s)) ws vs)
     (es_is : es ≡ spare ++ map tracer vs) where

@@ -2,8 +2,10 @@
 use Rattle.std.proofs.Common.{refl, ◌≡◌, ◌⊎◌, ◌||◌, ◌≤◌, ◌+◌, ℕ, Bool, true, false, List, length, ◌∙◌, sym, ap, subst, arith}
 use Rattle.std.proofs.Common.{[], ◌∷◌, ◌++◌, zero, suc, Some, slice_get, inl, inr, Result, Ok, Err, IfOk, OnOk}
 use Rattle.std.proofs.lemmas.Bool.{cases_eq}
+use Rattle.stop_history.specs.declared.actor.Actor.{Actor}
+use Rattle.stop_history.specs.declared.actor.Actor.TheVariants.{Tracee, Tracer}
 use Rattle.stop_history.specs.Word.{word_at}
-use Rattle.tracer_workers.specs.Scheduled.{CameTo}
+use Rattle.tracer_workers.specs.Scheduled.{CameTo, GoesOnBy, MovedBy}
 use Rattle.record_printer.specs.Represents.{Represents as HasCome}
 use Rattle.stop_board.specs.World.{Contents}
 use Rattle.stop_table.specs.Entry.{Entry, history_of}
@@ -12,6 +14,7 @@ use Rattle.trace_script.specs.CaseFile.{CaseContent}
 use Rattle.tracer_workers.specs.Config.{plan_of}
 use Rattle.tracer_workers.specs.Scheduled.{IsKept, IsOver, KeptRow, Moved, RunState, Stands, events_left, run_left, total}
 use Rattle.tracer_workers.specs.Turn.{HasClaimed, HasGone, HasRunOut, HasTurned, HaveRunOut, IsResting, new_row}
+use Rattle.tracer_workers.proofs.OneActor.{by_more}
 use Rattle.tracer_workers.proofs.RunEnd.{run_over}
 
 -- the World alone says how many events are left
@@ -27,10 +30,27 @@ pub moved_from : (content : CaseContent) (run mid new : RunState) (h : List Entr
     → Moved content mid new h → Moved content run new h
 moved_from content run mid new h left moved = moved_on content run mid new h h (omega (arith, left)) moved
 
+-- the same by one actor
+pub moved_by_on : (actor : Actor) (content : CaseContent) (run mid new : RunState) (h later : List Entry)
+    → run_left mid ≤ run_left run → GoesOnBy actor h later → MovedBy actor content mid new later
+    → MovedBy actor content run new h
+moved_by_on actor content run mid new h later fewer on moved =
+    let less = moved.2 in (moved.0, moved.1, omega (arith, fewer, less), by_more actor h later moved.0 on moved.3)
+
+pub moved_by_from : (actor : Actor) (content : CaseContent) (run mid new : RunState) (h : List Entry)
+    → run_left mid ≡ run_left run → MovedBy actor content mid new h → MovedBy actor content run new h
+moved_by_from actor content run mid new h left moved =
+    let less = moved.2 in (moved.0, moved.1, omega (arith, left, less), moved.3)
+
+-- whose turn it was does not matter to a round
+whoever_moved : (actor : Actor) (content : CaseContent) (run new : RunState) (h : List Entry)
+    → MovedBy actor content run new h → Moved content run new h
+whoever_moved actor content run new h moved = (moved.0, moved.1, moved.2)
+
 -- a turn tells nothing of what its tracee had done before it in the same turn
 pub turned_from : (content : CaseContent) (run mid new : RunState) (h : List Entry) (row : ℕ) (moved : Bool)
     → run_left mid ≡ run_left run → HasTurned content mid new h row moved → HasTurned content run new h row moved
-turned_from content run mid new h row true same turned = moved_from content run mid new h same turned
+turned_from content run mid new h row true same turned = moved_by_from (Tracee row) content run mid new h same turned
 turned_from content run mid new h row false same turned = (turned.0, turned.1 ∙ same, turned.2)
 
 pub if_ok : {A E : Type 0} {P Q : A → Type 0} (r : Result A E) → ((a : A) → P a → Q a) → IfOk r P → IfOk r Q
@@ -68,18 +88,21 @@ pub turned_stands : (content : CaseContent) (run new : RunState) (h : List Entry
 turned_stands content run new h row true turned = (turned.0, turned.1)
 turned_stands content run new h row false turned = (h, turned.0)
 
-pub pair_on : (content : CaseContent) (run mid new : RunState) (h : List Entry) (row : ℕ) (turned claimed : Bool)
+pub pair_on : (content : CaseContent) (run mid new : RunState) (h : List Entry) (row tracer : ℕ) (turned claimed : Bool)
     → HasTurned content run mid h row turned
-    → ((later : List Entry) → Stands content mid later → HasClaimed content mid new later row claimed)
+    → ((later : List Entry) → Stands content mid later → HasClaimed content mid new later row tracer claimed)
     → HasRunOut content run new h row (turned || claimed)
-pair_on content run mid new h row true true turned got =
-    let less = turned.2 in moved_on content run mid new h turned.0 (omega (arith, less)) (got turned.0 turned.1)
-pair_on content run mid new h row true false turned got =
+pair_on content run mid new h row tracer true true turned got =
+    let less = turned.2 in
+    moved_on content run mid new h turned.0 (omega (arith, less))
+    (whoever_moved (Tracer tracer) content mid new turned.0 (got turned.0 turned.1))
+pair_on content run mid new h row tracer true false turned got =
     let less = turned.2 in
     let stays = got turned.0 turned.1 in
     let left = stays.1 in (turned.0, stays.0, omega (arith, less, left))
-pair_on content run mid new h row false true turned got = moved_from content run mid new h turned.1 (got h turned.0)
-pair_on content run mid new h row false false turned got =
+pair_on content run mid new h row tracer false true turned got =
+    moved_from content run mid new h turned.1 (whoever_moved (Tracer tracer) content mid new h (got h turned.0))
+pair_on content run mid new h row tracer false false turned got =
     let stays = got h turned.0 in (stays.0, stays.1 ∙ turned.1, (turned.2, stays.2))
 
 -- ---- as far as a row goes

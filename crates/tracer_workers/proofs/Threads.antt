@@ -7,11 +7,8 @@ use Rattle.stop_table.specs.Opening.{new_tracee}
 use Rattle.stop_table.specs.Tracee.{TraceeHandle}
 use Rattle.stop_table.specs.Tracer.{TracerHandle, held_rows}
 use Rattle.stop_table.specs.View.{View, actors_of}
-use Rattle.trace_script.specs.CaseFacts.{IsCase}
-use Rattle.trace_script.specs.CaseFile.{CaseContent}
 use Rattle.trace_script.specs.StopTrace.{Position}
-use Rattle.tracer_workers.specs.Config.{plan_of}
-use Rattle.tracer_workers.specs.Plan.{opening_of}
+use Rattle.tracer_workers.specs.Plan.{IsCasePlan, Plan, opening_of}
 use Rattle.tracer_workers.specs.TraceeThread.{IsToStart}
 use Rattle.tracer_workers.specs.Threaded.{CanRun, HasRun, HasWorked}
 use Rattle.tracer_workers.specs.WorkerThread.{AreOverForGood, HasServed}
@@ -24,8 +21,8 @@ pub left_alone : (a : TraceeHandle) (p : Position) → CanRun a p → HasRun a p
 left_alone a p can = record {
   same = (refl, refl, record { roster = refl; tracees = refl; tracers = refl; number = refl });
   idle = can.0;
-  driven = λ config content start.
-      driven_on (actors_of a.view) (plan_of config content) [] a.view.seen
+  driven = λ plan start.
+      driven_on (actors_of a.view) plan [] a.view.seen
       (none_own (actors_of a.view) a.view.seen start.silent) tt;
 }
 
@@ -61,12 +58,11 @@ done_worked config a b v w pieces short table before after served over = (
 )
 
 -- a new tracee can begin with the machine of its row
-pub to_start : (config : Config) (content : CaseContent) (id : TableId) (row : ℕ) (e : TraceeHandle) (p : Position)
-    → IsCase content → e ≡ new_tracee id content.rows row → p ≡ opening_of (plan_of config content) row
-    → IsToStart config content e p
-to_start config content id row e p known is opening = record {
+pub to_start : (plan : Plan) (id : TableId) (row : ℕ) (e : TraceeHandle) (p : Position) → IsCasePlan plan
+    → e ≡ new_tracee id plan.rows row → p ≡ opening_of plan row → IsToStart plan e p
+to_start plan id row e p known is opening = record {
   known = known;
   rows = ap (λ (t : TraceeHandle). t.view.roster) is;
   silent = ap (λ (t : TraceeHandle). own_events t.view) is;
-  opening = opening ∙ ap (opening_of (plan_of config content)) (sym (ap (λ (t : TraceeHandle). t.row) is));
+  opening = opening ∙ ap (opening_of plan) (sym (ap (λ (t : TraceeHandle). t.row) is));
 }

@@ -27,22 +27,19 @@ use Rattle.stop_table.specs.Tracee.{IsTraceeHandle, TraceeHandle}
 use Rattle.stop_table.specs.View.{actors_of, is_among}
 use Rattle.stop_table.proofs.Own.{own_stays, same_actors}
 use Rattle.stop_table.proofs.Walking.{itself, looked_on}
-use Rattle.trace_script.specs.CaseFile.{CaseContent}
 use Rattle.trace_script.specs.Machine.{IsAnswer}
 use Rattle.trace_script.specs.StopTrace.{DeathIs, Element, FaultIs, Position, StopIs, context_of, next_element}
 use Rattle.trace_script.specs.StopTrace.{next_position, position_after}
 use Rattle.trace_script.specs.declared.next.Next.{Next}
 use Rattle.trace_script.specs.declared.next.Next.TheVariants as next
 use Rattle.tracer_workers.specs.CaseText.{death_after}
-use Rattle.tracer_workers.specs.Config.{plan_of}
 use Rattle.tracer_workers.specs.Driven.{IsDeathOf, element_after, position_at, restart_after, restart_at}
 use Rattle.tracer_workers.specs.DrivenBy.{AreDrivenBy}
 use Rattle.tracer_workers.specs.Plan.{Plan, opening_of}
 use Rattle.tracer_workers.specs.TraceeThread.{HasLooked, HasTaken, IsDue, IsOnScript, IsSameTracee, IsThrough, IsToStart}
 use Rattle.tracer_workers.specs.Turn.{onward}
-use Rattle.tracer_workers.specs.declared.config.Config.{Config}
 use Rattle.tracer_workers.proofs.Fitting.{IsFit, IsNextStop, next_death, next_stop}
-use Rattle.tracer_workers.proofs.FittingCases.{fitting_case}
+use Rattle.tracer_workers.proofs.FittingCases.{fitting_plan}
 use Rattle.tracer_workers.proofs.Left.{Left, left_of, own_left}
 use Rattle.tracer_workers.proofs.OwnEntries.{driven_ends, driven_on, element_stays, none_own, onward_stays, row_fits, turns_on}
 
@@ -66,12 +63,11 @@ handle_on e f is row same legal =
 
 -- ---- the script
 
-pub script_on : (config : Config) (content : CaseContent) (e f : TraceeHandle) (p : Position) → IsTraceeHandle e
+pub script_on : (plan : Plan) (e f : TraceeHandle) (p : Position) → IsTraceeHandle e
     → f.row ≡ e.row → IsSame e.view f.view → GoesOn (actors_of e.view) e.view.seen f.view.seen
-    → IsOnScript config content e p → IsOnScript config content f p
-script_on config content e f p is row same on s =
-    let plan = plan_of config content in
-    let turns = turns_on content.rows (actors_of e.view) e.row (acts_for_row e is) e.view.seen f.view.seen on in
+    → IsOnScript plan e p → IsOnScript plan f p
+script_on plan e f p is row same on s =
+    let turns = turns_on plan.rows (actors_of e.view) e.row (acts_for_row e is) e.view.seen f.view.seen on in
     record {
       known = s.known;
       rows = same.roster ∙ s.rows;
@@ -82,12 +78,11 @@ script_on config content e f p is row same on s =
     }
 
 -- before any event
-pub script_begins : (config : Config) (content : CaseContent) (e : TraceeHandle) (p : Position) → IsTraceeHandle e
-    → IsToStart config content e p → IsOnScript config content e p
-script_begins config content e p is s =
-    let plan = plan_of config content in
+pub script_begins : (plan : Plan) (e : TraceeHandle) (p : Position) → IsTraceeHandle e → IsToStart plan e p
+    → IsOnScript plan e p
+script_begins plan e p is s =
     let on = none_own (actors_of e.view) e.view.seen s.silent in
-    let turns = turns_on content.rows (actors_of e.view) e.row (acts_for_row e is) [] e.view.seen on in
+    let turns = turns_on plan.rows (actors_of e.view) e.row (acts_for_row e is) [] e.view.seen on in
     record {
       known = s.known;
       rows = s.rows;
@@ -140,24 +135,21 @@ death_due e r old new d answer is = death_of_answer e old new d (subst (λ n. Is
 
 -- ---- what comes next
 
-module _ (config : Config) (content : CaseContent) (e : TraceeHandle) (p : Position) (how : Restart) (stop : Content)
-    (is : IsTraceeHandle e) (taken : HasTaken e how stop) (on : IsOnScript config content e p) where
-  abbrev plan : Plan
-  plan = plan_of config content
-
+module _ (plan : Plan) (e : TraceeHandle) (p : Position) (how : Restart) (stop : Content)
+    (is : IsTraceeHandle e) (taken : HasTaken e how stop) (on : IsOnScript plan e p) where
   abbrev seen : List Entry
   seen = e.view.seen
 
-  within : e.row < length content.rows
+  within : e.row < length plan.rows
   within = subst (λ rows. e.row < length rows) on.rows is.low
 
-  legal : AreLegal content.rows seen
+  legal : AreLegal plan.rows seen
   legal = subst (λ rows. AreLegal rows seen) on.rows is.legal
 
-  runs : state_after content.rows (history_of seen) e.row ≡ state.Running
+  runs : state_after plan.rows (history_of seen) e.row ≡ state.Running
   runs = subst (λ rows. state_after rows (history_of seen) e.row ≡ state.Running) on.rows taken.runs
 
-  held : stop ≡ content_after content.rows seen e.row
+  held : stop ≡ content_after plan.rows seen e.row
   held = taken.is_content ∙ ap (λ rows. content_after rows seen e.row) on.rows
 
   element_is : next_element p how (context_of stop) ≡ element_after plan seen e.row
@@ -166,9 +158,9 @@ module _ (config : Config) (content : CaseContent) (e : TraceeHandle) (p : Posit
   onward_is : next_position p how (context_of stop) ≡ onward plan seen e.row
   onward_is = λ i. next_position (on.position i) (taken.restart i) (context_of (held i))
 
-  fits : IsFit plan e.row (left_of content.rows seen e.row)
+  fits : IsFit plan e.row (left_of plan.rows seen e.row)
   fits =
-      row_fits plan (fitting_case config content on.known) (actors_of e.view) e.row within (acts_for_row e is) seen legal
+      row_fits plan (fitting_plan plan on.known) (actors_of e.view) e.row within (acts_for_row e is) seen legal
       on.driven
 
   range : IsResume (restart_after seen e.row)
@@ -176,27 +168,27 @@ module _ (config : Config) (content : CaseContent) (e : TraceeHandle) (p : Posit
 
   -- a stop is one that the row may make
   pub next_is_stop : (c : Content) → next_element p how (context_of stop) ≡ StopIs c
-      → IsNextStop plan e.row (left_of content.rows seen e.row) (onward plan seen e.row) c
+      → IsNextStop plan e.row (left_of plan.rows seen e.row) (onward plan seen e.row) c
   next_is_stop c due =
-      next_stop plan e.row (left_of content.rows seen e.row) fits (restart_after seen e.row)
-      (context_of (content_after content.rows seen e.row)) c range (sym element_is ∙ due)
+      next_stop plan e.row (left_of plan.rows seen e.row) fits (restart_after seen e.row)
+      (context_of (content_after plan.rows seen e.row)) c range (sym element_is ∙ due)
 
-  pub next_is_death : (d : Death) → next_element p how (context_of stop) ≡ DeathIs d → IsDeath d × IsDue config content e d
+  pub next_is_death : (d : Death) → next_element p how (context_of stop) ≡ DeathIs d → IsDeath d × IsDue plan e d
   next_is_death d due =
       let now = sym element_is ∙ due in (
-        next_death plan e.row (left_of content.rows seen e.row) fits (restart_after seen e.row)
-            (context_of (content_after content.rows seen e.row)) d range now,
+        next_death plan e.row (left_of plan.rows seen e.row) fits (restart_after seen e.row)
+            (context_of (content_after plan.rows seen e.row)) d range now,
         subst (λ x. IsDeathOf x d) (sym now) refl,
       )
 
   -- the script goes on by the stop
   pub publishes : (f : TraceeHandle) (before : List Entry) (c : Content) (q : Position)
       → next_element p how (context_of stop) ≡ StopIs c → q ≡ next_position p how (context_of stop) → f.row ≡ e.row
-      → EndsWith e.view f.view before (publish_of e.row c) → IsOnScript config content f q
+      → EndsWith e.view f.view before (publish_of e.row c) → IsOnScript plan f q
   publishes f before c q due to row made =
       let x = publish_of e.row c in
-      let now : AreLegal content.rows (x ∷ before) =
-      subst (AreLegal content.rows) made.seen
+      let now : AreLegal plan.rows (x ∷ before) =
+      subst (AreLegal plan.rows) made.seen
       (subst (λ rows. AreLegal rows f.view.seen) (made.same.roster ∙ on.rows) made.legal) in
       let element = element_stays plan (actors_of e.view) seen before e.row (acts_for_row e is) now.1 made.goes_on within
       runs in
@@ -206,22 +198,21 @@ module _ (config : Config) (content : CaseContent) (e : TraceeHandle) (p : Posit
         rows = made.same.roster ∙ on.rows;
         driven = driven_ends plan e.view f.view before x made (element ∙ sym element_is ∙ due, tt) on.driven;
         position = to ∙ onward_is ∙ sym went
-            ∙ sym (ap (λ (a : Left). position_after (opening_of plan e.row) a.turns) (own_left content.rows x before e.row refl))
+            ∙ sym (ap (λ (a : Left). position_after (opening_of plan e.row) a.turns) (own_left plan.rows x before e.row refl))
             ∙ sym (λ i. position_at plan (made.seen i) (row i));
       }
 
 -- ---- the end
 
 -- the death that came next is the row's
-pub ends_driven : (config : Config) (content : CaseContent) (e f : TraceeHandle) (p : Position) (how : Restart) (stop : Content)
-    (before : List Entry) (d : Death) → IsTraceeHandle e → HasTaken e how stop → IsOnScript config content e p
-    → IsDue config content e d → EndsWith e.view f.view before (bare (event.Exit e.row d))
-    → AreDrivenBy (actors_of f.view) (plan_of config content) f.view.seen
-ends_driven config content e f p how stop before d is taken on due made =
-    let plan = plan_of config content in
+pub ends_driven : (plan : Plan) (e f : TraceeHandle) (p : Position) (how : Restart) (stop : Content)
+    (before : List Entry) (d : Death) → IsTraceeHandle e → HasTaken e how stop → IsOnScript plan e p
+    → IsDue plan e d → EndsWith e.view f.view before (bare (event.Exit e.row d))
+    → AreDrivenBy (actors_of f.view) plan f.view.seen
+ends_driven plan e f p how stop before d is taken on due made =
     let x = bare (event.Exit e.row d) in
-    let now : AreLegal content.rows (x ∷ before) =
-    subst (AreLegal content.rows) made.seen
+    let now : AreLegal plan.rows (x ∷ before) =
+    subst (AreLegal plan.rows) made.seen
     (subst (λ rows. AreLegal rows f.view.seen) (made.same.roster ∙ on.rows) made.legal) in
     let within = subst (λ rows. e.row < length rows) on.rows is.low in
     let runs = subst (λ rows. state_after rows (history_of e.view.seen) e.row ≡ state.Running) on.rows taken.runs in
@@ -256,17 +247,16 @@ pub record RunsOn (e f : TraceeHandle) (p q : Position) : Type 0 where
   pub handle : IsTraceeHandle f
   pub idle : f.view.taken ≡ false
   pub same : IsSameTracee e f
-  pub script : (config : Config) (content : CaseContent) → IsOnScript config content e p → IsOnScript config content f q
+  pub script : (plan : Plan) → IsOnScript plan e p → IsOnScript plan f q
 
 pub runs_from : (e : TraceeHandle) (p : Position) → IsTraceeHandle e → e.view.taken ≡ false → RunsOn e e p p
 runs_from e p is idle =
-    record { handle = is; idle = idle; same = (refl, refl, itself e.view); script = λ config content on. on }
+    record { handle = is; idle = idle; same = (refl, refl, itself e.view); script = λ plan on. on }
 
 -- a row that is taken up is where it was in its script
 module _ (e f : TraceeHandle) (is : IsTraceeHandle e) (row : f.row ≡ e.row) (grows : Grows e.view f.view) where
   pub taken_handle : IsTraceeHandle f
   taken_handle = handle_on e f is row grows.same grows.legal
 
-  pub taken_script : (config : Config) (content : CaseContent) (p : Position) → IsOnScript config content e p
-      → IsOnScript config content f p
-  taken_script config content p on = script_on config content e f p is row grows.same grows.goes_on on
+  pub taken_script : (plan : Plan) (p : Position) → IsOnScript plan e p → IsOnScript plan f p
+  taken_script plan p on = script_on plan e f p is row grows.same grows.goes_on on

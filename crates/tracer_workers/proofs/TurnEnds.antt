@@ -12,6 +12,7 @@ use Rattle.record_printer.specs.StopNote.{stop_note}
 use Rattle.trace_script.specs.StopTrace.{Position, StopIs}
 use Rattle.record_printer.specs.Represents.{Represents as HasCome}
 use Rattle.tracer_workers.specs.Scheduled.{CameTo}
+use Rattle.stop_history.specs.declared.actor.Actor.TheVariants.{Tracee}
 use Rattle.stop_history.specs.declared.limits.TheConstants.{LAST_NUMBER}
 use Rattle.stop_history.specs.declared.state.State.TheVariants as state
 use Rattle.stop_history.specs.Event as event
@@ -24,10 +25,11 @@ use Rattle.trace_script.specs.CaseFile.{CaseContent}
 use Rattle.tracer_workers.specs.Config.{plan_of, show_of}
 use Rattle.tracer_workers.specs.Driven.{IsDeathOf, element_after}
 use Rattle.tracer_workers.specs.HistoryPieces.{pieces_of, stop_piece}
-use Rattle.tracer_workers.specs.Scheduled.{IsHeldOrIdle, IsKept, IsReady, KeptRow, Moved, RunState, Stands}
+use Rattle.tracer_workers.specs.Scheduled.{IsHeldOrIdle, IsKept, IsReady, KeptRow, MovedBy, RunState, Stands}
 use Rattle.tracer_workers.specs.Turn.{HasDied, HasStopped, onward, with_next, with_number, with_row}
 use Rattle.tracer_workers.proofs.Fewer.{fewer_left, index_of_get}
 use Rattle.tracer_workers.proofs.Made.{free_on, made_on}
+use Rattle.tracer_workers.proofs.OneActor.{by_one}
 use Rattle.tracer_workers.proofs.RunSteps.{exit_goes, last_most, not_held, publish_by_ok, publish_goes, stop_due}
 use Rattle.tracer_workers.proofs.TurnStarts.{kept_ready}
 use Rattle.tracer_workers.proofs.Taken.{death_taken, stop_taken}
@@ -104,7 +106,7 @@ module _ (content : CaseContent) (before : RunState) (h : List Entry) (row : ℕ
       → HasCome new.folder (stop_piece (show_of before.config) c ∷ pieces_of (show_of before.config) content.rows h)
       → new.folder.rows ≡ before.folder.rows
       → new.rows ≡ slice_set (slice_set before.rows row stopped) row (with_number stopped (last_number (history_of h) row + 1))
-      → Moved content (with_row before row stopped) new h
+      → MovedBy (Tracee row) content (with_row before row stopped) new h
   stopped_moves new config world world_rows folder folder_rows rows =
       let made = stands.0 in
       let last = with_number stopped (last_number (history_of h) row + 1) in
@@ -133,6 +135,7 @@ module _ (content : CaseContent) (before : RunState) (h : List Entry) (row : ℕ
         x ∷ h,
         (made_on content before new h x made goes, free_on content.rows h x stands.1 refl),
         fewer_left content before new h x made goes next.few,
+        by_one (Tracee row) x h refl,
       )
 
 pub can_publish : (content : CaseContent) (run : RunState) (h : List Entry) (row : ℕ) (c : Content)
@@ -149,10 +152,10 @@ pub publish_moves : (content : CaseContent) (run new : RunState) (h : List Entry
     → new.folder.rows ≡ run.folder.rows
     → new.rows ≡ slice_set run.rows row
     (with_number (with_next s.k c (onward (plan_of s.before.config content) h row)) (last_number (history_of h) row + 1))
-    → Moved content run new h
+    → MovedBy (Tracee row) content run new h
 publish_moves content run new h row c s config world world_rows folder folder_rows rows =
     let k = with_next s.k c (onward (plan_of s.before.config content) h row) in
-    let at : RunState → Type 0 = λ r. Moved content r new h in
+    let at : RunState → Type 0 = λ r. MovedBy (Tracee row) content r new h in
     subst at (sym s.is)
     (stopped_moves content s.before h row c s.stands s.within s.runs s.due s.k s.there new
     (config ∙ ap (λ (r : RunState). r.config) s.is) world (world_rows ∙ ap (λ (r : RunState). r.world.rows) s.is)
@@ -212,7 +215,7 @@ module _ (content : CaseContent) (before : RunState) (h : List Entry) (row : ℕ
       → HasCome new.folder (Died it.tid it.number death ∷ pieces_of (show_of before.config) content.rows h)
       → new.folder.rows ≡ before.folder.rows
       → new.rows ≡ slice_set before.rows row dead
-      → Moved content (with_row before row dead) new h
+      → MovedBy (Tracee row) content (with_row before row dead) new h
   death_moves new config answer world world_rows it is folder folder_rows rows =
       let made = stands.0 in
       let x = bare (event.Exit row death) in
@@ -234,6 +237,7 @@ module _ (content : CaseContent) (before : RunState) (h : List Entry) (row : ℕ
         x ∷ h,
         (made_on content before new h x made goes, free_on content.rows h x stands.1 refl),
         fewer_left content before new h x made goes (last_most content before h row made within),
+        by_one (Tracee row) x h refl,
       )
 
 -- ---- the row at the place
@@ -282,10 +286,10 @@ pub end_moves : (content : CaseContent) (run new : RunState) (h : List Entry) (r
     → HasCome new.folder (Died (died_row s).tid (died_row s).number death ∷ pieces_of (show_of run.config) content.rows h)
     → new.folder.rows ≡ run.folder.rows
     → new.rows ≡ run.rows
-    → Moved content run new h
+    → MovedBy (Tracee row) content run new h
 end_moves content run new h row death s config answer world world_rows folder folder_rows rows =
     let k = died_row s in
-    subst (λ r. Moved content r new h) (sym s.is)
+    subst (λ r. MovedBy (Tracee row) content r new h) (sym s.is)
     (death_moves content s.before h row death s.stands s.within s.runs s.due s.range s.k s.there s.new_content s.at new
     (config ∙ ap (λ (r : RunState). r.config) s.is)
     (ap (λ rows. exit_answer rows (history_of h) row) (sym (ap (λ (r : RunState). r.world.rows) s.is ∙ s.stands.0.world_rows))

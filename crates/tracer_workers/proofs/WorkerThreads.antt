@@ -38,6 +38,7 @@ use Rattle.trace_options.specs.declared.errno.Errno.{Errno}
 use Rattle.trace_options.specs.declared.errno.Errno.TheVariants as errno
 use Rattle.trace_calls.specs.Waiting.{Reports}
 use Rattle.trace_calls.proofs.Keeping.{claim_at, free_row, keeps_beside, keeps_look}
+use Rattle.trace_record.specs.Content.{Content}
 use Rattle.trace_record.specs.Death.{IsDeath, death_status}
 use Rattle.trace_record.specs.Resume.{IsResume}
 use Rattle.trace_record.specs.Stop.{stop_status}
@@ -51,16 +52,16 @@ use Rattle.trace_status.specs.WaitStatus.{Encodes, pid_of}
 use Rattle.trace_status.specs.declared.wait_status.WaitStatus.{WaitStatus}
 use Rattle.trace_status.specs.declared.wait_status.WaitStatus.TheVariants as status
 use Rattle.tracer_workers.specs.Config.{plan_of, policy_of, show_of}
+use Rattle.tracer_workers.specs.Driven.{IsRestarted, IsTraced}
 use Rattle.tracer_workers.specs.DrivenBy.{AreDrivenBy}
 use Rattle.tracer_workers.specs.HistoryPieces.{stop_piece}
-use Rattle.tracer_workers.specs.WorkerThread.{AreKept, AreOverForGood, HasReaped, HasServed, HasWaited, Holds, IsOf}
-use Rattle.tracer_workers.specs.WorkerThread.{Restarts, RestartsByPolicy}
+use Rattle.tracer_workers.specs.WorkerThread.{AreKept, AreOverForGood, AreServices, HasReaped, HasServed, HasWaited}
+use Rattle.tracer_workers.specs.WorkerThread.{Holds, IsOf, IsService, Restarts, RestartsByPolicy}
 use Rattle.tracer_workers.specs.WorkerThread.{claimed_piece, death_in, own_pieces, pieces_claimed, pieces_with}
 use Rattle.tracer_workers.specs.declared.config.Config.{Config}
 use Rattle.tracer_workers.proofs.AfterClaim.{not_by_claim}
 use Rattle.tracer_workers.proofs.Claims.{last_stop, mode_in_range}
 use Rattle.tracer_workers.proofs.Fitting.{IsNewestInRange, newest_in_range}
-use Rattle.tracer_workers.proofs.OwnEntries.{driven_ends, driven_on}
 use Rattle.tracer_workers.proofs.TurnEnds.{get_set_same}
 
 -- ---- the pieces of a tracer's claims
@@ -237,6 +238,72 @@ no_row f start (suc count) none =
 pub all_free : (v : View) → ((row : ℕ) → row < length v.roster → is_held v row ≡ false) → held_rows v ≡ []
 all_free v free = no_row (is_held v) 0 (length v.roster) (λ k low high. free k (omega arith))
 
+-- ---- restarts by the policy
+
+-- entries of others are no services
+services_quiet : (config : Config) (rows : List Row) (actors : Actor → Bool) (quiet more h : List Entry)
+    → IsQuiet actors (history_of quiet) → AreServices config rows actors more h
+    → AreServices config rows actors (quiet ++ more) h
+services_quiet config rows actors [] more h quiet services = services
+services_quiet config rows actors (x ∷ rest) more h quiet services = (
+  λ own. let clash : true ≡ false = sym own ∙ quiet.0 in cc,
+  services_quiet config rows actors rest more h quiet.1 services,
+)
+
+-- what a handle has done up to a history
+abbrev HasServedTo : Config → View → List Entry → Type 0
+HasServedTo config u h =
+    (more : List Entry) × (h ≡ more ++ u.seen) × AreServices config u.roster (actors_of u) more u.seen
+
+restarts_on : (config : Config) (u v : View) (h : List Entry) → IsSame u v → GoesOn (actors_of v) v.seen h
+    → RestartsByPolicy config u v → HasServedTo config u h
+restarts_on config u v h same on r =
+    let quiet = subst (λ actors. GoesOn actors v.seen h) (same_actors u v same) on in (
+      quiet.0 ++ r.0,
+      quiet.1 ∙ ap (λ seen. quiet.0 ++ seen) r.1 ∙ sym (append_assoc quiet.0 r.0 u.seen),
+      services_quiet config u.roster (actors_of u) quiet.0 r.0 u.seen quiet.2 r.2,
+    )
+
+-- one service more
+restarts_end : (config : Config) (u v w : View) (before : List Entry) (x : Entry) → IsSame u v → EndsWith v w before x
+    → IsService config u.roster before x.event → RestartsByPolicy config u v → RestartsByPolicy config u w
+restarts_end config u v w before x same made service r =
+    let on = restarts_on config u v before same made.goes_on r in (
+      x ∷ on.0,
+      made.seen ∙ ap (λ seen. x ∷ seen) on.1,
+      (λ own. subst (λ seen. IsService config u.roster seen x.event) on.1 service, on.2),
+    )
+
+-- services are those of a driven run
+service_driven : (config : Config) (content : CaseContent) (h : List Entry) (e : Event) (carried : Content)
+    → IsService config content.rows h e
+    → IsTraced (plan_of config content) h e carried × IsRestarted (plan_of config content) h e
+service_driven config content h (event.Claim row number tracer) carried service = (tt, tt)
+service_driven config content h (event.Resume row number how tracer) carried service = (tt, service)
+service_driven config content h (event.Publish row number stop) carried service = absurd service
+service_driven config content h (event.Exit row death) carried service = absurd service
+
+services_driven : (config : Config) (content : CaseContent) (actors : Actor → Bool) (more h : List Entry)
+    → AreServices config content.rows actors more h → AreDrivenBy actors (plan_of config content) h
+    → AreDrivenBy actors (plan_of config content) (more ++ h)
+services_driven config content actors [] h services driven = driven
+services_driven config content actors (x ∷ more) h services driven = (
+  λ own. service_driven config content (more ++ h) x.event x.content (services.0 own),
+  services_driven config content actors more h services.1 driven,
+)
+
+-- so what a handle's tracers had driven before stays driven
+pub stays_driven : (config : Config) (content : CaseContent) (v w : View) → content.rows ≡ v.roster → IsSame v w
+    → RestartsByPolicy config v w → AreDrivenBy (actors_of v) (plan_of config content) v.seen
+    → AreDrivenBy (actors_of w) (plan_of config content) w.seen
+stays_driven config content v w rows same r driven =
+    let plan = plan_of config content in
+    let services =
+    subst (λ rows. AreServices config rows (actors_of v) r.0 v.seen) (sym rows) r.2 in
+    subst (λ actors. AreDrivenBy actors plan w.seen) (sym (same_actors v w same))
+    (subst (AreDrivenBy (actors_of v) plan) (sym r.1)
+    (services_driven config content (actors_of v) r.0 v.seen services driven))
+
 -- ---- what a wait has claimed
 
 module _ (v : View) (b : CallsHandle) (s : WaitStatus) (mine : is_among v.number v.tracers ≡ true)
@@ -371,8 +438,8 @@ module _ (v : View) (b : CallsHandle) (s : WaitStatus) (mine : is_among v.number
         | inr apart ↦ others row apart within
       ])
 
-  pub claim_restarts : (config : Config) → RestartsByPolicy config v w
-  claim_restarts config content rows driven = driven_ends (plan_of config content) v w before x made (tt, tt) driven
+  claim_restarts : (config : Config) (u : View) → IsSame u v → RestartsByPolicy config u v → RestartsByPolicy config u w
+  claim_restarts config u same r = restarts_end config u v w before x same made tt r
 
   -- nor is one after the restart
   pub restart_free : (config : Config) (z : View) → Restarts config w z h.row → held_rows z ≡ []
@@ -390,25 +457,22 @@ module _ (v : View) (b : CallsHandle) (s : WaitStatus) (mine : is_among v.number
             (keeps_beside w z r.0 y mine_now r.2 row apart).held ∙ others row apart (omega arith))
       ])
 
-  pub restart_driven : (config : Config) (z : View) → is_held w h.row ≡ true → Restarts config w z h.row
-      → RestartsByPolicy config w z
-  restart_driven config z held r content rows driven =
+  restart_restarts : (config : Config) (u z : View) → IsSame u w → is_held w h.row ≡ true → Restarts config w z h.row
+      → RestartsByPolicy config u w → RestartsByPolicy config u z
+  restart_restarts config u z same held r before =
       let y = bare (event.Resume h.row r.1 (policy_of config (content_after w.roster w.seen h.row)) w.number) in
       let mine_now : is_among w.number w.tracers ≡ true =
       (λ i. is_among (made.same.number i) (made.same.tracers i)) ∙ mine in
       let now : AreLegal w.roster (y ∷ r.0) =
       subst (AreLegal w.roster) r.2.seen (subst (λ roster. AreLegal roster z.seen) r.2.same.roster r.2.legal) in
       let cell = (claim_at w r.0 mine_now now.1 r.2.goes_on h.row).1 held in
-      let same : content_after w.roster w.seen h.row ≡ content_after content.rows r.0 h.row =
-      sym (ap (λ (c : Cell). c.content) cell) ∙ ap (λ roster. content_after roster r.0 h.row) (sym rows) in
-      driven_ends (plan_of config content) w z r.0 y r.2 (tt, ap (policy_of config) same) driven
+      let stays : content_after w.roster w.seen h.row ≡ content_after u.roster r.0 h.row =
+      sym (ap (λ (c : Cell). c.content) cell) ∙ ap (λ roster. content_after roster r.0 h.row) same.roster in
+      restarts_end config u w z r.0 y same r.2 (ap (policy_of config) stays) before
 
   -- what was served is more
   module _ (config : Config) (u : View) (kept more : List Piece) (short later : Bool)
       (served : HasServed config u v kept short) where
-    rows_of : (content : CaseContent) → content.rows ≡ u.roster → content.rows ≡ v.roster
-    rows_of content rows = rows ∙ sym served.same.roster
-
     pub served_death : (tid : ℕ) → pid_of s ≡ Some tid → (d : Death) → death_in s ≡ Some d
         → AreKept (own_pieces (show_of config) u) (own_pieces (show_of config) v ++ Died tid h.number d ∷ []) more later
         → HasServed config u w more later
@@ -417,8 +481,7 @@ module _ (v : View) (b : CallsHandle) (s : WaitStatus) (mine : is_among v.number
       free = death_free d dies;
       pieces = subst (λ all. AreKept (own_pieces (show_of config) u) all more later)
           (sym (death_kept (show_of config) tid says d dies)) k;
-      restarts = λ content rows driven.
-          claim_restarts config content (rows_of content rows) (served.restarts content rows driven);
+      restarts = claim_restarts config u served.same served.restarts;
     }
 
     pub served_stop : (tid : ℕ) → pid_of s ≡ Some tid → death_in s ≡ None → (z : View) → Restarts config w z h.row
@@ -436,9 +499,8 @@ module _ (v : View) (b : CallsHandle) (s : WaitStatus) (mine : is_among v.number
           same = same_trans u w z (same_trans u v w served.same made.same) r.2.same;
           free = restart_free config z r;
           pieces = subst (λ all. AreKept (own_pieces (show_of config) u) all more later) (sym all) k;
-          restarts = λ content rows driven.
-              restart_driven config z (holds tid says silent).1 r content (rows_of content rows ∙ sym made.same.roster)
-              (claim_restarts config content (rows_of content rows) (served.restarts content rows driven));
+          restarts = restart_restarts config u z (same_trans u v w served.same made.same) (holds tid says silent).1 r
+              (claim_restarts config u served.same served.restarts);
         }
 
 -- ---- a tracer's handle
@@ -563,7 +625,7 @@ served_none config v none = record {
     all = sym (append-nil (own_pieces (show_of config) v ++ []) ∙ append-nil (own_pieces (show_of config) v));
     whole = λ whole. refl;
   };
-  restarts = λ content rows driven. driven;
+  restarts = ([], refl, tt);
 }
 
 pub served_look : (config : Config) (u v w : View) (kept : List Piece) (short : Bool) → is_among v.number v.tracers ≡ true
@@ -577,8 +639,5 @@ served_look config u v w kept short mine looked served =
           ∙ free_row v served.free row (let long = ap length same.roster in omega (arith, within, long)));
       pieces = subst (λ all. AreKept (own_pieces (show_of config) u) all kept short)
           (sym (pieces_look (show_of config) v w mine looked.grows)) served.pieces;
-      restarts = λ content rows driven.
-          subst (λ actors. AreDrivenBy actors (plan_of config content) w.seen) (sym (same_actors v w same))
-          (driven_on (actors_of v) (plan_of config content) v.seen w.seen looked.grows.goes_on
-          (served.restarts content rows driven));
+      restarts = restarts_on config u v w.seen served.same looked.grows.goes_on served.restarts;
     }

@@ -1,18 +1,16 @@
 -- How a case is traced and printed: the options and the filter of its tracees, the restarts, what is shown, and the text
 -- (ptrace(2), PTRACE_SETOPTIONS; seccomp(2); strace(1)).
 use Rattle.std.specs.Prelude.{◌+◌, ℕ, Bool, false, List, if◌then◌else◌}
-use Rattle.stop_history.specs.Roster.{row_at}
 use Rattle.trace_options.specs.Options.{option_bits}
 use Rattle.trace_options.specs.declared.filter.Filter.{Filter}
 use Rattle.trace_options.specs.declared.options.Options.{Options}
 use Rattle.trace_options.specs.declared.options.TheConstants.Options.{TRACECLONE, TRACEEXEC, TRACEFORK, TRACESECCOMP}
 use Rattle.trace_options.specs.declared.options.TheConstants.Options.{TRACESYSGOOD}
-use Rattle.trace_script.specs.CaseFile.{CaseContent, script_at}
+use Rattle.trace_script.specs.CaseFile.{CaseContent}
 use Rattle.trace_script.specs.StopTrace.{Policy}
 use Rattle.record_printer.specs.declared.show.Show.{Show}
 use Rattle.tracer_workers.specs.CaseText.{case_text}
-use Rattle.tracer_workers.specs.Modes.{setting}
-use Rattle.tracer_workers.specs.Plan.{Plan}
+use Rattle.tracer_workers.specs.Plan.{Plan, case_plan}
 use Rattle.tracer_workers.specs.Policy.{plain_policy, seccomp_policy}
 use Rattle.tracer_workers.specs.Printing.{printed_lines}
 use Rattle.tracer_workers.specs.declared.config.Config.{Config}
@@ -38,12 +36,7 @@ show_of config = record { limit = config.limit; calls = config.shown }
 
 -- the case as it is traced
 abbrev pub plan_of : Config → CaseContent → Plan
-plan_of config content = record {
-  rows = content.rows;
-  script = script_at content.scripts;
-  setting = λ row. setting (row_at content.rows row).tid (options_of config) (filter_of config);
-  policy = policy_of config;
-}
+plan_of config content = case_plan content (options_of config) (filter_of config) (policy_of config)
 
 -- the text of the case
 abbrev pub text_of : Config → CaseContent → List ℕ

@@ -78,6 +78,15 @@ pub record IsLost (rows : List Row) (views : List View) (pieces : List Piece) : 
   pub goes_on : GoesOnFrom views history
   pub lost_there : HasUnreaped rows history ⊎ ¬ AreWhole rows pieces
 
+-- ---- what is all there
+
+-- in a legal history that begins with all that was seen, each row that was born has been reaped
+pub record IsAllReaped (rows : List Row) (views : List View) : Type 0 where
+  pub history : List Entry
+  pub legal : AreLegal rows history
+  pub goes_on : GoesOnFrom views history
+  pub reaped : AreReaped rows history
+
 -- ---- looks at the end
 
 -- a row that a look shows unborn or reaped

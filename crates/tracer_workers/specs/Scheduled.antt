@@ -1,7 +1,10 @@
 -- A run of a case on a schedule: what is kept of it, and the history that it has made (strace(1), `-f`).
-use Rattle.std.specs.Prelude.{◌≡◌, ◌≢◌, ◌⊎◌, ◌<◌, ◌+◌, ◌-◌, ◌*◌, ℕ, zero, suc, Bool, true, false, List, Option, None, Some, length, slice_get}
+use Rattle.std.specs.Prelude.{◌≡◌, ◌≢◌, ◌⊎◌, ◌<◌, ◌+◌, ◌-◌, ◌*◌, ◌++◌, ℕ, zero, suc, Bool, true, false, List, Option}
+use Rattle.std.specs.Prelude.{All, None, Some, length, slice_get}
 use Rattle.record_printer.specs.Represents.{Folded, Represents as HasCome}
 use Rattle.stop_board.specs.World.{Contents, Moment, StandsAt}
+use Rattle.stop_history.specs.Actor.{actor_of}
+use Rattle.stop_history.specs.declared.actor.Actor.{Actor}
 use Rattle.stop_history.specs.declared.phase.Phase.{Phase}
 use Rattle.stop_history.specs.declared.phase.Phase.TheVariants as phase
 use Rattle.stop_history.specs.declared.state.State.TheVariants as state
@@ -140,6 +143,16 @@ run_left run = total (λ row. events_left (word_at run.world.words row)) (length
 -- an event came of a turn: the history has gone on, and fewer events are left
 abbrev pub Moved : CaseContent → RunState → RunState → List Entry → Type 0
 Moved content run new h = (later : List Entry) × Stands content new later × (run_left new < run_left run)
+
+-- a history goes on from another by events of one actor
+abbrev pub GoesOnBy : Actor → (sooner later : List Entry) → Type 0
+GoesOnBy actor sooner later =
+    (more : List Entry) × (later ≡ more ++ sooner) × All (λ x. actor_of x.event ≡ actor) more
+
+-- the same of a turn of this actor: the events are its own
+abbrev pub MovedBy : Actor → CaseContent → RunState → RunState → List Entry → Type 0
+MovedBy actor content run new h =
+    (later : List Entry) × Stands content new later × (run_left new < run_left run) × GoesOnBy actor h later
 
 -- a row that does not run, or whose death another row of its group holds back
 abbrev pub IsHeldOrIdle : CaseContent → List Entry → ℕ → Type 0

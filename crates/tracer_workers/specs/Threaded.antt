@@ -9,10 +9,9 @@ use Rattle.stop_history.specs.declared.roster.Row.{Row}
 use Rattle.stop_table.specs.Tracee.{TraceeHandle}
 use Rattle.stop_table.specs.Tracer.{TracerHandle}
 use Rattle.stop_table.specs.View.{View, actors_of}
-use Rattle.trace_script.specs.CaseFile.{CaseContent}
 use Rattle.trace_script.specs.StopTrace.{Position}
-use Rattle.tracer_workers.specs.Config.{plan_of}
 use Rattle.tracer_workers.specs.DrivenBy.{AreDrivenBy}
+use Rattle.tracer_workers.specs.Plan.{Plan}
 use Rattle.tracer_workers.specs.TraceeThread.{IsSameTracee, IsToStart}
 use Rattle.tracer_workers.specs.WorkerThread.{AreOverForGood, HasServed}
 use Rattle.tracer_workers.specs.declared.config.Config.{Config}
@@ -32,14 +31,13 @@ ActForAll rows views = (actor : Actor) → IsActor rows actor → list_any (λ v
 
 -- a tracee's handle that has made no event, with the machine of its row before its first stop
 abbrev pub CanRun : TraceeHandle → Position → Type 0
-CanRun e p = (e.view.taken ≡ false) × ((config : Config) × (content : CaseContent) × IsToStart config content e p)
+CanRun e p = (e.view.taken ≡ false) × ((plan : Plan) × IsToStart plan e p)
 
 -- the same handle, once its thread has come to its end: its stops and its death are those of its script
 pub record HasRun (a : TraceeHandle) (p : Position) (b : TraceeHandle) : Type 0 where
   pub same : IsSameTracee a b
   pub idle : b.view.taken ≡ false
-  pub driven : (config : Config) (content : CaseContent) → IsToStart config content a p
-      → AreDrivenBy (actors_of b.view) (plan_of config content) b.view.seen
+  pub driven : (plan : Plan) → IsToStart plan a p → AreDrivenBy (actors_of b.view) plan b.view.seen
 
 -- a tracer's handle, once its worker's thread has come to its end, with the pieces that the worker has kept; one that has
 -- kept them all has served until each row was unborn or reaped, for good

@@ -13,22 +13,18 @@ use Rattle.trace_record.specs.Content.{Content}
 use Rattle.trace_record.specs.Resume.{IsResume}
 use Rattle.trace_record.specs.declared.death.Death.{Death}
 use Rattle.trace_record.specs.declared.resume.Resume.{Resume as Restart}
-use Rattle.trace_script.specs.CaseFacts.{IsCase}
-use Rattle.trace_script.specs.CaseFile.{CaseContent}
 use Rattle.trace_script.specs.StopTrace.{Position}
 use Rattle.tracer_workers.specs.CaseText.{death_after}
-use Rattle.tracer_workers.specs.Config.{plan_of}
 use Rattle.tracer_workers.specs.Driven.{IsDeathOf, element_after, position_at, restart_after}
 use Rattle.tracer_workers.specs.DrivenBy.{AreDrivenBy}
-use Rattle.tracer_workers.specs.Plan.{opening_of}
-use Rattle.tracer_workers.specs.declared.config.Config.{Config}
+use Rattle.tracer_workers.specs.Plan.{IsCasePlan, Plan, opening_of}
 
--- a tracee that has made no event, with the machine of its row before its first stop
-pub record IsToStart (config : Config) (content : CaseContent) (e : TraceeHandle) (p : Position) : Type 0 where
-  pub known : IsCase content
-  pub rows : e.view.roster ≡ content.rows
+-- a tracee that has made no event, with the machine of its row before its first stop, by a plan of a case
+pub record IsToStart (plan : Plan) (e : TraceeHandle) (p : Position) : Type 0 where
+  pub known : IsCasePlan plan
+  pub rows : e.view.roster ≡ plan.rows
   pub silent : own_events e.view ≡ []
-  pub opening : p ≡ opening_of (plan_of config content) e.row
+  pub opening : p ≡ opening_of plan e.row
 
 -- the same row
 abbrev pub IsSameTracee : TraceeHandle → TraceeHandle → Type 0
@@ -47,11 +43,11 @@ IsThrough e =
 -- ---- while the row runs
 
 -- the tracee's stops are those of its script, and its machine is where they have led
-pub record IsOnScript (config : Config) (content : CaseContent) (e : TraceeHandle) (p : Position) : Type 0 where
-  pub known : IsCase content
-  pub rows : e.view.roster ≡ content.rows
-  pub driven : AreDrivenBy (actors_of e.view) (plan_of config content) e.view.seen
-  pub position : p ≡ position_at (plan_of config content) e.view.seen e.row
+pub record IsOnScript (plan : Plan) (e : TraceeHandle) (p : Position) : Type 0 where
+  pub known : IsCasePlan plan
+  pub rows : e.view.roster ≡ plan.rows
+  pub driven : AreDrivenBy (actors_of e.view) plan e.view.seen
+  pub position : p ≡ position_at plan e.view.seen e.row
 
 -- the row is taken up: with this restart, and the content of its last stop
 pub record HasTaken (e : TraceeHandle) (how : Restart) (content : Content) : Type 0 where
@@ -62,5 +58,5 @@ pub record HasTaken (e : TraceeHandle) (how : Restart) (content : Content) : Typ
   pub is_content : content ≡ content_after e.view.roster e.view.seen e.row
 
 -- what comes next in the script of a tracee is this death
-abbrev pub IsDue : Config → CaseContent → TraceeHandle → Death → Type 0
-IsDue config content e death = IsDeathOf (element_after (plan_of config content) e.view.seen e.row) death
+abbrev pub IsDue : Plan → TraceeHandle → Death → Type 0
+IsDue plan e death = IsDeathOf (element_after plan e.view.seen e.row) death

@@ -1,6 +1,7 @@
 -- The turns of a run: a tracee's, once its machine has run on to a stop or a death and before that is an event, a worker's,
 -- and a round of them.
 use Rattle.std.specs.Prelude.{◌≡◌, ◌≢◌, ◌<◌, ℕ, Bool, true, false, List, Some, length, slice_get, slice_set}
+use Rattle.stop_history.specs.declared.actor.Actor.TheVariants.{Tracee, Tracer}
 use Rattle.stop_history.specs.declared.limits.TheConstants.{TRACERS}
 use Rattle.stop_history.specs.declared.phase.Phase.TheVariants as phase
 use Rattle.stop_history.specs.declared.state.State.TheVariants as state
@@ -19,8 +20,8 @@ use Rattle.trace_script.specs.declared.next.Next.{Next}
 use Rattle.tracer_workers.specs.Config.{plan_of}
 use Rattle.tracer_workers.specs.Driven.{IsDeathOf, element_after, position_at, restart_after}
 use Rattle.tracer_workers.specs.Plan.{Plan, opening_of}
-use Rattle.tracer_workers.specs.Scheduled.{HasMade, IsHeldOrIdle, IsOver, IsQuiet, IsReady, KeptRow, Moved, RunState, Stands}
-use Rattle.tracer_workers.specs.Scheduled.{is_claimed, run_left}
+use Rattle.tracer_workers.specs.Scheduled.{HasMade, IsHeldOrIdle, IsOver, IsQuiet, IsReady, KeptRow, Moved, MovedBy}
+use Rattle.tracer_workers.specs.Scheduled.{RunState, Stands, is_claimed, run_left}
 use Rattle.tracer_workers.specs.declared.config.Config.{Config}
 
 -- a row before its first stop
@@ -91,7 +92,7 @@ pub record HasDied (content : CaseContent) (run : RunState) (h : List Entry) (ro
 
 -- a turn of a tracee: an event came of it, or the row does not run or is held back
 abbrev pub HasTurned : CaseContent → RunState → RunState → List Entry → ℕ → Bool → Type 0
-HasTurned content run new h row true = Moved content run new h
+HasTurned content run new h row true = MovedBy (Tracee row) content run new h
 HasTurned content run new h row false =
     Stands content new h × (run_left new ≡ run_left run) × IsHeldOrIdle content h row
 
@@ -106,17 +107,18 @@ pub record HasHeld (content : CaseContent) (run : RunState) (h : List Entry) (ro
   pub phase : phase_in (events_of row (history_of h)) ≡ phase.Claimed tracer
   pub others : (other : ℕ) → other ≢ row → is_claimed (phase_in (events_of other (history_of h))) ≡ false
 
--- what waits in a row is claimed, and the row restarted where it is a stop, or nothing waits
-abbrev pub HasClaimed : CaseContent → RunState → RunState → List Entry → ℕ → Bool → Type 0
-HasClaimed content run new h row true = Moved content run new h
-HasClaimed content run new h row false =
+-- a tracer has claimed what waits in a row, and restarted the row where that is a stop, or nothing waits
+abbrev pub HasClaimed : CaseContent → RunState → RunState → List Entry → (row tracer : ℕ) → Bool → Type 0
+HasClaimed content run new h row tracer true = MovedBy (Tracer tracer) content run new h
+HasClaimed content run new h row tracer false =
     Stands content new h × (run_left new ≡ run_left run)
     × (is_waitable (state_after content.rows (history_of h) row) ≡ false)
 
 -- a worker's turn: the same of all rows
-abbrev pub HasWorked : CaseContent → RunState → RunState → List Entry → Bool → Type 0
-HasWorked content run new h true = Moved content run new h
-HasWorked content run new h false = Stands content new h × (run_left new ≡ run_left run) × IsQuiet content h
+abbrev pub HasWorked : CaseContent → RunState → RunState → List Entry → (tracer : ℕ) → Bool → Type 0
+HasWorked content run new h tracer true = MovedBy (Tracer tracer) content run new h
+HasWorked content run new h tracer false =
+    Stands content new h × (run_left new ≡ run_left run) × IsQuiet content h
 
 -- ---- a round
 

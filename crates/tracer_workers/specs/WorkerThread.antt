@@ -4,6 +4,8 @@ use Rattle.std.specs.Prelude.{◌≡◌, ◌==◌, ◌<◌, ◌≤◌, ◌∷◌
 use Rattle.std.specs.Prelude.{if◌then◌else◌, slice_get}
 use Rattle.record_printer.specs.Piece.{Died, Piece}
 use Rattle.record_printer.specs.declared.show.Show.{Show}
+use Rattle.stop_history.specs.Actor.{actor_of}
+use Rattle.stop_history.specs.declared.actor.Actor.{Actor}
 use Rattle.stop_history.specs.declared.limits.TheConstants.{LAST_ID, LAST_NUMBER}
 use Rattle.stop_history.specs.declared.roster.Row.{Row}
 use Rattle.stop_history.specs.Event as event
@@ -21,11 +23,9 @@ use Rattle.trace_calls.specs.Waiting.{Claimed}
 use Rattle.trace_record.specs.Content.{Content}
 use Rattle.trace_record.specs.declared.death.Death.{Death}
 use Rattle.trace_record.specs.declared.death.Death.TheVariants as death
-use Rattle.trace_script.specs.CaseFile.{CaseContent}
 use Rattle.trace_status.specs.declared.wait_status.WaitStatus.{WaitStatus}
 use Rattle.trace_status.specs.declared.wait_status.WaitStatus.TheVariants as status
-use Rattle.tracer_workers.specs.Config.{plan_of, policy_of, show_of}
-use Rattle.tracer_workers.specs.DrivenBy.{AreDrivenBy}
+use Rattle.tracer_workers.specs.Config.{policy_of, show_of}
 use Rattle.tracer_workers.specs.HistoryPieces.{stop_piece}
 use Rattle.tracer_workers.specs.declared.config.Config.{Config}
 
@@ -61,11 +61,24 @@ pub record AreKept (before after kept : List Piece) (short : Bool) : Type 0 wher
 
 -- ---- restarts
 
--- the restarts of a handle's tracers are the policy's, if they were so before
+-- a claim, or a resume that is the policy's for the content of the stop; `h` is the history before it
+abbrev pub IsService : Config → List Row → (h : List Entry) → Event → Type 0
+IsService config rows h (event.Claim row number tracer) = Unit {0}
+IsService config rows h (event.Resume row number how tracer) = how ≡ policy_of config (content_after rows h row)
+IsService config rows h (event.Publish row number stop) = ⊥
+IsService config rows h (event.Exit row death) = ⊥
+
+-- of the entries that came after a history, each one of these actors is such a claim or resume; the newest stands first
+abbrev pub AreServices : Config → List Row → (Actor → Bool) → (more h : List Entry) → Type 0
+AreServices config rows actors [] h = Unit {0}
+AreServices config rows actors (x ∷ more) h =
+    (actors (actor_of x.event) ≡ true → IsService config rows (more ++ h) x.event)
+    × AreServices config rows actors more h
+
+-- since then the handle has only claimed, and restarted by the policy, whatever it had done before
 abbrev pub RestartsByPolicy : Config → View → View → Type 0
 RestartsByPolicy config v w =
-    (content : CaseContent) → content.rows ≡ v.roster → AreDrivenBy (actors_of v) (plan_of config content) v.seen
-    → AreDrivenBy (actors_of w) (plan_of config content) w.seen
+    (more : List Entry) × (w.seen ≡ more ++ v.seen) × AreServices config v.roster (actors_of v) more v.seen
 
 -- each row is unborn or reaped, and so it is in every later history
 abbrev pub AreOverForGood : List Row → List Entry → Type 0

@@ -14,8 +14,8 @@ ghost use Rattle.record_printer.specs.FolderAnswers.{pieces_text};
 ghost use Rattle.record_printer.specs.declared.show.Show.{Show};
 ghost use Rattle.tracer_workers.specs.CaseText.{history_text};
 ghost use Rattle.tracer_workers.specs.Driven.{AreReaped};
-ghost use Rattle.tracer_workers.specs.Gathering.{AreSeen, AreWhole, HasLooked, IsFreeTracee, IsFreeTracer, IsLost};
-ghost use Rattle.tracer_workers.specs.Gathering.{TakesIn, is_over, run_error_of, views_of};
+ghost use Rattle.tracer_workers.specs.Gathering.{AreSeen, AreWhole, HasLooked, IsAllReaped, IsFreeTracee};
+ghost use Rattle.tracer_workers.specs.Gathering.{IsFreeTracer, IsLost, TakesIn, is_over, run_error_of, views_of};
 ghost use Rattle.tracer_workers.specs.Printing.{printed_lines};
 
 use crate::run_error::RunError;
@@ -41,8 +41,8 @@ impl From<FoldError> for RunError {
 /// that of what it has seen, where the pieces were made with one `Show` of stops and deaths that one of them had seen.
 ///
 /// `Lost` where a row that was born has not been reaped (waitid(2)), and where a piece is missing, is there twice, or is
-/// a stranger's, as a `Folder` tells it; `NoMemory` where a growth is refused; never `Threads`. An error drops all that
-/// was handed in.
+/// a stranger's, as a `Folder` tells it; `NoMemory` where a growth is refused, which it asks for only once each row that
+/// was born is seen reaped; never `Threads`. An error drops all that was handed in.
 pub fn gather<A: Allocator + Copy, B: Allocator>(
     alloc: A,
     roster: &Roster<B>,
@@ -64,6 +64,8 @@ pub fn gather<A: Allocator + Copy, B: Allocator>(
         IfOk result (λ r. r.1 ≡ history_text (printed_lines show) roster.now r.0.view.seen) }
     ensures lost { result ≡ Err RunError.Lost →
         IsLost roster.now (views_of tracers.items tracees.items) pieces.items }
+    ensures no_memory { result ≡ Err RunError.NoMemory →
+        IsAllReaped roster.now (views_of tracers.items tracees.items) }
     ensures threads { result ≢ Err RunError.Threads }
 {
     let mut tracer = meet_tracees(meet_tracers(tracers), tracees);

@@ -4,7 +4,7 @@
 //! a restart to the next stop or the death; a worker's turn is a wait and the restart.
 
 ghost use Rattle.std.specs.Prelude.{[], ◌≡◌, ◌<◌, ◌≤◌, ◌∷◌, ℕ, List, None, Some, true, false, IfOk, IsOkUnless, OnOk, length};
-ghost use Rattle.std.specs.Prelude.{◌+◌, Bool, IsErr, Ok, slice_get};
+ghost use Rattle.std.specs.Prelude.{◌+◌, ◌-◌, Bool, IsErr, Ok, slice_get};
 ghost use Rattle.record_printer.specs.FolderAnswers.{lost, pieces_text, refusal};
 ghost use Rattle.record_printer.specs.Piece as pieces;
 ghost use Rattle.record_printer.specs.Represents.{Represents as HasCome};
@@ -12,6 +12,7 @@ ghost use Rattle.stop_history.specs.Event as event;
 ghost use Rattle.stop_history.specs.Event.{History};
 ghost use Rattle.stop_history.specs.Sequential.{exit_answer, publish_answer};
 ghost use Rattle.stop_history.specs.State.{last_number};
+ghost use Rattle.stop_history.specs.declared.actor.Actor.TheVariants as actors;
 ghost use Rattle.stop_history.specs.declared.limits.TheConstants.{LAST_NUMBER, TRACERS};
 ghost use Rattle.stop_table.specs.Entry.{Entry};
 ghost use Rattle.trace_record.specs.Content.{Content};
@@ -22,9 +23,9 @@ ghost use Rattle.trace_script.specs.Machine.{IsAnswer};
 ghost use Rattle.trace_script.specs.StopTrace.{Position, context_of, next_element, next_position};
 ghost use Rattle.tracer_workers.specs.Config.{plain, text_of};
 ghost use Rattle.tracer_workers.specs.HistoryPieces.{stop_piece};
-ghost use Rattle.tracer_workers.specs.Scheduled.{CameTo, IsOver, KeptRow, Moved, RunState, Stands};
-ghost use Rattle.tracer_workers.specs.Turn.{HasClaimed, HasDied, HasGone, HasHeld, HasRunOn, HasRunOut, HasStopped, HasTurned, HasWorked, IsToRun};
-ghost use Rattle.tracer_workers.specs.Turn.{new_row, with_next, with_number};
+ghost use Rattle.tracer_workers.specs.Scheduled.{CameTo, IsOver, KeptRow, MovedBy, RunState, Stands};
+ghost use Rattle.tracer_workers.specs.Turn.{HasClaimed, HasDied, HasGone, HasHeld, HasRunOn, HasRunOut, HasStopped};
+ghost use Rattle.tracer_workers.specs.Turn.{HasTurned, HasWorked, IsToRun, new_row, with_next, with_number};
 ghost use Rattle.tracer_workers.specs.declared.run_error.RunError.TheVariants as run_error;
 
 mod tracee;
@@ -234,7 +235,7 @@ impl<'a, A: Allocator + Copy> Run<'a, A> {
     fn publish(&mut self, row: u32) -> Result<(), NoMemory>
         requires { (content : CaseContent) × (h : List Entry) × (c : Content) × HasStopped content self.old h row c }
         ensures moved { (content : CaseContent) (h : List Entry) (c : Content) → HasStopped content self.old h row c →
-            OnOk result (Moved content self.old self.new h) }
+            OnOk result (MovedBy (actors.Tracee row) content self.old self.new h) }
         ensures config { self.new.config ≡ self.old.config }
     {
         let traced = &mut self.rows[row as usize];
@@ -299,7 +300,7 @@ impl<'a, A: Allocator + Copy> Run<'a, A> {
         requires stands { (content : CaseContent) × (h : List Entry) × Stands content self.old h
             × (row < length content.rows) }
         ensures claimed { (content : CaseContent) (h : List Entry) → Stands content self.old h →
-            row < length content.rows → HasClaimed content self.old self.new h row result }
+            row < length content.rows → HasClaimed content self.old self.new h row tracer result }
         ensures config { self.new.config ≡ self.old.config }
     {
         match one_thread::claim(&mut self.world, row, tracer) {
@@ -316,7 +317,7 @@ impl<'a, A: Allocator + Copy> Run<'a, A> {
     fn restart(&mut self, row: u32, tracer: u8)
         requires { (content : CaseContent) × (h : List Entry) × HasHeld content self.old h row tracer }
         ensures restarted { (content : CaseContent) (h : List Entry) → HasHeld content self.old h row tracer →
-            Moved content self.old self.new h }
+            MovedBy (actors.Tracer tracer) content self.old self.new h }
         ensures config { self.new.config ≡ self.old.config }
     {
         let traced = &mut self.rows[row as usize];
@@ -330,7 +331,7 @@ impl<'a, A: Allocator + Copy> Run<'a, A> {
         requires low { tracer < TRACERS }
         requires stands { (content : CaseContent) × (h : List Entry) × Stands content self.old h }
         ensures worked { (content : CaseContent) (h : List Entry) → Stands content self.old h →
-            HasWorked content self.old self.new h result }
+            HasWorked content self.old self.new h tracer result }
         ensures config { self.new.config ≡ self.old.config }
     {
         for row in 0..self.rows.len() as u32 {
@@ -392,7 +393,8 @@ impl<'a, A: Allocator + Copy> Run<'a, A> {
             OnOk result ((moved : Bool) × HasTurned content self.old self.new h actor moved) }
         ensures worker { (content : CaseContent) (h : List Entry) → Stands content self.old h →
             length content.rows ≤ actor → actor < length content.rows + self.old.config.workers →
-            OnOk result ((found : Bool) × HasWorked content self.old self.new h found) }
+            OnOk result ((found : Bool)
+            × HasWorked content self.old self.new h (actor - length content.rows) found) }
         ensures nobody { (content : CaseContent) (h : List Entry) → Stands content self.old h →
             length content.rows + self.old.config.workers ≤ actor → OnOk result (self.new ≡ self.old) }
         ensures gone { (content : CaseContent) (h : List Entry) → Stands content self.old h →

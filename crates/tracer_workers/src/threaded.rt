@@ -6,7 +6,7 @@
 //! are joined, and what they give back is gathered.
 
 ghost use denote.Param.Send.{Frees, IsSend, IsSync};
-ghost use Rattle.std.specs.Prelude.{◌≡◌, ◌≢◌, ◌++◌, ◌≤◌, [], All, IfErr, IfOk, OnOk, false, length, map, reverse};
+ghost use Rattle.std.specs.Prelude.{◌≡◌, ◌≢◌, ◌++◌, ◌≤◌, [], All, IfErr, IfOk, OnOk, false, length, map, min, reverse};
 ghost use Rattle.std.specs.Prelude.{true};
 ghost use Rattle.std.specs.List.{AllZip, flat_map};
 ghost use Rattle.std.specs.Vec.{vec_capacity, vec_len};
@@ -14,7 +14,7 @@ ghost use Rattle.atomic_table.specs.Seated.{TableId};
 ghost use Rattle.stop_history.specs.declared.limits.TheConstants.{TRACERS};
 ghost use Rattle.stop_table.specs.Opening.{AreTracees};
 ghost use Rattle.stop_table.specs.Tracer.{held_rows};
-ghost use Rattle.tracer_workers.specs.Config.{plain, text_of};
+ghost use Rattle.tracer_workers.specs.Config.{plain, plan_of, text_of};
 ghost use Rattle.tracer_workers.specs.Threaded.{CanRun, HasRun, HasWorked};
 ghost use Rattle.tracer_workers.specs.TraceeThread.{IsToStart};
 ghost use Rattle.tracer_workers.specs.declared.run_error.RunError.TheVariants as run_error;
@@ -51,8 +51,8 @@ fn with_machines<A: Allocator + Copy>(
     tracees: Vec<Tracee<A>, A>,
 ) -> Result<Vec<Scripted<A>, A>, NoMemory>
     requires { (id : TableId) × AreTracees id case.now.rows tracees.items × (vec_len tracees ≡ length case.now.rows) }
-    ensures { IfOk result (λ all. AllZip (λ e s. (s.tracee ≡ e) × IsToStart config.now case.now s.tracee s.machine)
-        tracees.items all.items) }
+    ensures { IfOk result (λ all. AllZip (λ e s. (s.tracee ≡ e)
+        × IsToStart (plan_of config.now case.now) s.tracee s.machine) tracees.items all.items) }
 {
     let mut all = Vec::with_capacity(alloc, tracees.len())?;
     let _rows = case.roster().len();
@@ -288,7 +288,7 @@ fn take_apart<A: Allocator + Copy>(
     Ok(pieces)
 }
 
-/// Splits the last tracers off, so that there are as many as workers.
+/// Splits the last tracers off, so that there are as many as workers, or all where there are fewer.
 fn split_spare<A: Allocator + Copy>(
     alloc: A,
     tracers: &mut Vec<Tracer<A>, A>,
@@ -296,7 +296,7 @@ fn split_spare<A: Allocator + Copy>(
 ) -> Result<Vec<Tracer<A>, A>, NoMemory>
     requires { vec_len tracers.old ≤ TRACERS }
     ensures all { IfOk result (λ spare. tracers.old.items ≡ tracers.new.items ++ reverse spare.items) }
-    ensures enough { OnOk result (workers ≤ vec_len tracers.old → workers ≤ vec_len tracers.new) }
+    ensures left { OnOk result (vec_len tracers.new ≡ min (vec_len tracers.old) workers) }
 {
     let mut spare = Vec::with_capacity(alloc, TRACERS as usize)?;
     while tracers.len() > workers as usize {

@@ -9,11 +9,10 @@ ghost use Rattle.stop_table.specs.Start.{IsFinal};
 ghost use Rattle.stop_table.specs.Tracee.{IsTraceeHandle};
 ghost use Rattle.stop_table.specs.View.{actors_of};
 ghost use Rattle.trace_record.specs.Death.{IsDeath};
-ghost use Rattle.trace_script.specs.CaseFile.{CaseContent};
-ghost use Rattle.tracer_workers.specs.Config.{plan_of};
-ghost use Rattle.tracer_workers.specs.declared.config.Config.{Config};
 ghost use Rattle.tracer_workers.specs.DrivenBy.{AreDrivenBy};
-ghost use Rattle.tracer_workers.specs.TraceeThread.{HasLooked, HasTaken, IsDue, IsOnScript, IsSameTracee, IsThrough, IsToStart};
+ghost use Rattle.tracer_workers.specs.Plan.{Plan};
+ghost use Rattle.tracer_workers.specs.TraceeThread.{HasLooked, HasTaken, IsDue, IsOnScript, IsSameTracee, IsThrough};
+ghost use Rattle.tracer_workers.specs.TraceeThread.{IsToStart};
 
 use crate::fault::FAULT_DEATH;
 use crate::patience::Patience;
@@ -30,17 +29,17 @@ use trace_script::{Machine, Next};
 /// for its row's birth, for each restart, and, where the row leads a thread group, for the others of the group.
 ///
 /// The tracee has made no event, and the machine is new, of the tracee's row and of a case with the rows of the tracee's
-/// table.
+/// table, whatever its options and its filter are.
 pub fn run_tracee<A: Allocator, R: Wait + Clock>(
     rt: &R,
     tracee: &mut Tracee<A>,
     machine: Machine<A>,
 )
     requires idle { tracee.old.view.taken ≡ false }
-    requires new { (config : Config) × (content : CaseContent) × IsToStart config content tracee.old machine }
+    requires new { (plan : Plan) × IsToStart plan tracee.old machine }
     ensures handle { IsSameTracee tracee.old tracee.new × (tracee.new.view.taken ≡ false) }
-    ensures driven { (config : Config) (content : CaseContent) → IsToStart config content tracee.old machine →
-        AreDrivenBy (actors_of tracee.new.view) (plan_of config content) tracee.new.view.seen }
+    ensures driven { (plan : Plan) → IsToStart plan tracee.old machine →
+        AreDrivenBy (actors_of tracee.new.view) plan tracee.new.view.seen }
     ensures through { IsThrough tracee.new }
 {
     let _idle = tracee.holds();
@@ -70,10 +69,10 @@ fn await_birth<A: Allocator, R: Wait + Clock>(rt: &R, tracee: &mut Tracee<A>) ->
 /// Runs a born row to its death.
 fn run_row<A: Allocator, R: Wait + Clock>(rt: &R, tracee: &mut Tracee<A>, mut machine: Machine<A>)
     requires handle { IsTraceeHandle tracee.old × (tracee.old.view.taken ≡ false) }
-    requires script { (config : Config) × (content : CaseContent) × IsOnScript config content tracee.old machine }
+    requires script { (plan : Plan) × IsOnScript plan tracee.old machine }
     ensures handle { IsSameTracee tracee.old tracee.new × (tracee.new.view.taken ≡ false) }
-    ensures driven { (config : Config) (content : CaseContent) → IsOnScript config content tracee.old machine →
-        AreDrivenBy (actors_of tracee.new.view) (plan_of config content) tracee.new.view.seen }
+    ensures driven { (plan : Plan) → IsOnScript plan tracee.old machine →
+        AreDrivenBy (actors_of tracee.new.view) plan tracee.new.view.seen }
     ensures through { IsThrough tracee.new }
 {
     for _ in rt.forever() {
@@ -115,14 +114,12 @@ fn run_on<A: Allocator>(
 ) -> Option<(StopRecord<A>, Death)>
     requires handle { IsTraceeHandle tracee.old }
     requires taken { HasTaken tracee.old how stop }
-    requires script { (config : Config) × (content : CaseContent) × IsOnScript config content tracee.old machine.old }
+    requires script { (plan : Plan) × IsOnScript plan tracee.old machine.old }
     ensures handle { IsSameTracee tracee.old tracee.new }
     ensures none { IfNone result (IsTraceeHandle tracee.new × (tracee.new.view.taken ≡ false)
-        × ((config : Config) (content : CaseContent) → IsOnScript config content tracee.old machine.old →
-        IsOnScript config content tracee.new machine.new)) }
+        × ((plan : Plan) → IsOnScript plan tracee.old machine.old → IsOnScript plan tracee.new machine.new)) }
     ensures some { IfSome result (λ r. (tracee.new ≡ tracee.old) × IsDeath r.1
-        × ((config : Config) (content : CaseContent) → IsOnScript config content tracee.old machine.old →
-        IsDue config content tracee.old r.1)) }
+        × ((plan : Plan) → IsOnScript plan tracee.old machine.old → IsDue plan tracee.old r.1)) }
 {
     let mut held = stop;
     match machine.next(how, &mut held) {

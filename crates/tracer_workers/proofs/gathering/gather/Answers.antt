@@ -93,6 +93,16 @@ returns-in_err-text-clause-lost g c = λ is.
       lost_there = inr (c.in_err-text.ensures.lost (ap Err lost));
     }
 
+pub returns-in_err-text-clause-no_memory : goal.returns-in_err-text-clause-no_memory
+returns-in_err-text-clause-no_memory g c = λ is.
+    let before = (goal.at.returns-in_err-text-clause-no_memory g c).After-are_reaped in
+    record {
+      history = c.are_reaped.new.tracer.view.seen;
+      legal = legal_there g before;
+      goes_on = all_gone_on g before;
+      reaped = all_reaped g before c.if-not-are_reaped.false;
+    }
+
 pub returns-clause-free : goal.returns-clause-free
 returns-clause-free g c = λ id free.
     let before = (goal.at.returns-clause-free g c).After-are_reaped in

@@ -132,9 +132,8 @@ returns-in_err-_tracer-clause-kept g c =
     let second = subst (λ rows. AreTracers ok.0 rows c.in-Ok.ends.tracers.items) c.roster.ensures.rows ok.4 in
     let many : length c.in-Ok.ends.tracers.items ≡ TRACERS = sym c.in-Ok.ends.tracers.ok.0 ∙ ok.2 in
     let views = views_of c.take_apart.new.tracers.items c.in_ok-back.back.tracees.items in
-    let enough = c.in_ok-spare.ensures.enough (omega (arith, ok.2, c.requires.1)) in
     let some : 0 < length c.split_spare.new.tracers.items =
-    omega (arith, enough, c.requires.0, c.split_spare.new.tracers.ok) in
+    omega (arith, c.in_ok-spare.ensures.left, ok.2, c.requires.0, c.split_spare.new.tracers.ok) in
     let told = err_from_is_err_and c.from_residual-in_err-_tracer.result c.from_residual-in_err-_tracer.ensures.1 in
     subst (λ r. IfErr r (λ error. error ≢ run_error.Lost)) (sym told.1) (λ is.
     case_keeps ok.0 c.args.config.now c.args.case.now c.in_ok-all.all.items c.in_ok-back.back.served.items

@@ -6,6 +6,7 @@ use Rattle.std.proofs.lemmas.List.{length_push, map-id}
 use Rattle.std.proofs.lemmas.Option.{slice_get-get_or}
 use Rattle.tracer_workers.specs.Config.{plan_of}
 use Rattle.tracer_workers.specs.Plan.{opening_of}
+use Rattle.tracer_workers.proofs.FittingCases.{config_plan}
 use Rattle.tracer_workers.proofs.Threads.{to_start}
 use Rattle.tracer_workers.proofs.Zips.{zip_length, zip_push, zip_same}
 use Rattle.tracer_workers.proofs.threaded.with_machines.Goals as goal
@@ -49,9 +50,10 @@ loop-tracee-preserved g c =
     let row = length c.loop-tracee.yielded in
     let is = c.requires.1 row c.in-Some.tracee
     (slice_get-get_or c.args.tracees.items row c.in-Some.tracee turn.0 ∙ ap Some (sym turn.1)) in
-    let start = to_start c.args.config.now c.args.case.now c.requires.0 row c.in-Some.tracee c.in_ok-machine.machine
-    c.roster.ensures.case is
-    (c.in_ok-machine.ensures ∙ ap (opening_of (plan_of c.args.config.now c.args.case.now)) c.loop-tracee.invariant.row) in
+    let plan = plan_of c.args.config.now c.args.case.now in
+    let start = to_start plan c.requires.0 row c.in-Some.tracee c.in_ok-machine.machine
+    (config_plan c.args.config.now c.args.case.now c.roster.ensures.case) is
+    (c.in_ok-machine.ensures ∙ ap (opening_of plan) c.loop-tracee.invariant.row) in
     record {
       zip = zip_same _ _ _ _ _ refl c.push_reserved.ensures.items
           (zip_push _ c.loop-tracee.yielded c.loop-tracee.all.items c.in-Some.tracee

@@ -17,7 +17,7 @@ returns-in-Some-take_up-clause-handle g c =
 pub loop-preserved : goal.loop-preserved
 loop-preserved g c =
     let handle = c.take_up.ensures.handle in
-    let none = c.in_default.ensures.none in (
+    let none = c.in_default.ensures.none (c.loop.invariant.2.2.taken ∙ c.requires.1) in (
       tt,
       tt,
       looked_again c.args.tracee.now c.loop.tracee c.take_up.new.self c.loop.invariant.2 (handle.0, handle.1, none.1.0),

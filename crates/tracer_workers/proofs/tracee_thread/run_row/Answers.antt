@@ -14,9 +14,8 @@ run_on-requires-clause-script g c =
     let before = c.loop.invariant.2 in
     let handle = c.await_restart-stop.ensures.handle in (
       s.0,
-      s.1,
-      taken_script c.loop.tracee c.await_restart-stop.new.tracee before.handle handle.1 handle.2 s.0 s.1 c.loop.machine
-          (before.script s.0 s.1 s.2),
+      taken_script c.loop.tracee c.await_restart-stop.new.tracee before.handle handle.1 handle.2 s.0 c.loop.machine
+          (before.script s.0 s.1),
     )
 
 pub loop-preserved : goal.loop-preserved
@@ -36,26 +35,26 @@ loop-preserved g c =
           went.1 ∙ up.1 ∙ before.same.1,
           same_trans c.args.tracee.now.view c.loop.tracee.view c.run_on.new.tracee.view before.same.2 same,
         );
-        script = λ config content on.
-            none.2 config content
-            (taken_script c.loop.tracee c.await_restart-stop.new.tracee before.handle up.1 up.2 config content c.loop.machine
-            (before.script config content on));
+        script = λ plan on.
+            none.2 plan
+            (taken_script c.loop.tracee c.await_restart-stop.new.tracee before.handle up.1 up.2 plan c.loop.machine
+            (before.script plan on));
       },
     )
 
 pub returns-in-Some-run_on-clause-driven : goal.returns-in-Some-run_on-clause-driven
-returns-in-Some-run_on-clause-driven g c = λ config content on.
+returns-in-Some-run_on-clause-driven g c = λ plan on.
     let before = c.loop.invariant.2 in
     let up = c.await_restart-stop.ensures.handle in
     let at = c.await_restart-stop.new.tracee in
     let some = c.in-Some-run_on.ensures.some in
     let made = c.end_row.ensures.made in
-    let now = taken_script c.loop.tracee at before.handle up.1 up.2 config content c.loop.machine
-    (before.script config content on) in
-    ends_driven config content at c.end_row.new.tracee c.loop.machine c.await_restart-stop.result.0
+    let now = taken_script c.loop.tracee at before.handle up.1 up.2 plan c.loop.machine
+    (before.script plan on) in
+    ends_driven plan at c.end_row.new.tracee c.loop.machine c.await_restart-stop.result.0
     c.await_restart-stop.result.1 made.0 c.in-Some-run_on.death
     (taken_handle c.loop.tracee at before.handle up.1 up.2) c.await_restart-stop.ensures.taken now
-    (some.2 config content now)
+    (some.2 plan now)
     (subst (λ (t : TraceeHandle). EndsWith t.view c.end_row.new.tracee.view made.0
     (bare (event.Exit t.row c.in-Some-run_on.death))) some.0 made.1)
 

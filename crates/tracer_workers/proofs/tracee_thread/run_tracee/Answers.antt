@@ -3,17 +3,17 @@ use Rattle.tracer_workers.proofs.TraceeThreads.{never_ran, script_begins, script
 use Rattle.tracer_workers.proofs.tracee_thread.run_tracee.Goals as goal
 
 pub returns-then-not-await_birth-clause-driven : goal.returns-then-not-await_birth-clause-driven
-returns-then-not-await_birth-clause-driven g c = λ config content s.
+returns-then-not-await_birth-clause-driven g c = λ plan s.
     let e = c.args.tracee.now in
     let looked = c.await_birth.ensures.handle in
-    (script_on config content e c.await_birth.new.tracee c.args.machine c.holds-idle.ensures.handle looked.1
+    (script_on plan e c.await_birth.new.tracee c.args.machine c.holds-idle.ensures.handle looked.1
     looked.2.grows.same looked.2.grows.goes_on
-    (script_begins config content e c.args.machine c.holds-idle.ensures.handle s)).driven
+    (script_begins plan e c.args.machine c.holds-idle.ensures.handle s)).driven
 
 pub returns-then-not-await_birth-clause-through : goal.returns-then-not-await_birth-clause-through
 returns-then-not-await_birth-clause-through g c =
     let looked = c.await_birth.ensures.handle in
-    never_ran c.args.tracee.now c.await_birth.new.tracee c.requires.new.2.silent looked.1 looked.2
+    never_ran c.args.tracee.now c.await_birth.new.tracee c.requires.new.1.silent looked.1 looked.2
     (c.await_birth.ensures.never c.if-not-await_birth.true)
 
 pub run_row-requires-clause-script : goal.run_row-requires-clause-script
@@ -22,16 +22,15 @@ run_row-requires-clause-script g c =
     let s = c.requires.new in
     let looked = c.await_birth.ensures.handle in (
       s.0,
-      s.1,
-      script_on s.0 s.1 e c.await_birth.new.tracee c.args.machine c.holds-idle.ensures.handle looked.1 looked.2.grows.same
-          looked.2.grows.goes_on (script_begins s.0 s.1 e c.args.machine c.holds-idle.ensures.handle s.2),
+      script_on s.0 e c.await_birth.new.tracee c.args.machine c.holds-idle.ensures.handle looked.1 looked.2.grows.same
+          looked.2.grows.goes_on (script_begins s.0 e c.args.machine c.holds-idle.ensures.handle s.1),
     )
 
 pub returns-clause-driven : goal.returns-clause-driven
-returns-clause-driven g c = λ config content s.
+returns-clause-driven g c = λ plan s.
     let e = c.args.tracee.now in
     let looked = c.await_birth.ensures.handle in
-    c.run_row.ensures.driven config content
-    (script_on config content e c.await_birth.new.tracee c.args.machine c.holds-idle.ensures.handle looked.1
+    c.run_row.ensures.driven plan
+    (script_on plan e c.await_birth.new.tracee c.args.machine c.holds-idle.ensures.handle looked.1
     looked.2.grows.same looked.2.grows.goes_on
-    (script_begins config content e c.args.machine c.holds-idle.ensures.handle s))
+    (script_begins plan e c.args.machine c.holds-idle.ensures.handle s))

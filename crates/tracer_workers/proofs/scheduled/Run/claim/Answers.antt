@@ -1,5 +1,6 @@
 -- What the world answers tells what waited.
 use Rattle.std.proofs.Common.{◌∷◌, ◌∙◌, Ok, refl, sym, ap, subst, arith}
+use Rattle.stop_history.specs.declared.actor.Actor.TheVariants.{Tracer}
 use Rattle.stop_history.specs.declared.got.Got.TheVariants as got
 use Rattle.stop_table.specs.Entry.{history_of}
 use Rattle.stop_history.specs.Event as event
@@ -8,7 +9,8 @@ use Rattle.stop_history.specs.State.{last_number}
 use Rattle.tracer_workers.specs.Scheduled.{CameTo, RunState, Stands}
 use Rattle.tracer_workers.proofs.Claims.{claim_finds_none, claim_gets}
 use Rattle.tracer_workers.proofs.Fewer.{same_left}
-use Rattle.tracer_workers.proofs.Rounds.{moved_on, stands_over}
+use Rattle.tracer_workers.proofs.OneActor.{by_one}
+use Rattle.tracer_workers.proofs.Rounds.{moved_by_on, stands_over}
 use Rattle.tracer_workers.proofs.RunSteps.{claim_entry}
 use Rattle.tracer_workers.proofs.scheduled.Run.claim.Goals as goal
 
@@ -59,7 +61,8 @@ returns-in-Ok-Stop-clause-claimed g c =
     (c.in-Ok-Stop.is ∙ ap Ok c.in-Ok-Stop.field-0-is) in
     let later = claim_entry h c.args.row c.args.tracer ∷ h in
     let less = gets.1 in
-    moved_on content run mid c.restart.new.self h later (omega (arith, less))
+    moved_by_on (Tracer c.args.tracer) content run mid c.restart.new.self h later (omega (arith, less))
+    (by_one (Tracer c.args.tracer) (claim_entry h c.args.row c.args.tracer) h refl)
     (c.restart.ensures.restarted content later gets.0))
 
 pub returns-in-Err-clause-claimed : goal.returns-in-Err-clause-claimed

@@ -10,6 +10,6 @@ claim-claimed-requires-clause-stands g c =
 
 pub returns-clause-gone : goal.returns-clause-gone
 returns-clause-gone g c content h stands within =
-    pair_on content c.args.self.now c.tracee_turn.new.self c.claim-claimed.new.self h c.args.row c.in_ok-turned.turned
+    pair_on content c.args.self.now c.tracee_turn.new.self c.claim-claimed.new.self h c.args.row 0 c.in_ok-turned.turned
     c.claim-claimed.result (c.in_ok-turned.ensures.turned content h stands within)
     (λ later there. c.claim-claimed.ensures.claimed content later there within)

@@ -1,5 +1,6 @@
 -- The tracee runs on to a stop, which is published, or to its end.
-use Rattle.tracer_workers.proofs.Rounds.{if_ok, left_same, moved_from, turned_from}
+use Rattle.stop_history.specs.declared.actor.Actor.TheVariants.{Tracee}
+use Rattle.tracer_workers.proofs.Rounds.{if_ok, left_same, moved_by_from, turned_from}
 use Rattle.tracer_workers.proofs.TurnStarts.{ran_world, ran_to_death, ran_to_fault, ran_to_stop}
 use Rattle.tracer_workers.proofs.scheduled.Run.running_turn.Goals as goal
 
@@ -28,7 +29,7 @@ exit-requires-in-Fault g c = (
 pub returns-in_ok-publish-in-Stop-clause-turned : goal.returns-in_ok-publish-in-Stop-clause-turned
 returns-in_ok-publish-in-Stop-clause-turned g c content h s =
     let to = ran_to_stop content c.args.self.now c.run_on.new.self h c.args.row c.in_ok-told.told s c.in_ok-told.ensures.ran c.in-Stop.is in
-    moved_from content c.args.self.now c.run_on.new.self c.publish.new.self h
+    moved_by_from (Tracee c.args.row) content c.args.self.now c.run_on.new.self c.publish.new.self h
     (left_same c.args.self.now c.run_on.new.self
     (ran_world content c.args.self.now c.run_on.new.self h c.args.row c.in_ok-told.told s c.in_ok-told.ensures.ran))
     (c.in_ok-publish-in-Stop.ensures.moved content h to.0 to.1)

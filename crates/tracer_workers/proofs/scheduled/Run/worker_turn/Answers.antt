@@ -1,11 +1,12 @@
 -- A row in which something waits ends the turn; of the others no event comes.
 use Rattle.std.proofs.Common.{◌≡◌, ◌∙◌, refl, sym, ap, subst, arith, length, inl, inr, false}
 use Rattle.std.proofs.lemmas.Bool.{cases_eq}
+use Rattle.stop_history.specs.declared.actor.Actor.TheVariants.{Tracer}
 use Rattle.stop_history.specs.State.{is_waitable, state_after}
 use Rattle.stop_table.specs.Entry.{history_of}
 use Rattle.tracer_workers.specs.Scheduled.{RunState}
 use Rattle.tracer_workers.specs.Turn.{HasClaimed}
-use Rattle.tracer_workers.proofs.Rounds.{moved_from}
+use Rattle.tracer_workers.proofs.Rounds.{moved_by_from}
 use Rattle.tracer_workers.proofs.scheduled.Run.worker_turn.Goals as goal
 
 pub loop-row-init : goal.loop-row-init
@@ -34,8 +35,8 @@ returns-then-claim-clause-worked g c content h stands =
     let now = c.loop-row.invariant.quiet content h stands in
     let claimed = c.claim.ensures.claimed content h now.0
     (omega (arith, c.loop-row-test.true, c.len-row-end.ensures, view, long)) in
-    moved_from content c.args.self.now c.loop-row.self c.claim.new.self h now.1
-    (subst (HasClaimed content c.loop-row.self c.claim.new.self h c.loop-row.row) c.if-claim.true claimed)
+    moved_by_from (Tracer c.args.tracer) content c.args.self.now c.loop-row.self c.claim.new.self h now.1
+    (subst (HasClaimed content c.loop-row.self c.claim.new.self h c.loop-row.row c.args.tracer) c.if-claim.true claimed)
 
 pub returns-then-claim-clause-config : goal.returns-then-claim-clause-config
 returns-then-claim-clause-config g c = c.claim.ensures.config ∙ c.loop-row.invariant.config
@@ -47,8 +48,8 @@ loop-row-preserved g c = record {
       let view = ap (λ (r : RunState). length r.rows) c.self.view_is in
       let long = stands.0.long in
       let now = c.loop-row.invariant.quiet content h stands in
-      let claimed : HasClaimed content c.loop-row.self c.claim.new.self h c.loop-row.row false =
-      subst (HasClaimed content c.loop-row.self c.claim.new.self h c.loop-row.row) c.if-claim.false
+      let claimed : HasClaimed content c.loop-row.self c.claim.new.self h c.loop-row.row c.args.tracer false =
+      subst (HasClaimed content c.loop-row.self c.claim.new.self h c.loop-row.row c.args.tracer) c.if-claim.false
       (c.claim.ensures.claimed content h now.0
       (omega (arith, c.loop-row-test.true, c.len-row-end.ensures, view, long))) in (
         claimed.0,

@@ -39,7 +39,7 @@ pub use laws::{
 pub use piece::{Piece, death_piece};
 pub use show::Show;
 pub use stop_piece::piece_of;
-pub use text::{Text, WriteFault, write_text};
+pub use text::{Text, WriteFault, write_bytes, write_text};
 
 #[cfg(test)]
 mod tests;

@@ -37,22 +37,31 @@ impl<A: Allocator> Text<A> {
     }
 }
 
-/// A text was not written whole: the writer failed, or took no byte.
+/// Bytes were not written whole: the writer failed, or took no byte.
 #[derive(Clone, Copy, Debug, PartialEq, Eq, Hash)]
 pub struct WriteFault {
     /// How many of the first bytes were written.
     pub written: u64,
 }
 
-/// Writes a text with as many writes as the writer needs (write(2)). The first write that fails, or that takes no byte,
-/// ends it; no write is tried again.
+/// Writes a text, as `write_bytes` writes its bytes.
 pub fn write_text<A: Allocator, W: Write>(text: &Text<A>, writer: &mut W) -> Result<(), WriteFault>
     ensures ok { OnOk result (Appends (W.contents writer.old) (W.contents writer.new) text.now) }
     ensures within { IfErr result (λ fault. fault.written < length text.now) }
     ensures fault { IfErr result (λ fault.
         Appends (W.contents writer.old) (W.contents writer.new) (take fault.written text.now)) }
 {
-    let bytes = text.as_bytes();
+    write_bytes(text.as_bytes(), writer)
+}
+
+/// Writes bytes with as many writes as the writer needs (write(2)). The first write that fails, or that takes no byte,
+/// ends it; no write is tried again.
+pub fn write_bytes<W: Write>(bytes: &[u8], writer: &mut W) -> Result<(), WriteFault>
+    ensures ok { OnOk result (Appends (W.contents writer.old) (W.contents writer.new) bytes.now) }
+    ensures within { IfErr result (λ fault. fault.written < length bytes.now) }
+    ensures fault { IfErr result (λ fault.
+        Appends (W.contents writer.old) (W.contents writer.new) (take fault.written bytes.now)) }
+{
     let mut written = 0;
     while written < bytes.len() {
         match writer.write(&bytes[written..]) {

@@ -13,7 +13,7 @@ mod arrays;
 mod buffers;
 mod numbers;
 mod quotes;
-mod rows;
+pub(crate) mod rows;
 mod stops;
 
 /// The last page of the address space.

@@ -135,8 +135,11 @@ fn a_row_has_its_lines_in_whatever_order_its_pieces_come(rt: HostRuntime) -> Res
     Ok(())
 }
 
+/// The lines of a row that a signal kills.
+pub const KILLED_TEXT: &str = "200 --- SIGTERM ---\n200 +++ killed by SIGTERM +++\n";
+
 /// A start, a signal that kills, and the death.
-fn killed<A: Allocator + Copy>(alloc: A, number: u32) -> Result<Piece<A>, AllocError> {
+pub fn killed<A: Allocator + Copy>(alloc: A, number: u32) -> Result<Piece<A>, AllocError> {
     Ok(match number {
         1 => stop(200, 1, Note::Quiet),
         2 => stop(200, 2, signal(alloc, "200 --- SIGTERM ---\n")?),
@@ -165,10 +168,7 @@ fn a_killed_row_has_its_lines(rt: HostRuntime) -> Result<(), Fail> {
         Err(FoldError::Stranger)
     );
     let text = folder.finish()?;
-    assert_eq!(rt;
-        text.as_bytes(),
-        b"200 --- SIGTERM ---\n200 +++ killed by SIGTERM +++\n".as_slice()
-    );
+    assert_eq!(rt; text.as_bytes(), KILLED_TEXT.as_bytes());
     Ok(())
 }
 

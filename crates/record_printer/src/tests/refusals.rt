@@ -1,59 +1,104 @@
-//! Each growth refused in turn.
+//! Each growth of a folder refused in turn: the call answers that it is out of memory then and only then, and a piece
+//! that was refused can be added again.
 
-use super::folder::{Middle, order, root};
-use crate::{FoldError, Folder, Piece, Text};
+use super::folder::{KILLED_TEXT, Middle, killed, order, root};
+use crate::{FoldError, Folder, Piece};
 use refusing_allocator::RefusingAllocator;
-use std::alloc::{AllocError, Allocator};
+use std::alloc::{AllocError, Allocator, Global};
 use std::test::Fail;
 use stop_history::{NoMemory, Roster};
 
 /// More than a row here has growths.
 const MOST: u64 = 100;
 
-/// A piece, which is made again where its own growth is refused.
-fn piece<A: Allocator + Copy>(alloc: A, number: u32) -> Result<Piece<A>, AllocError> {
-    match Middle::Pair.piece(alloc, number) {
-        Ok(piece) => Ok(piece),
-        Err(_) => Middle::Pair.piece(alloc, number),
+type Heap = RefusingAllocator<Global>;
+
+/// A piece of the row with a call, or of the one that a signal kills.
+fn made<A: Allocator + Copy>(alloc: A, tid: u32, number: u32) -> Result<Piece<A>, AllocError> {
+    if tid == 100 {
+        Middle::Pair.piece(alloc, number)
+    } else {
+        killed(alloc, number)
     }
 }
 
-/// The text of the row with its pieces in an order, or None where its last growth is refused. A refused piece is added
-/// again.
-fn fold<A: Allocator + Copy>(
-    alloc: A,
+/// The piece, which is made again where its own growth is refused.
+fn piece<A: Allocator + Copy>(alloc: A, tid: u32, number: u32) -> Result<Piece<A>, AllocError> {
+    match made(alloc, tid, number) {
+        Ok(piece) => Ok(piece),
+        Err(_) => made(alloc, tid, number),
+    }
+}
+
+/// Adds a piece, and adds it again where a growth is refused. Whether that, and nothing else, is reported.
+fn adds<'a>(
+    heap: &'a Heap,
+    folder: &mut Folder<&'a Heap>,
+    tid: u32,
+    number: u32,
+) -> Result<bool, Fail> {
+    let first = piece(heap, tid, number)?;
+    let was_refused = heap.has_refused();
+    let added = folder.add(first);
+    if heap.has_refused() == was_refused {
+        return Ok(added == Ok(()));
+    }
+    let again = folder.add(piece(heap, tid, number)?);
+    Ok(added == Err(FoldError::NoMemory) && again == Ok(()))
+}
+
+/// Folds the pieces of a row to its text. Whether each growth that is refused, and nothing else, is reported.
+fn folds(
+    heap: &Heap,
     roster: &Roster,
-    which: u32,
-) -> Result<Option<Text<A>>, Fail> {
-    let mut folder = match Folder::new(alloc, roster) {
+    tid: u32,
+    numbers: &[u32],
+    text: &str,
+) -> Result<bool, Fail> {
+    let first = Folder::new(heap, roster);
+    if first.is_err() != heap.has_refused() {
+        return Ok(false);
+    }
+    let mut folder = match first {
         Ok(folder) => folder,
-        Err(NoMemory) => Folder::new(alloc, roster)?,
+        Err(NoMemory) => Folder::new(heap, roster)?,
     };
-    for number in order(which) {
-        match folder.add(piece(alloc, number)?) {
-            Err(FoldError::NoMemory) => folder.add(piece(alloc, number)?)?,
-            added => added?,
+    for number in numbers {
+        if !adds(heap, &mut folder, tid, *number)? {
+            return Ok(false);
         }
     }
-    match folder.finish() {
-        Err(FoldError::NoMemory) => Ok(None),
-        text => Ok(Some(text?)),
-    }
+    let was_refused = heap.has_refused();
+    let finished = folder.finish();
+    let is_refused = heap.has_refused() != was_refused;
+    Ok(match finished {
+        Ok(finished) => !is_refused && finished.as_bytes() == text.as_bytes(),
+        Err(fault) => is_refused && fault == FoldError::NoMemory,
+    })
 }
 
 #[test]
 fn a_piece_that_was_refused_can_be_added(rt: HostRuntime) -> Result<(), Fail> {
-    let roster = Roster::new(rt.alloc(), &[root(100)])?;
-    for which in [0, 37, 83, 119] {
-        let mut last = false;
+    let call = Middle::Pair.text();
+    let orders = [order(0), order(37), order(83), order(119)];
+    for (tid, numbers, text) in [
+        (200, [0, 2, 1].as_slice(), KILLED_TEXT),
+        (100, &orders[0], call),
+        (100, &orders[1], call),
+        (100, &orders[2], call),
+        (100, &orders[3], call),
+    ] {
+        let roster = Roster::new(rt.alloc(), &[root(tid)])?;
+        let mut was_refused = true;
         for granted in 0..MOST {
             let heap = RefusingAllocator::new(rt.alloc(), granted);
-            if let Some(text) = fold(&heap, &roster, which)? {
-                assert_eq!(rt; text.as_bytes(), Middle::Pair.text().as_bytes());
-            }
-            last = !heap.has_refused();
+            assert!(rt;
+                folds(&heap, &roster, tid, numbers, text)?,
+                "{tid} {granted}"
+            );
+            was_refused = heap.has_refused();
         }
-        assert!(rt; last);
+        assert!(rt; !was_refused, "{tid}");
     }
     Ok(())
 }

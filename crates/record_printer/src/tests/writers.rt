@@ -1,34 +1,30 @@
 //! Writers that take a byte at a time, and that fail.
 
-use super::folder::{Middle, root};
-use crate::{Folder, Text, WriteFault, write_text};
-use std::alloc::Allocator;
+use crate::text_tests::rows::{FORK_TEXT, fork_text};
+use crate::{WriteFault, write_text};
 use std::io::{self, ErrorKind, Write};
 use std::test::Fail;
-use stop_history::Roster;
 
-/// A writer that takes a byte at a time while there is room, and then fails, or takes no byte.
+/// A writer that takes a byte at a time, except at one of its writes, which fails or takes no byte.
 #[derive(Drop)]
 struct Sink {
     taken: Vec<u8>,
-    room: usize,
+    /// How many writes there are before that one.
+    before: usize,
     fails: bool,
 }
 
 impl Write for Sink {
     fn write(&mut self, bytes: &[u8]) -> io::Result<usize> {
+        let is_last = self.before == 0;
+        self.before = self.before.wrapping_sub(1);
         match bytes.first() {
-            None => Ok(0),
-            Some(_) if self.taken.len() >= self.room => {
-                if self.fails {
-                    return Err(io::Error::from(ErrorKind::BrokenPipe));
-                }
-                Ok(0)
-            }
-            Some(byte) => {
+            _ if is_last && self.fails => Err(io::Error::from(ErrorKind::BrokenPipe)),
+            Some(byte) if !is_last => {
                 self.taken.push(*byte)?;
                 Ok(1)
             }
+            _ => Ok(0),
         }
     }
 
@@ -37,45 +33,34 @@ impl Write for Sink {
     }
 }
 
-fn with_room(rt: &impl AllocGlobal, room: usize, fails: bool) -> Sink {
+fn make_sink(rt: &impl AllocGlobal, before: usize, fails: bool) -> Sink {
     Sink {
         taken: Vec::new(rt.alloc()),
-        room,
+        before,
         fails,
     }
 }
 
-fn row_text(rt: &impl AllocGlobal) -> Result<Text, Fail> {
-    let alloc = rt.alloc();
-    let roster = Roster::new(alloc, &[root(100)])?;
-    let mut folder = Folder::new(alloc, &roster)?;
-    for number in 0..5 {
-        folder.add(Middle::Pair.piece(alloc, number)?)?;
-    }
-    Ok(folder.finish()?)
-}
-
 #[test]
 fn a_text_is_written_byte_by_byte(rt: HostRuntime) -> Result<(), Fail> {
-    let text = row_text(&rt)?;
-    let mut out = with_room(&rt, usize::MAX, true);
+    let text = fork_text(rt.alloc())?;
+    let mut out = make_sink(&rt, usize::MAX, true);
     assert_eq!(rt; write_text(&text, &mut out), Ok(()));
-    assert_eq!(rt; out.taken.as_slice(), Middle::Pair.text().as_bytes());
+    assert_eq!(rt; out.taken.as_slice(), FORK_TEXT.as_bytes());
     Ok(())
 }
 
 #[test]
 fn a_fault_reports_what_was_written(rt: HostRuntime) -> Result<(), Fail> {
-    let text = row_text(&rt)?;
-    let bytes = text.as_bytes();
+    let text = fork_text(rt.alloc())?;
     for fails in [true, false] {
-        for room in 0..bytes.len() {
-            let mut out = with_room(&rt, room, fails);
+        for before in 0..FORK_TEXT.len() {
+            let mut out = make_sink(&rt, before, fails);
             let fault = WriteFault {
-                written: room as u64,
+                written: before as u64,
             };
             assert_eq!(rt; write_text(&text, &mut out), Err(fault));
-            assert_eq!(rt; out.taken.as_slice(), &bytes[..room]);
+            assert_eq!(rt; out.taken.as_slice(), &FORK_TEXT.as_bytes()[..before]);
         }
     }
     Ok(())

@@ -119,28 +119,46 @@ fn write_alone() -> CallSet {
     calls
 }
 
+/// The lines of the write, the fork and the exits.
+pub(crate) const FORK_TEXT: &str =
+    "100 write(1, \"hi\\n\", 3) = 3\n100 fork() = 101\n100 exit(3) = ?\n100 +++ exited with 3 +++\n\
+    101 exit(0) = ?\n101 +++ exited with 0 +++\n";
+
+/// The deaths after these stops, and after those with the filter.
+const PLAIN_DEATHS: [(u32, u32, Death); 2] = [
+    (100, 7, Death::Exited(3)),
+    (101, 2, Death::Exited(0)),
+];
+
+const FILTERED_DEATHS: [(u32, u32, Death); 2] = [
+    (100, 4, Death::Exited(3)),
+    (101, 1, Death::Exited(0)),
+];
+
+/// The text of the write, the fork and the exits.
+pub(crate) fn fork_text(alloc: Global) -> Result<Text, Fail> {
+    let roster = Roster::new(alloc, &FAMILY)?;
+    let all = of_calls(32, CallSet::all());
+    Ok(text_of(alloc, &roster, &all, &HI, &FORKS, &PLAIN_DEATHS)?)
+}
+
 #[test]
 fn a_fork_is_printed_with_and_without_a_filter(rt: HostRuntime) -> Result<(), Fail> {
     let alloc = rt.alloc();
+    assert_eq!(rt; fork_text(alloc)?.as_bytes(), FORK_TEXT.as_bytes());
     let roster = Roster::new(alloc, &FAMILY)?;
-    let all = of_calls(32, CallSet::all());
     let short = of_calls(2, CallSet::all());
     let writes = of_calls(32, write_alone());
-    let plain = [(100, 7, Death::Exited(3)), (101, 2, Death::Exited(0))];
-    let filtered = [(100, 4, Death::Exited(3)), (101, 1, Death::Exited(0))];
-    let whole = "100 fork() = 101\n100 exit(3) = ?\n100 +++ exited with 3 +++\n\
+    let made = text_of(alloc, &roster, &short, &HI, &FORKS, &PLAIN_DEATHS)?;
+    let line =
+        "100 write(1, \"hi\"..., 3) = 3\n100 fork() = 101\n100 exit(3) = ?\n100 +++ exited with 3 +++\n\
         101 exit(0) = ?\n101 +++ exited with 0 +++\n";
-    let made = text_of(alloc, &roster, &all, &HI, &FORKS, &plain)?;
-    let line = format!(in alloc; "100 write(1, \"hi\\n\", 3) = 3\n{whole}")?;
-    assert_eq!(rt; made.as_bytes(), line.as_bytes());
-    let made = text_of(alloc, &roster, &short, &HI, &FORKS, &plain)?;
-    let line = format!(in alloc; "100 write(1, \"hi\"..., 3) = 3\n{whole}")?;
     assert_eq!(rt; made.as_bytes(), line.as_bytes());
     let line =
         "100 write(1, \"hi\\n\", 3) = 3\n100 +++ exited with 3 +++\n101 +++ exited with 0 +++\n";
-    let made = text_of(alloc, &roster, &writes, &HI, &FORKS, &plain)?;
+    let made = text_of(alloc, &roster, &writes, &HI, &FORKS, &PLAIN_DEATHS)?;
     assert_eq!(rt; made.as_bytes(), line.as_bytes());
-    let made = text_of(alloc, &roster, &writes, &HI, &FILTERED, &filtered)?;
+    let made = text_of(alloc, &roster, &writes, &HI, &FILTERED, &FILTERED_DEATHS)?;
     assert_eq!(rt; made.as_bytes(), line.as_bytes());
     Ok(())
 }

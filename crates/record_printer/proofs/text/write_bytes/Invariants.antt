@@ -1,7 +1,7 @@
 -- The first bytes are written.
 use Rattle.std.proofs.Common.{◌-◌, ◌≤◌, length, take}
 use Rattle.std.specs.Io.KnownBytes.{Appends}
-use Rattle.record_printer.proofs.text.write_text.Given as goal
+use Rattle.record_printer.proofs.text.write_bytes.Given as goal
 
 abbrev pub invariant-loop-written : goal.invariant-loop-written
 invariant-loop-written g l = record {

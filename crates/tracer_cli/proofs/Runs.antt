@@ -1,15 +1,17 @@
--- What is read of a file is cut after the byte that makes it too long, and so is refused as the whole file is.
+-- What is read of a file is cut after the byte that makes it too long, and so is refused as the whole file is; a job that
+-- is done answers its request.
 use Rattle.std.proofs.Common.{refl, ◌≡◌, ◌+◌, ◌≤◌, ◌++◌, [], ℕ, Bool, true, false, List, Option, Some, None, Result}
 use Rattle.std.proofs.Common.{Ok, Err, IfSome, length, nat_le, leb-true, take, min, arith, ap, sym, subst, ◌∙◌, Bor}
 use Rattle.std.proofs.Common.{length-take}
-use Rattle.std.specs.Prelude.{IfErr, IsOkAnd, OnOk}
 use Rattle.std.proofs.lemmas.Bool.Decides.{nat_tests}
 use Rattle.std.proofs.lemmas.List.{take_all}
-use Rattle.std.specs.Io.KnownBytes.{Appends}
 use Rattle.std.specs.Option.{option_map}
+use Rattle.clap.specs.Words.{takes}
 use Rattle.tracer_cli.specs.declared.arguments.Request.TheVariants.{Replay, Run, Help}
 use Rattle.tracer_cli.specs.declared.arguments.Request.{Request}
 use Rattle.tracer_cli.specs.declared.arguments.RunOptions.{RunOptions}
+use Rattle.tracer_cli.specs.declared.job.Job.{Job}
+use Rattle.tracer_cli.specs.declared.job.Job.TheVariants as job
 use Rattle.trace_script.specs.declared.cause.Cause.TheVariants.{TooMany}
 use Rattle.trace_script.specs.declared.cause.CaseError.{CaseError}
 use Rattle.trace_script.specs.CaseFile.{CaseContent, case_of}
@@ -17,14 +19,16 @@ use Rattle.text_lines.specs.Ranges.{◌>>=◌}
 use Rattle.tracer_workers.specs.Config.{plain, text_of}
 use Rattle.tracer_workers.specs.declared.config.Config.{Config}
 use Rattle.tracer_cli.specs.declared.failure.Failure.{Failure}
-use Rattle.tracer_cli.specs.declared.failure.Failure.TheVariants.{Refused, Usage, NoText, UnknownCall, NoMemory, NoThreads}
-use Rattle.tracer_cli.specs.declared.failure.Failure.TheVariants.{CannotWrite}
+use Rattle.tracer_cli.specs.declared.failure.Failure.TheVariants.{UnknownCall, NoMemory}
+use Rattle.tracer_cli.specs.declared.failure.Failure.TheVariants.{CannotRead, CannotWrite}
 use Rattle.trace_script.specs.Reading.{most_bytes}
-use Rattle.tracer_cli.specs.Arguments.{AreOptionsOf, AskRun, IsAskedBy, IsTaken}
-use Rattle.tracer_cli.specs.CaseText.{HasConfig, IsTextFailure, case_text_of, config_of}
+use Rattle.tracer_cli.specs.Arguments.{AreOptionsOf, AskReplay, AskRun, IsAskedBy, IsTaken, tracer_app}
+use Rattle.tracer_cli.specs.CaseText.{HasConfig, case_text_of, config_of}
 use Rattle.tracer_cli.specs.File.{content_of}
+use Rattle.tracer_cli.specs.Job.{HasNoJob, IsDone, IsJob}
 use Rattle.tracer_cli.specs.Replay.{replay_of, text_from}
-use Rattle.tracer_cli.specs.Run.{Answers, IsReadOf, IsUnwritten, Prints, PrintsCase, PrintsNamed}
+use Rattle.tracer_cli.specs.Run.{Answers, IsReadFailure, IsReadOf, IsUnwritten, Prints, PrintsCase, Replays, Runs}
+use Rattle.tracer_cli.specs.Run.{RunsNamed, Writes}
 use Rattle.tracer_cli.specs.Shown.{unknown_name}
 
 -- a reader's bytes up to a limit
@@ -72,98 +76,144 @@ cut_alike said refused text false long =
     (length-take (most_bytes + 1) text) in
     refused (take (most_bytes + 1) text) still ∙ sym (refused text long)
 
-case_alike : (options : RunOptions) (a b : List ℕ) (before after : Option (List ℕ)) (result : Result (Unit {0}) Failure)
-    → case_of a ≡ case_of b → PrintsCase options a before after result → PrintsCase options b before after result
-case_alike options a b before after (Ok done) same h =
+-- ---- from a job that is done to what a request asks for
+
+replayed : (text : List ℕ) (before after : Option (List ℕ)) (result : Result (Unit {0}) Failure)
+    → Prints (replay_of text) before after result → Replays text before after result
+replayed text before after (Err CannotRead) prints = tt
+replayed text before after other prints = prints
+
+case_ran : (options : RunOptions) (config : Config) (text : List ℕ) (before after : Option (List ℕ))
+    (result : Result (Unit {0}) Failure)
+    → unknown_name options.names ≡ None → HasConfig options config
+    → PrintsCase (case_text_of config text) before after result → Runs options text before after result
+case_ran options config text before after (Err (UnknownCall name)) known has prints = absurd prints
+case_ran options config text before after (Err CannotRead) known has prints = known
+case_ran options config text before after (Err NoMemory) known has prints = tt
+case_ran options config text before after other known has prints = (
+  known,
+  (
+    has.0,
+    has.1,
+    subst (λ (c : Config). PrintsCase (case_text_of c text) before after other) has.2 prints,
+  ),
+)
+
+replays_alike : (a b : List ℕ) (before after : Option (List ℕ)) (result : Result (Unit {0}) Failure)
+    → replay_of a ≡ replay_of b → Replays a before after result → Replays b before after result
+replays_alike a b before after (Err CannotRead) same replays = tt
+replays_alike a b before after other same replays =
+    subst (λ (r : Result (List ℕ) CaseError). Prints r before after other) same replays
+
+runs_alike : (options : RunOptions) (a b : List ℕ) (before after : Option (List ℕ)) (result : Result (Unit {0}) Failure)
+    → case_of a ≡ case_of b → Runs options a before after result → Runs options b before after result
+runs_alike options a b before after (Err (UnknownCall name)) same runs = runs
+runs_alike options a b before after (Err CannotRead) same runs = runs
+runs_alike options a b before after (Err NoMemory) same runs = tt
+runs_alike options a b before after other same runs =
     let P : Result CaseContent CaseError → Type 0 = λ r.
-    IsOkAnd (r >>= λ content. Ok (text_of (plain (config_of options h.1.0)) content)) (Appends before after) in (
-      h.0,
-      (h.1.0, h.1.1, subst P same h.1.2),
+    PrintsCase (r >>= λ content. Ok (text_of (plain (config_of options runs.1.0)) content)) before after other in (
+      runs.0,
+      (runs.1.0, runs.1.1, subst P same runs.1.2),
     )
-case_alike options a b before after (Err (Refused error)) same h = (h.0, sym same ∙ h.1)
-case_alike options a b before after (Err (UnknownCall name)) same h = h
-case_alike options a b before after (Err (Usage told)) same h = h
-case_alike options a b before after (Err NoText) same h = h
-case_alike options a b before after (Err failure) same h = tt
 
--- a replay of what is read is one of the file
-pub replay_answered : (file : Option (Bor (List ℕ))) (text : List ℕ) (input before after : Option (List ℕ))
+-- what is read of standard input is replayed as all of it would be
+replay_answered : (file : Option (Bor (List ℕ))) (text : List ℕ) (input before after : Option (List ℕ))
     (result : Result (Unit {0}) Failure)
-    → (file ≡ None → IsReadOf input text) → Prints (replay_of text) before after result
+    → (file ≡ None → IsReadOf input text) → Replays text before after result
     → Answers (Replay file) input before after result
-replay_answered None text None before after result read prints = tt
-replay_answered None text (Some all) before after result read prints =
-    subst (λ (r : Result (List ℕ) CaseError). Prints r before after result)
-    (ap replay_of (read refl) ∙ cut_alike replay_of replay_too_long all _ refl) prints
-replay_answered (Some path) text input before after result read prints = (text, prints)
+replay_answered None text None before after result read replays = tt
+replay_answered None text (Some all) before after result read replays = replays_alike text all before after result
+    (ap replay_of (read refl) ∙ cut_alike replay_of replay_too_long all _ refl) replays
+replay_answered (Some path) text input before after result read replays = (text, replays)
 
--- and so is a run
-pub run_answered : (options : RunOptions) (file : Option (Bor (List ℕ))) (text : List ℕ)
+-- and so it is run
+run_answered : (options : RunOptions) (file : Option (Bor (List ℕ))) (text : List ℕ)
     (input before after : Option (List ℕ)) (result : Result (Unit {0}) Failure)
-    → (file ≡ None → IsReadOf input text) → PrintsCase options text before after result
+    → (file ≡ None → IsReadOf input text) → Runs options text before after result
     → Answers (Run options file) input before after result
-run_answered options None text None before after result read prints = tt
-run_answered options None text (Some all) before after result read prints =
-    case_alike options text all before after result
-    (ap case_of (read refl) ∙ cut_alike case_of case_too_long all _ refl) prints
-run_answered options (Some path) text input before after result read prints = (text, prints)
+run_answered options None text None before after result read runs = tt
+run_answered options None text (Some all) before after result read runs =
+    runs_alike options text all before after result
+    (ap case_of (read refl) ∙ cut_alike case_of case_too_long all _ refl) runs
+run_answered options (Some path) text input before after result read runs = (text, runs)
 
--- what is as it was is unwritten, however a run ends
-pub untouched : {A : Type 0} (output : A) (ended : Result (Unit {0}) Failure) → IsUnwritten output output ended
-untouched output (Ok done) = tt
-untouched output (Err CannotWrite) = tt
-untouched output (Err failure) = refl
-
--- what a run of a case prints, by its text or by the failure to make one
-case_printed : (options : RunOptions) (config : Config) (text printed : List ℕ) (before after : Option (List ℕ))
-    → HasConfig options config → unknown_name options.names ≡ None → case_text_of config text ≡ Ok printed
-    → Appends before after printed → PrintsCase options text before after (Ok tt)
-case_printed options config text printed before after has known is appends =
-    let same : case_text_of (config_of options has.0) text ≡ Ok printed =
-    ap (λ (c : Config). case_text_of c text) (sym has.2) ∙ is in (
-      known,
-      (has.0, has.1, rw same appends),
-    )
-
-pub case_written : (options : RunOptions) (config : Config) (text printed : List ℕ) (before after : Option (List ℕ))
+-- a job that is done answers its request
+pub job_answered : (request : Request) (job : Job) (input before after : Option (List ℕ))
     (result : Result (Unit {0}) Failure)
-    → HasConfig options config → unknown_name options.names ≡ None → case_text_of config text ≡ Ok printed
-    → OnOk result (Appends before after printed) → IfErr result (λ failure. failure ≡ CannotWrite)
-    → PrintsCase options text before after result
-case_written options config text printed before after (Ok tt) has known is appends fails =
-    case_printed options config text printed before after has known is appends
-case_written options config text printed before after (Err failure) has known is appends fails =
-    subst (λ (f : Failure). PrintsCase options text before after (Err f)) (sym fails) tt
+    → IsJob request input job → IsDone job before after result → Answers request input before after result
+job_answered (Help text) (job.Print told) input before after result is done =
+    subst (λ (bytes : List ℕ). Writes bytes before after result) is done
+job_answered (Help text) (job.Replay bytes) input before after result is done = absurd is
+job_answered (Help text) (job.Run config bytes) input before after result is done = absurd is
+job_answered (Replay file) (job.Print told) input before after result is done = absurd is
+job_answered (Replay file) (job.Replay bytes) input before after result is done =
+    replay_answered file bytes.items input before after result is (replayed bytes.items before after result done)
+job_answered (Replay file) (job.Run config bytes) input before after result is done = absurd is
+job_answered (Run options file) (job.Print told) input before after result is done = absurd is
+job_answered (Run options file) (job.Replay bytes) input before after result is done = absurd is
+job_answered (Run options file) (job.Run config bytes) input before after result is done =
+    run_answered options file bytes.items input before after result is.2
+    (case_ran options config bytes.items before after result is.0 is.1 done)
 
-pub case_failed : (options : RunOptions) (text : List ℕ) (before after : Option (List ℕ)) (failure : Failure)
-    → unknown_name options.names ≡ None → IsTextFailure text failure → PrintsCase options text before after (Err failure)
-case_failed options text before after (Refused error) known fails = (known, fails)
-case_failed options text before after NoMemory known fails = tt
-case_failed options text before after NoThreads known fails = tt
-case_failed options text before after failure known fails = absurd fails
+-- and so does a failure to come to a job
+unread_replay : (text : List ℕ) (before after : Option (List ℕ)) (failure : Failure)
+    → IsReadFailure failure → Replays text before after (Err failure)
+unread_replay text before after CannotRead is = tt
+unread_replay text before after NoMemory is = tt
+unread_replay text before after failure is = absurd is
+
+unread_run : (options : RunOptions) (file : Option (Bor (List ℕ))) (text : List ℕ) (before after : Option (List ℕ))
+    (failure : Failure)
+    → HasNoJob (Run options file) failure → Runs options text before after (Err failure)
+unread_run options file text before after (UnknownCall name) has = has
+unread_run options file text before after CannotRead has = has
+unread_run options file text before after NoMemory has = tt
+unread_run options file text before after failure has = absurd has
+
+pub no_job_answered : (request : Request) (input before after : Option (List ℕ)) (failure : Failure)
+    → HasNoJob request failure → Answers request input before after (Err failure)
+no_job_answered (Help text) input before after failure has = absurd has
+no_job_answered (Replay None) None before after failure has = tt
+no_job_answered (Replay None) (Some text) before after failure has = unread_replay text before after failure has
+no_job_answered (Replay (Some path)) input before after failure has = ([], unread_replay [] before after failure has)
+no_job_answered (Run options None) None before after failure has = tt
+no_job_answered (Run options None) (Some text) before after failure has =
+    unread_run options None text before after failure has
+no_job_answered (Run options (Some path)) input before after failure has =
+    ([], unread_run options (Some path) [] before after failure has)
 
 -- ---- by the words
 
-named_prints : (words : List (List ℕ)) (options : RunOptions) (text : List ℕ) (before after : Option (List ℕ))
+replay_named : (words : List (List ℕ)) (request : Request) (input before after : Option (List ℕ))
     (result : Result (Unit {0}) Failure)
-    → AreOptionsOf words options → PrintsCase options text before after result
-    → PrintsNamed words text before after result
-named_prints words options text before after (Err NoMemory) are prints = tt
-named_prints words options text before after other are prints = (options, are, prints)
+    → AskReplay words → IsAskedBy words (Ok request) → IsTaken (Ok request) → Answers request input before after result
+    → IfSome input (λ text. Replays text before after result)
+replay_named words (Help text) input before after result ask asked taken answers = absurd taken
+replay_named words (Replay None) input before after result ask asked taken answers = answers
+replay_named words (Replay (Some file)) input before after result ask asked taken answers =
+    absurd (let is : Some file.now ≡ None = asked.1.1 ∙ ask.2 in cc)
+replay_named words (Run options file) input before after result ask asked taken answers =
+    absurd (let is : false ≡ true = sym ask.1 ∙ asked.1.0 in cc)
+
+named_runs : (words : List (List ℕ)) (options : RunOptions) (text : List ℕ) (before after : Option (List ℕ))
+    (result : Result (Unit {0}) Failure)
+    → AreOptionsOf words options → Runs options text before after result → RunsNamed words text before after result
+named_runs words options text before after (Err NoMemory) are runs = tt
+named_runs words options text before after other are runs = (options, are, runs)
 
 of_input : (words : List (List ℕ)) (options : RunOptions) (input before after : Option (List ℕ))
     (result : Result (Unit {0}) Failure)
-    → AreOptionsOf words options → IfSome input (λ text. PrintsCase options text before after result)
-    → IfSome input (λ text. PrintsNamed words text before after result)
-of_input words options None before after result are prints = tt
-of_input words options (Some text) before after result are prints =
-    named_prints words options text before after result are prints
+    → AreOptionsOf words options → IfSome input (λ text. Runs options text before after result)
+    → IfSome input (λ text. RunsNamed words text before after result)
+of_input words options None before after result are runs = tt
+of_input words options (Some text) before after result are runs =
+    named_runs words options text before after result are runs
 
--- words of a run of standard input ask for it
-pub run_named : (words : List (List ℕ)) (request : Request) (input before after : Option (List ℕ))
+run_named : (words : List (List ℕ)) (request : Request) (input before after : Option (List ℕ))
     (result : Result (Unit {0}) Failure)
     → AskRun words → IsAskedBy words (Ok request) → IsTaken (Ok request) → Answers request input before after result
-    → IfSome input (λ text. PrintsNamed words text before after result)
+    → IfSome input (λ text. RunsNamed words text before after result)
 run_named words (Help text) input before after result ask asked taken answers = absurd taken
 run_named words (Replay file) input before after result ask asked taken answers =
     absurd (let is : true ≡ false = sym ask.1 ∙ asked.1.0 in cc)
@@ -171,3 +221,31 @@ run_named words (Run options None) input before after result ask asked taken ans
     of_input words options input before after result asked.1.1 answers
 run_named words (Run options (Some file)) input before after result ask asked taken answers =
     absurd (let is : Some file.now ≡ None = asked.1.2 ∙ ask.2 in cc)
+
+-- words of a replay of standard input ask for it
+pub replay_asked : (given words : List (List ℕ)) (request : Request) (input before after : Option (List ℕ))
+    (result : Result (Unit {0}) Failure)
+    → given ≡ words → AskReplay words → IsAskedBy given (Ok request)
+    → (takes tracer_app given ≡ true → IsTaken (Ok request)) → Answers request input before after result
+    → IfSome input (λ text. Replays text before after result)
+replay_asked given words request input before after result same ask asked taken answers =
+    replay_named words request input before after result ask
+    (subst (λ (w : List (List ℕ)). IsAskedBy w (Ok request)) same asked) (taken (rw same ask.0)) answers
+
+-- and so do words of a run of it
+pub run_asked : (given words : List (List ℕ)) (request : Request) (input before after : Option (List ℕ))
+    (result : Result (Unit {0}) Failure)
+    → given ≡ words → AskRun words → IsAskedBy given (Ok request)
+    → (takes tracer_app given ≡ true → IsTaken (Ok request)) → Answers request input before after result
+    → IfSome input (λ text. RunsNamed words text before after result)
+run_asked given words request input before after result same ask asked taken answers =
+    run_named words request input before after result ask
+    (subst (λ (w : List (List ℕ)). IsAskedBy w (Ok request)) same asked) (taken (rw same ask.0)) answers
+
+-- ---- how the program ends
+
+-- what is as it was is unwritten, however a run ends
+pub untouched : {A : Type 0} (output : A) (ended : Result (Unit {0}) Failure) → IsUnwritten output output ended
+untouched output (Ok done) = tt
+untouched output (Err CannotWrite) = tt
+untouched output (Err failure) = refl

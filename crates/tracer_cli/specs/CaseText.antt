@@ -1,5 +1,5 @@
 -- The text of a case file: what its tracees print as they are traced by the options of a run (strace(1)).
-use Rattle.std.specs.Prelude.{◌≡◌, ℕ, List, Result, Ok, Err}
+use Rattle.std.specs.Prelude.{◌≡◌, ℕ, List, Result, Ok, Err, IsOk}
 use Rattle.text_lines.specs.Ranges.{◌>>=◌}
 use Rattle.trace_options.specs.Calls.{Calls}
 use Rattle.trace_script.specs.declared.cause.CaseError.{CaseError}
@@ -28,9 +28,10 @@ case_text_of config text = case_of text >>= λ content. Ok (text_of (plain confi
 abbrev pub HasConfig : RunOptions → Config → Type 0
 HasConfig options config = (calls : Calls) × AreShown options.names calls × (config ≡ config_of options calls)
 
--- the failures of a run of a case file: the file is refused, memory ran out, or a thread could not be started
+-- the failures of a run of a case file: the file is refused, memory ran out, or the file is taken and a thread could
+-- not be started
 abbrev pub IsTextFailure : (text : List ℕ) → Failure → Type 0
 IsTextFailure text (Refused error) = case_of text ≡ Err error
 IsTextFailure text NoMemory = Unit {0}
-IsTextFailure text NoThreads = Unit {0}
+IsTextFailure text NoThreads = IsOk (case_of text)
 IsTextFailure text failure = ⊥

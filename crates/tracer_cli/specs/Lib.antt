@@ -4,6 +4,7 @@ pub mod Command
 pub mod Failure
 pub mod File
 pub mod Grammar
+pub mod Job
 pub mod Replay
 pub mod Replies
 pub mod Run

@@ -1,8 +1,9 @@
 //! Laws of the definitions: each function is its contract alone.
 
-ghost use Rattle.std.specs.Prelude.{◌≡◌, ◌∷◌, [], ℕ, List, Ok, codes, length};
+ghost use Rattle.std.specs.Prelude.{◌≡◌, ◌∷◌, ◌^◌, [], ℕ, List, Ok, codes, length};
 ghost use Rattle.tracer_cli.specs.Arguments.{AreOptionsOf, AskReplay, AskRun, IsFollowed};
 ghost use Rattle.tracer_cli.specs.declared.arguments.RunOptions.{RunOptions};
+ghost use Rattle.tracer_cli.specs.declared.arguments.TheConstants.{MOST_SHOWN};
 ghost use Rattle.tracer_cli.specs.File.{ReplayContent, content_of};
 ghost use Rattle.tracer_cli.specs.Spelling.{IsContent, spelling};
 ghost use Rattle.tracer_cli.specs.declared.grammar.TheConstants.{ENDINGS, KEYWORDS, KINDS, NUMBERED_STOPS, PLAIN_STOPS};
@@ -19,6 +20,11 @@ pub fn words_are_counted()
     ensures numbered { length NUMBERED_STOPS ≡ 5 }
     ensures kinds { length KINDS ≡ 2 }
     ensures endings { length ENDINGS ≡ 2 }
+{}
+
+/// The greatest limit of strings and arrays that `-s` can give.
+pub fn numbers_are_fixed()
+    ensures shown { MOST_SHOWN ≡ 2 ^ 16 }
 {}
 
 /// What the shortest words ask for, the program's name first: `replay` for a replay of standard input, `run -f` for a run

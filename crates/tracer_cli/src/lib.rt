@@ -7,6 +7,7 @@ mod command;
 mod entry;
 mod failure;
 mod grammar;
+mod job;
 mod laws;
 mod order;
 mod reading;
@@ -16,6 +17,8 @@ mod shown;
 
 pub use entry::{process, program};
 pub use failure::Failure;
-pub use laws::{plain_words_are_taken, what_is_spelled_is_read, words_are_counted};
+pub use laws::{
+    numbers_are_fixed, plain_words_are_taken, what_is_spelled_is_read, words_are_counted,
+};
 pub use replay::replay_text;
 pub use trace_script::{CaseError, Cause};

@@ -1,14 +1,37 @@
--- What the words of a run ask for is answered.
-use Rattle.std.proofs.Common.{◌≡◌, ◌∙◌, ap, map, string_bytes, subst, List, ℕ, Bor, Ok}
-use Rattle.tracer_cli.specs.Arguments.{IsAskedBy}
-use Rattle.tracer_cli.proofs.Runs.{run_named}
+-- What the words of a replay, or of a run, ask for is answered.
+use Rattle.std.proofs.Common.{◌≡◌, ◌∙◌, ap, map, string_bytes, List, ℕ, Bor}
+use Rattle.std.proofs.lemmas.Result.{err_from_is_err_and}
+use Rattle.tracer_cli.proofs.Runs.{job_answered, no_job_answered, replay_asked, run_asked}
 use Rattle.tracer_cli.proofs.entry.run.Goals as goal
+
+pub returns-clause-replay : goal.returns-clause-replay
+returns-clause-replay g c = λ asks.
+    let given : map (λ (word : Bor (List ℕ)). word.now) c.as_slice.result.now ≡ map string_bytes c.args.words.now =
+    ap (map (λ (word : Bor (List ℕ)). word.now)) c.as_slice.ensures.value ∙ c.in_ok-words.ensures in
+    replay_asked _ _ c.in_ok-request.request _ _ _ _ given asks c.in_ok-request.ensures.words c.in_ok-request.ensures.taken
+    (job_answered c.in_ok-request.request c.in_ok-job.job _ _ _ _ c.in_ok-job.ensures.job c.do_job.ensures.done)
 
 pub returns-clause-run : goal.returns-clause-run
 returns-clause-run g c = λ asks.
-    let words : map (λ (word : Bor (List ℕ)). word.now) c.as_slice.result.now ≡ map string_bytes c.args.words.now =
+    let given : map (λ (word : Bor (List ℕ)). word.now) c.as_slice.result.now ≡ map string_bytes c.args.words.now =
     ap (map (λ (word : Bor (List ℕ)). word.now)) c.as_slice.ensures.value ∙ c.in_ok-words.ensures in
-    let taken = c.in_ok-request.ensures.taken (rw words asks.0) in
-    run_named (map string_bytes c.args.words.now) c.in_ok-request.request _ _ _ _ asks
-    (subst (λ (w : List (List ℕ)). IsAskedBy w (Ok c.in_ok-request.request)) words c.in_ok-request.ensures.words) taken
-    c.answer.ensures.answer
+    run_asked _ _ c.in_ok-request.request _ _ _ _ given asks c.in_ok-request.ensures.words c.in_ok-request.ensures.taken
+    (job_answered c.in_ok-request.request c.in_ok-job.job _ _ _ _ c.in_ok-job.ensures.job c.do_job.ensures.done)
+
+pub returns-in_err-job-clause-replay : goal.returns-in_err-job-clause-replay
+returns-in_err-job-clause-replay g c = λ asks.
+    let given : map (λ (word : Bor (List ℕ)). word.now) c.as_slice.result.now ≡ map string_bytes c.args.words.now =
+    ap (map (λ (word : Bor (List ℕ)). word.now)) c.as_slice.ensures.value ∙ c.in_ok-words.ensures in
+    let failed = err_from_is_err_and c.from_residual-in_err-job.result c.from_residual-in_err-job.ensures.1 in
+    rw (failed.1, failed.2)
+    (replay_asked _ _ c.in_ok-request.request _ _ _ _ given asks c.in_ok-request.ensures.words c.in_ok-request.ensures.taken
+    (no_job_answered c.in_ok-request.request _ _ _ _ c.in_err-job.ensures.failure))
+
+pub returns-in_err-job-clause-run : goal.returns-in_err-job-clause-run
+returns-in_err-job-clause-run g c = λ asks.
+    let given : map (λ (word : Bor (List ℕ)). word.now) c.as_slice.result.now ≡ map string_bytes c.args.words.now =
+    ap (map (λ (word : Bor (List ℕ)). word.now)) c.as_slice.ensures.value ∙ c.in_ok-words.ensures in
+    let failed = err_from_is_err_and c.from_residual-in_err-job.result c.from_residual-in_err-job.ensures.1 in
+    rw (failed.1, failed.2)
+    (run_asked _ _ c.in_ok-request.request _ _ _ _ given asks c.in_ok-request.ensures.words c.in_ok-request.ensures.taken
+    (no_job_answered c.in_ok-request.request _ _ _ _ c.in_err-job.ensures.failure))

@@ -1,7 +1,7 @@
 -- What a run of the program reads, prints and answers.
 use Rattle.std.proofs.Common.{ap}
 use Rattle.tracer_cli.proofs.Runs.{read_to_limit}
-use Rattle.tracer_cli.proofs.entry.read_all.Goals as goal
+use Rattle.tracer_cli.proofs.job.read_all.Goals as goal
 
 pub returns-in-Ok-clause-read : goal.returns-in-Ok-clause-read
 returns-in-Ok-clause-read g c =

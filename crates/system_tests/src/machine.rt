@@ -16,7 +16,7 @@ const SYSCALL: Resume = Resume {
     signal: 0,
 };
 
-const CONT: Resume = Resume {
+pub(crate) const CONT: Resume = Resume {
     kind: Kind::Cont,
     signal: 0,
 };
@@ -51,7 +51,7 @@ pub(crate) fn no_calls() -> Filter {
 }
 
 /// How many of these stops the machine makes, in order and with the next numbers, each after its restart.
-fn stops_made<A: Allocator>(
+pub(crate) fn stops_made<A: Allocator>(
     machine: &mut Machine<A>,
     record: &mut StopRecord<A>,
     turns: &[(Resume, Stop)],

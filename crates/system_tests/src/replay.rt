@@ -3,9 +3,11 @@
 use std::test::Fail;
 use tracer_cli::replay_text;
 
-const FILE: &[u8] = b"row 100 100 77 0\npublish 100 start\nclaim 100 0\nclaim 100 1\nstate 100\n";
+pub(crate) const FILE: &[u8] =
+    b"row 100 100 77 0\npublish 100 start\nclaim 100 0\nclaim 100 1\nstate 100\n";
 
-const REPLIES: &[u8] = b"published 1\nstop 1 0x80057f\nrefused NotWaitable\nclaimed 1 0\n";
+pub(crate) const REPLIES: &[u8] =
+    b"published 1\nstop 1 0x80057f\nrefused NotWaitable\nclaimed 1 0\n";
 
 #[test]
 fn a_replay_prints_the_boards_answers(rt: HostRuntime) -> Result<(), Fail> {

@@ -1,5 +1,6 @@
-//! Each growth of a case refused in turn. Room that is given back may be refused too: then it is kept.
+//! Each growth of a case refused in turn.
 
+use crate::machine::FORK;
 use refusing_allocator::RefusingAllocator;
 use trace_script::{Case, CaseError, Cause};
 
@@ -11,31 +12,41 @@ const CASE: &[u8] = b"tracee 100 100 77 0\npage 0x10000\ndata 0x10000 68690a\n\
                       call read 0 0x10000 3 = 3 fill 0x10000 616263\nfork 101\nexec 0x10000\npage 0x20000\n\
                       exit 3\nend\n# nothing\ntracee 101 101 77 100\nsignal 15 deadly\nend\n";
 
-/// The lines at which something grows: the rows, an image, the bytes of data, the bytes of a fill and the steps, what
-/// is tested late, another image, the scripts, and the steps of the second row. What has grown has room for a few more.
-const GROWING: [u32; 8] = [1, 2, 3, 4, 5, 7, 9, 12];
+/// Files of two rows, and the lines of each at which something grows: the rows, an image, the bytes of data, the bytes
+/// of a fill and the steps, what is tested late, another image, the scripts, and the steps of the second row. What has
+/// grown has room for a few more.
+const FILES: [(&[u8], &[u32]); 2] = [
+    (FORK, &[1, 2, 3, 4, 5, 7, 9]),
+    (CASE, &[1, 2, 3, 4, 5, 7, 9, 12]),
+];
 
 #[test]
 fn a_refused_growth_is_reported_at_the_line_that_was_read(rt: HostRuntime) {
-    let mut last = 0u32;
-    let mut lines = 0usize;
-    for granted in 0..MOST {
-        let heap = RefusingAllocator::new(rt.alloc(), granted);
-        match Case::read(&heap, CASE) {
-            Err(CaseError { line, cause }) => {
-                assert!(rt; heap.has_refused(), "{granted}");
-                assert_eq!(rt; cause, Cause::NoMemory, "{granted}");
-                assert!(rt; GROWING.contains(&line), "{granted}: {line}");
-                assert!(rt; last <= line, "{granted}: {line}");
-                if last < line {
-                    lines = lines.wrapping_add(1);
+    for (file, growing) in FILES {
+        let mut last = 0u32;
+        let mut lines = 0usize;
+        for granted in 0..MOST {
+            let heap = RefusingAllocator::new(rt.alloc(), granted);
+            match Case::read(&heap, file) {
+                Err(CaseError { line, cause }) => {
+                    assert!(rt; heap.has_refused(), "{granted}");
+                    assert_eq!(rt; cause, Cause::NoMemory, "{granted}");
+                    assert!(rt; last <= line, "{granted}: {line}");
+                    if last < line {
+                        assert_eq!(rt; growing.get(lines), Some(&line), "{granted}");
+                        lines = lines.wrapping_add(1);
+                    }
+                    last = line;
                 }
-                last = line;
+                Ok(case) => {
+                    assert!(rt; !heap.has_refused(), "{granted}");
+                    assert_eq!(rt; case.roster().len(), 2);
+                    break;
+                }
             }
-            Ok(case) => assert_eq!(rt; case.roster().len(), 2, "{granted}"),
         }
+        assert_eq!(rt; lines, growing.len());
     }
-    assert_eq!(rt; lines, GROWING.len());
 }
 
 #[test]

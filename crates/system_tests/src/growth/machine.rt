@@ -1,30 +1,59 @@
 //! Each growth of a machine refused in turn.
 
-use crate::machine::{machine_of, no_calls};
+use crate::machine::{CONT, FORK, machine_of, no_calls, stops_made};
 use refusing_allocator::RefusingAllocator;
-use trace_script::Case;
+use std::alloc::Allocator;
+use trace_record::{Stop, StopRecord};
+use trace_script::{Case, Machine};
 
 /// A block with an image, a fill, an exec and its image.
-const GROWING: &[u8] =
+const EXEC: &[u8] =
     b"tracee 1 1 1 0\npage 0\ndata 0 00\ncall read 0 0 1 = 1 fill 0 61\nexec 0\npage 0\nexit 0\nend\n";
+
+/// Files, the row whose machine is made, and how often that grows: for an image of one page the lists of addresses and
+/// of pages and the page, then the steps, with the images of execs, and the bytes of fills.
+const MACHINES: [(&[u8], u32, u32); 3] = [(FORK, 0, 4), (FORK, 1, 1), (EXEC, 0, 8)];
+
+/// Whether a machine makes the first stop, which needs no memory.
+fn starts<A: Allocator + Copy>(alloc: A, machine: Machine<A>) -> bool {
+    let mut machine = machine;
+    let mut record = StopRecord::empty(alloc, 100);
+    stops_made(&mut machine, &mut record, &[(CONT, Stop::Start)]) == 1
+}
+
+/// Whether a machine can be made and makes the first stop.
+fn is_made<A: Allocator + Copy>(alloc: A, case: &Case<A>, row: u32) -> bool {
+    match machine_of(alloc, case, row, 0x1b, &no_calls()) {
+        Some(machine) => starts(alloc, machine),
+        None => false,
+    }
+}
 
 #[test]
 fn a_machine_that_is_refused_a_growth_is_not_made(rt: HostRuntime) {
-    let mut refused = 0u32;
-    for granted in 0..64 {
-        let heap = RefusingAllocator::new(rt.alloc(), granted);
-        let Ok(case) = Case::read(&heap, GROWING) else {
-            continue;
-        };
-        if heap.has_refused() {
-            continue;
+    for (file, row, growths) in MACHINES {
+        let mut refused = 0u32;
+        for granted in 0..64 {
+            let heap = RefusingAllocator::new(rt.alloc(), granted);
+            let Ok(case) = Case::read(&heap, file) else {
+                assert!(rt; heap.has_refused(), "{granted}");
+                continue;
+            };
+            // Reading goes on with a list that could not be shrunk.
+            if heap.has_refused() {
+                continue;
+            }
+            let made = is_made(&heap, &case, row);
+            assert_eq!(rt; heap.has_refused(), !made, "{granted}");
+            if made {
+                break;
+            }
+            assert!(rt;
+                is_made(&heap, &case, row),
+                "{granted}: it is granted the next time"
+            );
+            refused = refused.saturating_add(1);
         }
-        let made = machine_of(&heap, &case, 0, 0x1, &no_calls()).is_some();
-        assert_eq!(rt; heap.has_refused(), !made, "{granted}");
-        if made {
-            break;
-        }
-        refused = refused.saturating_add(1);
+        assert_eq!(rt; refused, growths);
     }
-    assert!(rt; refused > 4 && refused < 64, "{refused}");
 }

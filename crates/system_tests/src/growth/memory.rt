@@ -1,9 +1,14 @@
 //! The growths of a tracee's memory.
 
+ghost use Rattle.std.specs.Prelude.{◌≡◌, ◌%◌};
+
 use crate::memory::fill;
+use mem_views::{Cut, End, Views};
 use refusing_allocator::RefusingAllocator;
-use std::alloc::Allocator;
+use std::alloc::{Allocator, Global};
+use std::test::Fail;
 use trace_pages::{MapError, Memory, NoMemory};
+use trace_record::StopRecord;
 
 /// Maps the pages 0 to 63, and answers the first that was refused for lack of memory, or 64.
 fn map_pages<A: Allocator + Copy>(memory: &mut Memory<A>) -> u64 {
@@ -70,39 +75,75 @@ fn a_map_that_is_refused_leaves_the_memory_as_it_was(rt: HostRuntime) {
     assert!(rt; refused < 128);
 }
 
-#[test]
-fn a_copy_that_is_refused_leaves_the_memory_as_it_was(rt: HostRuntime) {
-    let mut refused = 0u32;
-    for granted in 0..GROWTHS {
-        let heap = RefusingAllocator::new(rt.alloc(), granted);
-        let mut memory = Memory::new(&heap);
-        let _first = map_pages(&mut memory);
-        if heap.has_refused() {
-            continue;
-        }
-        assert!(rt; mark_pages(&mut memory, 64));
-        let first = memory.copy().is_ok();
-        assert_eq!(rt; heap.has_refused(), !first, "{granted}");
-        assert!(rt; has_pages(&memory, 64), "{granted}");
-        if first {
-            break;
-        }
-        refused = refused.wrapping_add(1);
-        let Ok(copy) = memory.copy() else {
-            return assert!(rt; false, "it is granted the next time");
-        };
-        assert!(rt; has_pages(&copy, 64), "{granted}");
+/// Maps a page, and once more where it is refused. Whether a growth that is refused, and nothing else, is reported, and
+/// leaves the page unmapped.
+fn maps<'a>(
+    heap: &'a RefusingAllocator<Global>,
+    memory: &mut Memory<&'a RefusingAllocator<Global>>,
+    page: u64,
+) -> bool
+    requires { page % 4096 ≡ 0 }
+{
+    let was_refused = heap.has_refused();
+    let mapped = memory.map(page);
+    if heap.has_refused() == was_refused {
+        return mapped == Ok(());
     }
-    assert_eq!(rt; refused, 66, "a copy has two lists and 64 boxes");
+    mapped == Err(MapError::NoMemory) && memory.byte(page).is_none() && memory.map(page) == Ok(())
+}
+
+/// Whether a view has the two letters before the end of a page and the one after it.
+fn has_letters<A: Allocator>(mut cut: Cut<'_, A>, end: End) -> bool {
+    let whole = cut.len() == 3 && cut.end() == end;
+    whole
+        && cut.next() == Some(b"ab".as_slice())
+        && cut.next() == Some(b"c".as_slice())
+        && cut.next().is_none()
+}
+
+/// Whether the string that goes over two pages is shown up to its zero, and up to a limit before that.
+fn shows_string<A: Allocator>(record: &StopRecord<A>) -> bool {
+    let views = Views::of(record);
+    has_letters(views.c_string(0x10ffe, 33), End::Nul)
+        && has_letters(views.c_string(0x10ffe, 4), End::Nul)
+        && has_letters(views.c_string(0x10ffe, 3), End::Limit)
 }
 
 #[test]
-fn the_only_error_of_a_copy_is_no_memory(rt: HostRuntime) {
-    let heap = RefusingAllocator::new(rt.alloc(), 3);
-    let mut memory = Memory::new(&heap);
-    assert_eq!(rt; memory.map(0), Ok(()));
-    assert!(rt; matches!(memory.copy(), Err(NoMemory)));
-    assert!(rt; heap.has_refused());
+fn a_string_over_two_pages_is_mapped_and_copied(rt: HostRuntime) -> Result<(), Fail> {
+    let mut copies = 0u32;
+    let mut refused = 0u32;
+    for granted in 0..GROWTHS {
+        let heap = RefusingAllocator::new(rt.alloc(), granted);
+        let mut record = StopRecord::empty(&heap, 100);
+        assert!(rt; maps(&heap, &mut record.memory, 0x10000), "{granted}");
+        assert!(rt; maps(&heap, &mut record.memory, 0x11000), "{granted}");
+        assert!(rt; record.memory.store(0x10ffe, b"ab").is_ok());
+        assert!(rt; record.memory.store(0x11000, b"c\0").is_ok());
+        let was_refused = heap.has_refused();
+        let first = record.memory.copy();
+        assert!(rt; shows_string(&record), "{granted}");
+        assert_eq!(rt;
+            first.is_err(),
+            heap.has_refused() != was_refused,
+            "{granted}"
+        );
+        record.memory = match first {
+            Ok(copy) => copy,
+            Err(NoMemory) => {
+                copies = copies.wrapping_add(1);
+                record.memory.copy()?
+            }
+        };
+        assert!(rt; shows_string(&record), "{granted}");
+        if !heap.has_refused() {
+            break;
+        }
+        refused = refused.wrapping_add(1);
+    }
+    assert_eq!(rt; copies, 4, "a copy has two lists and two boxes");
+    assert_eq!(rt; refused, 8, "and so have the two pages");
+    Ok(())
 }
 
 #[test]

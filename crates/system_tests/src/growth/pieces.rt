@@ -8,27 +8,28 @@ use trace_options::CallSet;
 use trace_pages::MapError;
 use trace_record::{Stop, StopRecord};
 
-/// The starts and the end of a call, a call that is not known by name, and a signal.
+/// The stops of a tracee that a signal kills, then the starts and the end of a call, and a call that is not known by name.
 #[test]
 fn a_piece_that_is_refused_a_growth_is_not_made(rt: HostRuntime) -> Result<(), Fail> {
     let show = Show {
         limit: 32,
         calls: CallSet::all(),
     };
-    let mut record = StopRecord::empty(rt.alloc(), 100);
+    let mut record = StopRecord::empty(rt.alloc(), 200);
     assert_eq!(rt; record.memory.map(0x10000), Ok::<(), MapError>(()));
     assert!(rt; record.memory.store(0x10000, b"hi\n").is_ok());
     record.number = 2;
     record.regs.rsi = 0x10000;
     record.regs.rdx = 3;
     record.regs.rax = 3;
-    for (stop, number) in [
-        (Stop::Enter, 1),
-        (Stop::Seccomp(0), 1),
-        (Stop::Enter, 0),
-        (Stop::Exit, 0),
-        (Stop::Exit, 300),
-        (Stop::Signal(15), 0),
+    for (stop, number, grows) in [
+        (Stop::Start, 0, false),
+        (Stop::Signal(15), 0, true),
+        (Stop::Enter, 1, true),
+        (Stop::Seccomp(0), 1, true),
+        (Stop::Enter, 0, true),
+        (Stop::Exit, 0, true),
+        (Stop::Exit, 300, true),
     ] {
         record.stop = stop;
         record.regs.orig_rax = number;
@@ -41,9 +42,16 @@ fn a_piece_that_is_refused_a_growth_is_not_made(rt: HostRuntime) -> Result<(), F
             if made {
                 break;
             }
+            assert!(rt; record.number <= LAST_NUMBER);
+            let again = piece_of(&heap, &record, &show);
+            assert!(rt;
+                again.is_ok(),
+                "{stop:?} {granted}: it is granted the next time"
+            );
             refused = refused.saturating_add(1);
         }
-        assert!(rt; refused > 0 && refused < 64, "{stop:?} {refused}");
+        assert!(rt; refused < 64, "{stop:?} {refused}");
+        assert_eq!(rt; refused > 0, grows, "{stop:?} {refused}");
     }
     Ok(())
 }

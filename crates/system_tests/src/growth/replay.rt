@@ -1,66 +1,77 @@
 //! Each growth of a replay refused in turn.
 
+use crate::replay::{FILE, REPLIES};
 use refusing_allocator::RefusingAllocator;
 use tracer_cli::{CaseError, Cause, replay_text};
 
 /// More than a replay has growths.
 const MOST: u64 = 20;
 
-/// A file of two rows, with a line that says nothing.
-const REPLAY: &[u8] = b"row 100 100 77 0\nrow 101 100 77 100\n\npublish 100 start\nstate 101\n";
+/// A thread is created and its leader exits last.
+const THREAD: &[u8] =
+    b"row 100 100 77 0\nrow 101 100 77 100\npublish 101 start\npublish 100 start\n\
+                        claim 100 0\nresume 100 1 syscall 0\nresume 100 0 syscall 0\npublish 100 clone 101\n\
+                        state 101\nclaim 100 0\nresume 100 0 cont 0\npublish 100 clone 101\n\
+                        exit 100 exited 3\nexit 101 exited 0\nexit 100 exited 3\nclaim 100 2\nstate 100\n\
+                        claim 100 0\n";
 
-/// What the replay prints.
-const REPLIES: &[u8] = b"published 1\nunborn\n";
+/// What that replay prints.
+const THREAD_REPLIES: &[u8] =
+    b"refused Unborn\npublished 1\nstop 1 0x80057f\nrefused NotHolder\nresumed\n\
+                                published 2\nrunning\nstop 2 0x03057f\nresumed\nrefused NotNext\n\
+                                refused GroupAlive 101\nexited\nexited\nended 2 0x000300\nreaped\n\
+                                refused NotWaitable\n";
 
-/// Accepted files, the lines at which something grows while they are read, and their last line. The first row makes
-/// room for a few more, and the first command for all that may follow.
-const ACCEPTED: [(&[u8], &[u32], u32); 5] = [
-    (REPLAY, &[1, 4], 5),
+/// An accepted file, what is printed of it, the lines at which something grows while it is read, its last line, and how
+/// many growths come after that. The first row makes room for a few more, and the first command for all that may follow.
+/// After the last line grow the World's rows, words and words last seen, and the text where there is one.
+type Accepted = (&'static [u8], &'static [u8], &'static [u32], u32, usize);
+
+const ACCEPTED: [Accepted; 6] = [
+    (FILE, REPLIES, &[1, 2], 5, 4),
+    (THREAD, THREAD_REPLIES, &[1, 3], 18, 4),
     (
         b"# one thread\n\nrow 7 7 7 0\n  # and no command\n",
+        b"",
         &[3],
         4,
+        3,
     ),
-    (b"\nrow 7 7 7 0\nstate 7", &[2, 3], 3),
-    (b"row 7 7 7 0\nstate 7\n\n\n# the end", &[1, 2], 5),
-    (b"row 7 7 7 0\nstate 7\n\n\n", &[1, 2], 4),
+    (b"\nrow 7 7 7 0\nstate 7", b"running\n", &[2, 3], 3, 4),
+    (
+        b"row 7 7 7 0\nstate 7\n\n\n# the end",
+        b"running\n",
+        &[1, 2],
+        5,
+        4,
+    ),
+    (b"row 7 7 7 0\nstate 7\n\n\n", b"running\n", &[1, 2], 4, 4),
 ];
 
 #[test]
 fn a_refused_growth_is_reported_at_the_line_that_was_read(rt: HostRuntime) {
-    for (file, reading, last) in ACCEPTED {
+    for (file, replies, reading, last, after) in ACCEPTED {
         let mut refusals = 0usize;
         for granted in 0..MOST {
             let heap = RefusingAllocator::new(rt.alloc(), granted);
-            let fault = replay_text(&heap, file).err();
-            assert_eq!(rt; heap.has_refused(), fault.is_some());
-            if fault.is_none() {
-                break;
+            match replay_text(&heap, file) {
+                Ok(text) => {
+                    assert_eq!(rt; text.as_slice(), replies);
+                    assert!(rt; !heap.has_refused(), "{granted}");
+                    break;
+                }
+                Err(fault) => {
+                    // After the last line has been read, its number stands for what is done with the whole file.
+                    let line = reading.get(refusals).copied().unwrap_or(last);
+                    let cause = Cause::NoMemory;
+                    assert_eq!(rt; fault, CaseError { line, cause }, "{granted}");
+                    assert!(rt; heap.has_refused(), "{granted}");
+                    refusals = refusals.wrapping_add(1);
+                }
             }
-            // After the last line has been read, its number stands for what is done with the whole file.
-            let line = reading.get(refusals).copied().unwrap_or(last);
-            let cause = Cause::NoMemory;
-            assert_eq!(rt; fault, Some(CaseError { line, cause }), "{granted}");
-            refusals = refusals.wrapping_add(1);
         }
-        // The World's rows, words and words last seen grow.
-        assert!(rt; refusals >= reading.len().wrapping_add(3), "{refusals}");
+        assert_eq!(rt; refusals, reading.len().wrapping_add(after), "{last}");
     }
-}
-
-#[test]
-fn a_replay_whose_last_growth_is_granted_prints_its_replies(rt: HostRuntime) {
-    let mut refusals = 0u32;
-    for granted in 0..MOST {
-        let heap = RefusingAllocator::new(rt.alloc(), granted);
-        if let Ok(text) = replay_text(&heap, REPLAY) {
-            assert_eq!(rt; text.as_slice(), REPLIES);
-            break;
-        }
-        refusals = refusals.wrapping_add(1);
-    }
-    // The rows, the orders, the World's rows, words and words last seen, the text.
-    assert_eq!(rt; refusals, 6);
 }
 
 #[test]

@@ -43,6 +43,27 @@ fn a_root_runs_to_its_first_stop(rt: HostRuntime) -> Result<(), Fail> {
 }
 
 #[test]
+fn a_row_that_is_taken_up_is_not_taken_up_again(rt: HostRuntime) -> Result<(), Fail> {
+    let Trio {
+        tracee,
+        mut first,
+        second: _,
+    } = open_trio(rt.alloc())?;
+    let running = tracee.take_up().ok().expect(&rt, "a root runs");
+    let (got_nothing, running) = running.take_up_again();
+    assert!(rt; got_nothing, "its handle has it taken up");
+    assert!(rt; running.tracee.holds());
+    let _tracee = running.publish(Stop::Start, 7).expect(&rt, "a stop");
+    let published = Answer::Stop {
+        tid: 100,
+        number: 1,
+        mark: 7,
+    };
+    assert_eq!(rt; first.try_claim(0), published);
+    Ok(())
+}
+
+#[test]
 fn a_second_claim_gets_nothing(rt: HostRuntime) -> Result<(), Fail> {
     let Trio {
         tracee,

@@ -138,6 +138,30 @@ fn births_after(births: usize, stop: Stop) -> Option<usize>
 }
 
 impl<A: Allocator> Running<A> {
+    /// Asks for the row, which it has, once more. It answers whether it got nothing, and the row as it was.
+    pub(crate) fn take_up_again(self) -> (bool, Running<A>)
+        ensures { result.1.tracee.table_id ≡ self.tracee.table_id }
+    {
+        let Running {
+            mut tracee,
+            roster,
+            row,
+            births,
+            how,
+            record,
+        } = self;
+        let got_nothing = tracee.take_up().is_none();
+        let running = Running {
+            tracee,
+            roster,
+            row,
+            births,
+            how,
+            record,
+        };
+        (got_nothing, running)
+    }
+
     /// Publishes the row's next stop, with this mark in `rax`. Where the row cannot make the stop, it answers None.
     pub(crate) fn publish(self, stop: Stop, mark: u64) -> Option<AtRest<A>>
         ensures { IfSome result (λ r. r.tracee.table_id ≡ self.tracee.table_id) }

@@ -1,12 +1,11 @@
 //! A worker over an allocator that refuses one growth: it serves all stops all the same.
 
-ghost use Rattle.std.specs.Prelude.{◌≡◌, ◌<◌, [], IfOk, IfSome, length};
+ghost use Rattle.std.specs.Prelude.{◌≡◌, []};
 ghost use Rattle.stop_table.specs.Tracer.{held_rows};
-ghost use Rattle.tracer_workers.specs.Config.{plan_of};
-ghost use Rattle.tracer_workers.specs.Plan.{opening_of};
 ghost use Rattle.tracer_workers.specs.Threaded.{CanRun};
 
 use crate::workers::cases::all;
+use crate::workers::party::new_party;
 use refusing_allocator::RefusingAllocator;
 use std::alloc::Allocator;
 use std::sync::Wait;
@@ -16,11 +15,10 @@ use std::thread;
 use std::thread::Threads;
 use std::time::Clock;
 use stop_history::Roster;
-use stop_table::{Tracee, Tracer, open};
+use stop_table::{Tracee, Tracer};
 use trace_calls::Calls;
-use trace_pages::NoMemory;
 use trace_script::{Case, Machine};
-use tracer_workers::{Config, Gate, Worked, run_tracee, run_worker};
+use tracer_workers::{Gate, Worked, run_tracee, run_worker};
 
 /// A root that makes one call and exits.
 const ROOT: &str = "tracee 100 100 77 0\ncall getpid = 100\nexit 0\nend\n";
@@ -61,47 +59,6 @@ struct Outcome {
     short: bool,
     pieces: usize,
     stops: u32,
-}
-
-/// The machine of the first row, before its first stop.
-fn first_machine<A: Allocator + Copy>(
-    alloc: A,
-    case: &Case<A>,
-    config: &Config,
-) -> Result<Machine<A>, NoMemory>
-    requires { 0 < length case.now.rows }
-    ensures { IfOk result (λ machine. machine ≡ opening_of (plan_of config.now case.now) 0) }
-{
-    let (options, filter) = (config.options(), config.filter());
-    let machine = Machine::new(alloc, case, 0, options, &filter)?;
-    Ok(machine)
-}
-
-/// The tracee of a case of one row, its machine, and a tracer; None where a growth is refused.
-fn new_party<A: Allocator + Copy>(
-    alloc: A,
-    case: &Case<A>,
-    config: &Config,
-) -> Option<(Tracee<A>, Machine<A>, Tracer<A>)>
-    ensures tracee { IfSome result (λ p. CanRun p.0 p.1) }
-    ensures tracer { IfSome result (λ p. (case.now.rows ≡ p.2.view.roster) × (held_rows p.2.view ≡ [])) }
-{
-    if case.roster().len() != 1 {
-        return None;
-    }
-    let Ok(machine) = first_machine(alloc, case, config) else {
-        return None;
-    };
-    let Ok(mut ends) = open(alloc, case.roster(), 1) else {
-        return None;
-    };
-    let Some(tracee) = ends.tracees.pop() else {
-        return None;
-    };
-    let Some(tracer) = ends.tracers.pop() else {
-        return None;
-    };
-    Some((tracee, machine, tracer))
 }
 
 /// Whether the worker begins to serve. It waits until the worker says so.
@@ -159,7 +116,8 @@ fn outcome_of<A: Allocator + Copy + Send + Sync, R: Threads + Wait + Clock + Syn
     alloc: A,
     case: &Case<A>,
 ) -> Option<Outcome> {
-    let (tracee, machine, tracer) = new_party(alloc, case, &all())?;
+    let config = all();
+    let (tracee, machine, tracer) = new_party(alloc, case, config.options(), &config.filter())?;
     let counting = Counting {
         stops: AtomicU32::new(0),
     };

@@ -10,8 +10,8 @@ PREFIX ?= /usr/local
 OUT = bench/out
 COMMA = ,
 
-.PHONY: all kit demo examples man-page refused-code check wrong-bodies wrong-bodies-changed wrong-bodies-test test \
-	bench bench-case bench-cells bench-pages bench-fold bench-run bench-threads tools install clean
+.PHONY: all kit demo examples scarce-memory man-page refused-code check wrong-bodies wrong-bodies-changed \
+	wrong-bodies-test test bench bench-case bench-cells bench-pages bench-fold bench-run bench-threads tools install clean
 
 all: kit
 	@echo "make: proving the program and what it stands on, over what earlier runs kept (the first time: 45 minutes)"
@@ -37,6 +37,12 @@ examples: kit
 	@echo "examples/run/fork.case:"; cat examples/run/fork.case; echo "prints:"; cat examples/run/fork.case.stdout
 	@$(PYTHON) tools/cases.py --self-test
 	@RT="$(RT)" $(PYTHON) tools/cases.py check $(if $(PROGRAM),--program $(PROGRAM))
+
+# PROGRAM=FILE is the program, which is built already.
+scarce-memory: PROGRAM ?= bin/tracer
+scarce-memory:
+	@echo "scarce-memory: running $(PROGRAM) with less and less address space (some seconds)"
+	@$(PYTHON) tools/scarce_memory.py $(PROGRAM)
 
 man-page: kit
 	@echo "man-page: comparing man/tracer.1 with the program's help, and running its examples (two minutes)"
@@ -66,8 +72,9 @@ check: kit
 	$(call part,wrong bodies)
 	@$(MAKE) --no-print-directory wrong-bodies-test
 	@$(MAKE) --no-print-directory wrong-bodies-changed
-	$(call part,examples$(COMMA) the manual page$(COMMA) programs that must not compile)
+	$(call part,examples$(COMMA) scarce memory$(COMMA) the manual page$(COMMA) programs that must not compile)
 	@$(MAKE) --no-print-directory examples PROGRAM=crates/tracer/out/tracer
+	@$(MAKE) --no-print-directory scarce-memory PROGRAM=crates/tracer/out/tracer
 	@$(MAKE) --no-print-directory man-page
 	@$(MAKE) --no-print-directory refused-code
 	$(call part,done)

@@ -138,6 +138,25 @@ def places(text, file):
     return found
 
 
+def contracts(text):
+    """What a caller of this file's functions can rest on: the text with neither comments nor bodies."""
+    found = places(text, "")
+    outer = [it for it in found if not any(other.begin < it.begin < other.end for other in found)]
+    for it in reversed(outer):
+        text = text[: it.begin] + text[it.end :]
+    return re.sub(r"(?m)^[ \t]*//[^\n]*\n", "", text)
+
+
+def test_modules(texts):
+    """The modules that are compiled for tests alone, by their paths below src/, without an ending."""
+    found = set()
+    for file, text in texts.items():
+        folder = file.removeprefix("src/").removesuffix(".rt")
+        folder = "" if folder in ("lib", "main") else f"{folder}/"
+        found |= {folder + it for it in re.findall(r"#\[cfg\(test\)\]\s*(?:pub\s+)?mod\s+(\w+)\s*;", text)}
+    return found
+
+
 def function_at(text, file, begin, end):
     """The function whose body holds these characters; the innermost, or None."""
     inside = [it for it in places(text, file) if it.begin < begin and end < it.end]

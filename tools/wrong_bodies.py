@@ -8,7 +8,7 @@ other edit is tried alone, and counts as `rt must-fail` would count it. The last
 status is 1 where an edit failed.
 
 tools/wrong_bodies.tried has a line for each crate whose edits were all refused: a digest of the crate's sources,
-definitions, proofs and edits, and of the sources and definitions below it.
+definitions, proofs and edits, and of the contracts and definitions below it. Tests decide nothing, and are left out.
 """
 
 import argparse
@@ -26,6 +26,7 @@ import time
 
 import body_edits
 import body_report
+import rattle_source
 from body_report import Verdict
 
 TOP = pathlib.Path(__file__).resolve().parent.parent
@@ -56,13 +57,29 @@ class Crate:
         self.edits, self.bad = body_edits.read(self.folder)
         self.texts = body_edits.sources(self.folder)
 
+    def files_of(self, *parts):
+        """The files of these folders, but for those of tests."""
+        tests = rattle_source.test_modules(self.texts)
+        for part in parts:
+            for file in sorted(it for it in (self.folder / part).rglob("*") if it.is_file()):
+                inside = str(file.relative_to(self.folder / part)).removesuffix(".rt")
+                if part not in ("src", "proofs") or not any(f"{inside}/".startswith(f"{it}/") for it in tests):
+                    yield file
+
     def digest(self):
         """A digest of what decides whether the crate's wrong bodies are refused."""
         sum_of = hashlib.sha256()
-        for crate, parts in [(self, (*PARTS, "wrong-bodies")), *((it, PARTS[:2]) for it in self.below)]:
-            files = sorted(file for part in parts for file in (crate.folder / part).rglob("*") if file.is_file())
-            for file in files:
-                sum_of.update(f"{file.relative_to(self.root)}\n{file.stat().st_size}\n".encode() + file.read_bytes())
+
+        def add(file, text):
+            sum_of.update(f"{file.relative_to(self.root)}\n{len(text)}\n".encode() + text)
+
+        for file in self.files_of(*PARTS, "wrong-bodies"):
+            add(file, file.read_bytes())
+        for crate in self.below:
+            for file in crate.files_of("src"):
+                add(file, rattle_source.contracts(crate.texts[str(file.relative_to(crate.folder))]).encode())
+            for file in crate.files_of("specs"):
+                add(file, file.read_bytes())
         return sum_of.hexdigest()[:32]
 
 

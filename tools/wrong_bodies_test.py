@@ -4,6 +4,7 @@
 """
 
 import pathlib
+import shutil
 import subprocess
 import sys
 import tempfile
@@ -132,18 +133,46 @@ class WrongBodies(unittest.TestCase):
         self.assertEqual(said.split("\n")[-2], "2 passed, 3 failed", said)
         self.assertEqual((self.root / "tools" / "wrong_bodies.tried").read_text(), "")
 
-    def test_a_crate_is_tried_again_once_a_file_of_it_changes(self):
-        sample = wrong_bodies.crates_of(self.root)["sample"]
+    def changed_by(self, file, old, new):
+        """The crates whose edits are to be tried once the text stands in the file in place of the old one."""
+        before = file.read_text()
+        self.assertIn(old, before)
+        file.write_text(before.replace(old, new, 1))
+        found = wrong_bodies.chosen(wrong_bodies.words_of(["--changed", "--root", str(self.root)]))
+        file.write_text(before)
+        return [it.name for it in found]
+
+    def keep_digests(self):
         (self.root / "tools").mkdir()
-        (self.root / "tools" / "wrong_bodies.tried").write_text(f"sample {sample.digest()}\n")
-        words = wrong_bodies.words_of(["--changed", "--root", str(self.root)])
-        self.assertEqual(wrong_bodies.chosen(words), [])
-        for file in ("src/lib.rt", "specs/Lib.antt", "proofs/Lib.antt", "wrong-bodies/gives_zero.edit"):
-            before = (self.crate / file).read_text()
-            (self.crate / file).write_text(before + "\n")
-            self.assertEqual([it.name for it in wrong_bodies.chosen(words)], ["sample"], file)
-            (self.crate / file).write_text(before)
-        self.assertEqual(wrong_bodies.chosen(words), [])
+        digests = {name: it.digest() for name, it in wrong_bodies.crates_of(self.root).items()}
+        (self.root / "tools" / "wrong_bodies.tried").write_text("".join(f"{it} {digests[it]}\n" for it in digests))
+
+    def test_a_crate_is_tried_again_once_a_file_of_it_changes(self):
+        source = self.crate / "src" / "lib.rt"
+        source.write_text(f"{SOURCE}\n#[cfg(test)]\nmod tests;\n")
+        (self.crate / "src" / "tests.rt").write_text("//! Tests.\n")
+        self.keep_digests()
+        self.assertEqual(self.changed_by(source, "x;", "x;"), [])
+        for file, old in [
+            (source, "// This is"),
+            (self.crate / "specs" / "Lib.antt", ""),
+            (self.crate / "proofs" / "Lib.antt", ""),
+            (self.crate / "wrong-bodies" / "gives_zero.edit", "new"),
+        ]:
+            self.assertEqual(self.changed_by(file, old, f"\n{old}"), ["sample"], file)
+        self.assertEqual(self.changed_by(self.crate / "src" / "tests.rt", "Tests", "Other tests"), [])
+
+    def test_of_the_crates_below_contracts_and_definitions_count(self):
+        upper = self.root / "crates" / "upper"
+        shutil.copytree(self.crate, upper)
+        (self.root / "crates.txt").write_text("sample:\nupper: sample\n")
+        self.keep_digests()
+        source = self.crate / "src" / "lib.rt"
+        self.assertEqual(self.changed_by(source, "let second = x;", "let second = { x };"), ["sample"])
+        self.assertEqual(self.changed_by(source, "/// The number.", "/// The number, again."), ["sample"])
+        self.assertEqual(self.changed_by(source, "second(x: u8)", "second(x: u16)"), ["sample", "upper"])
+        self.assertEqual(self.changed_by(self.crate / "specs" / "Lib.antt", "", "\n"), ["sample", "upper"])
+        self.assertEqual(self.changed_by(self.crate / "proofs" / "Lib.antt", "", "\n"), ["sample"])
 
 
 if __name__ == "__main__":

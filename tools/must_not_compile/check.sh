@@ -10,13 +10,13 @@ rt=${RT:-rt}
 program=$copy/crates/refused_code
 rm -rf "$copy"
 mkdir -p "$program/src" "$program/specs" "$program/proofs"
-for crate in trace_status trace_regs trace_options trace_pages trace_record stop_history stop_table trace_calls \
-    refusing_allocator; do
+for crate in trace_status trace_regs trace_options trace_pages trace_record mem_views stop_history stop_table \
+    trace_calls; do
   mkdir -p "$copy/crates/$crate"
   for part in src specs proofs; do cp -R "$top/crates/$crate/$part" "$copy/crates/$crate/"; done
   grep "^$crate:" "$top/crates.txt" >> "$copy/crates.txt"
 done
-echo "refused_code: stop_table trace_record trace_calls" >> "$copy/crates.txt"
+echo "refused_code: stop_table trace_record trace_calls mem_views" >> "$copy/crates.txt"
 touch "$program/specs/Lib.antt" "$program/proofs/Lib.antt"
 for file in "$here"/*.rattle; do
   name=$(basename "$file" .rattle)

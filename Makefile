@@ -10,7 +10,7 @@ PREFIX ?= /usr/local
 OUT = bench/out
 COMMA = ,
 
-.PHONY: all kit demo examples scarce-memory man-page refused-code check wrong-bodies wrong-bodies-changed \
+.PHONY: all kit demo examples scarce-memory man-page one-source refused-code check wrong-bodies wrong-bodies-changed \
 	wrong-bodies-test test bench bench-case bench-cells bench-pages bench-fold bench-run bench-threads tools install clean
 
 all: kit
@@ -52,6 +52,11 @@ man-page: kit
 	@$(PYTHON) tools/man_page.py compare man/tracer.1 $(OUT)/man_page.txt
 	@echo "man-page: the page has the options of the help, and its examples print what it says"
 
+one-source:
+	@echo "one-source: comparing what is written in several places with the place that decides (a second)"
+	@$(PYTHON) tools/one_source.py --self-test
+	@$(PYTHON) tools/one_source.py
+
 refused-code:
 	@echo "refused-code: compiling programs that must not compile, and one that must (a minute and a half)"
 	@RT=$(RT) tools/must_not_compile/check.sh $(OUT)/refused_code
@@ -67,6 +72,7 @@ endef
 
 check: kit
 	@echo "check: docs/STATUS.md has the time"
+	@$(MAKE) --no-print-directory one-source
 	$(call part,proofs from nothing$(COMMA) must-fail edits$(COMMA) tests and programs)
 	@RT_JOBS=$${RT_JOBS:-$(CHECKS)} $(RT) ci
 	$(call part,wrong bodies)

@@ -4,7 +4,7 @@ use std::alloc::Global;
 use stop_board::{Board, NoMemory, Roster, Row, State};
 use trace_record::Stop;
 
-/// Publishes the first stop of a lone tracee, and answers its state.
+/// Publishes the first stop of a lone tracee, and returns its state.
 fn first_stop(alloc: Global, tid: u32) -> Result<State, NoMemory> {
     let row = Row {
         tid,

@@ -8,4 +8,5 @@ pub mod ReadBack
 pub mod Runs
 pub mod SixWords
 pub mod Tables
+pub mod TextOfParts
 pub mod Written

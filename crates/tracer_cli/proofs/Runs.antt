@@ -1,5 +1,5 @@
--- What is read of a file is cut after the byte that makes it too long, and so is refused as the whole file is; a job that
--- is done answers its request.
+-- What is read of a file is cut after the byte that makes it too long, and so is refused as the whole file is; a job
+-- that is done answers its request.
 use Rattle.std.proofs.Common.{refl, ◌≡◌, ◌+◌, ◌≤◌, ◌++◌, [], ℕ, Bool, true, false, List, Option, Some, None, Result}
 use Rattle.std.proofs.Common.{Ok, Err, IfSome, length, nat_le, leb-true, take, min, arith, ap, sym, subst, ◌∙◌, Bor}
 use Rattle.std.proofs.Common.{length-take}

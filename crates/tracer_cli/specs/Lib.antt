@@ -1,6 +1,7 @@
 pub mod Arguments
 pub mod CaseText
 pub mod Command
+pub mod CutOff
 pub mod Failure
 pub mod File
 pub mod Grammar

@@ -1,6 +1,6 @@
 -- A run of the program: what it reads, what it prints, and how it fails.
-use Rattle.std.specs.Prelude.{◌≡◌, ◌<◌, ◌+◌, ℕ, List, Option, Some, None, Result, Ok, Err, IfSome, IsOk, IsOkAnd}
-use Rattle.std.specs.Prelude.{length, string_bytes, take}
+use Rattle.std.specs.Prelude.{◌≡◌, ◌+◌, ℕ, List, Option, Some, None, Result, Ok, Err, IfSome, IsOk, IsOkAnd}
+use Rattle.std.specs.Prelude.{string_bytes, take}
 use Rattle.std.specs.Io.KnownBytes.{Appends}
 use Rattle.trace_options.specs.Calls.{Calls}
 use Rattle.trace_script.specs.declared.cause.CaseError.{CaseError}
@@ -12,7 +12,8 @@ use Rattle.tracer_cli.specs.declared.failure.Failure.TheVariants.{Refused, Usage
 use Rattle.tracer_cli.specs.declared.failure.Failure.TheVariants.{CannotRead, CannotWrite, NoThreads}
 use Rattle.tracer_cli.specs.Arguments.{AreOptionsOf}
 use Rattle.tracer_cli.specs.CaseText.{case_text_of, config_of}
-use Rattle.tracer_cli.specs.Failure.{failure_status}
+use Rattle.tracer_cli.specs.CutOff.{IsBegun, IsCutOff}
+use Rattle.tracer_cli.specs.Failure.{failure_status, failure_text}
 use Rattle.trace_script.specs.Reading.{most_bytes}
 use Rattle.tracer_cli.specs.Replay.{replay_of}
 use Rattle.tracer_cli.specs.Shown.{AreShown, unknown_name}
@@ -46,10 +47,6 @@ LeavesInput (Run options None) before after = Unit {0}
 
 -- ---- printing, once a file is read
 
--- a write failed: a beginning of a text was written, and not all of it
-abbrev pub IsCutOff : (before after : Option (List ℕ)) → (text : List ℕ) → Type 0
-IsCutOff before after text = (n : ℕ) × (n < length text) × Appends before after (take n text)
-
 -- a text is written, or a write fails
 abbrev pub Writes : (text : List ℕ) → (before after : Option (List ℕ)) → Result (Unit {0}) Failure → Type 0
 Writes text before after (Ok done) = Appends before after text
@@ -57,7 +54,7 @@ Writes text before after (Err CannotWrite) = IsCutOff before after text
 Writes text before after (Err failure) = ⊥
 
 -- the text of a file is written, or the file is refused by its first fault; only of a file that is taken can a write
--- fail; or there is no memory
+-- fail; or memory runs out
 abbrev pub Prints : Result (List ℕ) CaseError → (before after : Option (List ℕ)) → Result (Unit {0}) Failure → Type 0
 Prints found before after (Ok done) = IsOkAnd found (Appends before after)
 Prints found before after (Err (Refused error)) = found ≡ Err error
@@ -119,6 +116,12 @@ abbrev pub run_status : Result (Unit {0}) Failure → ℕ
 run_status (Ok done) = 0
 run_status (Err failure) = failure_status failure
 
--- the program ends with the exit status of a result that this holds of: it is done, or it failed
-abbrev pub Ends : (Result (Unit {0}) Failure → Type 0) → (status : ℕ) → Type 0
-Ends Holds status = (ended : Result (Unit {0}) Failure) × Holds ended × (status ≡ run_status ended)
+-- what standard error has of a result: nothing where the run is done, else a beginning of the failure's text
+abbrev pub IsReported : (before after : Option (List ℕ)) → Result (Unit {0}) Failure → Type 0
+IsReported before after (Ok done) = after ≡ before
+IsReported before after (Err failure) = IsBegun before after (failure_text failure)
+
+-- the program ends with the exit status of a result that this holds of, and reports it: it is done, or it failed
+abbrev pub Ends : (Result (Unit {0}) Failure → Type 0) → (before after : Option (List ℕ)) → (status : ℕ) → Type 0
+Ends Holds before after status =
+    (ended : Result (Unit {0}) Failure) × Holds ended × IsReported before after ended × (status ≡ run_status ended)

@@ -3,7 +3,8 @@
 ghost use Rattle.std.specs.Prelude.{◌≡◌, ◌≤◌, ◌⊎◌, IfErr, IfOk, IfSome, map, string_bytes};
 ghost use Rattle.std.specs.IoError.{error_kind};
 ghost use Rattle.tracer_cli.specs.Arguments.{AskReplay, AskRun};
-ghost use Rattle.tracer_cli.specs.Failure.{failure_at, failure_status};
+ghost use Rattle.tracer_cli.specs.CutOff.{IsBegun};
+ghost use Rattle.tracer_cli.specs.Failure.{failure_at, failure_status, failure_text};
 ghost use Rattle.tracer_cli.specs.Run.{Ends, IsUnread, IsUnwritten, Replays, RunsNamed};
 
 use crate::arguments::read_arguments;
@@ -27,20 +28,25 @@ pub fn process<H: Files + AllocGlobal + Threads + Wait + Clock + Sync, R: Read, 
 ) -> u8
     ensures status { result ≤ 3 }
     ensures failed { IfErr words (λ error. result ≡ failure_status (failure_at (error_kind error) Failure.NoText)) }
+    ensures told { IfErr words (λ error. IsBegun (E.contents errors.old) (E.contents errors.new)
+        (failure_text (failure_at (error_kind error) Failure.NoText))) }
     ensures unread { IfErr words (λ error. input.new ≡ input.old) }
     ensures unwritten { IfErr words (λ error. output.new ≡ output.old) }
-    ensures output { Ends (IsUnwritten output.old output.new) result }
+    ensures output { Ends (IsUnwritten output.old output.new) (E.contents errors.old) (E.contents errors.new) result }
+    ensures quiet { result ≡ 0 → errors.new ≡ errors.old }
     ensures untouched { result ≡ 2 → input.new ≡ input.old }
 
     // The words of a replay of standard input, where what it has is known.
     ensures replay { IfOk words (λ words. AskReplay (map string_bytes words.items) →
         IfSome (R.remaining input.old) (λ text.
-        Ends (Replays text (W.contents output.old) (W.contents output.new)) result)) }
+        Ends (Replays text (W.contents output.old) (W.contents output.new))
+        (E.contents errors.old) (E.contents errors.new) result)) }
 
     // The words of a run of standard input, where what it has is known.
     ensures run { IfOk words (λ words. AskRun (map string_bytes words.items) →
         IfSome (R.remaining input.old) (λ text.
-        Ends (RunsNamed (map string_bytes words.items) text (W.contents output.old) (W.contents output.new)) result)) }
+        Ends (RunsNamed (map string_bytes words.items) text (W.contents output.old) (W.contents output.new))
+        (E.contents errors.old) (E.contents errors.new) result)) }
 {
     match words {
         Ok(words) => program(rt, words.as_slice(), input, output, errors),
@@ -50,7 +56,8 @@ pub fn process<H: Files + AllocGlobal + Threads + Wait + Clock + Sync, R: Read, 
 
 /// Runs the program on its words, the program's name first, with standard input, output and error. Returns the exit
 /// status: 0 where it is done or help was asked for, 1 where the file is refused, 2 for a wrong command line, 3
-/// otherwise. A failed write to standard error does not change it.
+/// otherwise. A failed write to standard error does not change it, and is not tried again: a beginning of the message
+/// is written then.
 pub fn program<H: Files + AllocGlobal + Threads + Wait + Clock + Sync, R: Read, W: Write, E: Write>(
     rt: &H,
     words: &[String],
@@ -60,18 +67,21 @@ pub fn program<H: Files + AllocGlobal + Threads + Wait + Clock + Sync, R: Read, 
 ) -> u8
     ensures status { result ≤ 3 }
     ensures unwritten { (result ≡ 1) ⊎ (result ≡ 2) → output.new ≡ output.old }
-    ensures output { Ends (IsUnwritten output.old output.new) result }
+    ensures output { Ends (IsUnwritten output.old output.new) (E.contents errors.old) (E.contents errors.new) result }
+    ensures quiet { result ≡ 0 → errors.new ≡ errors.old }
 
     // The command line and the names of `-e` are tested before anything is read.
     ensures untouched { result ≡ 2 → input.new ≡ input.old }
 
     // The words of a replay of standard input, where what it has is known.
     ensures replay { AskReplay (map string_bytes words.now) → IfSome (R.remaining input.old) (λ text.
-        Ends (Replays text (W.contents output.old) (W.contents output.new)) result) }
+        Ends (Replays text (W.contents output.old) (W.contents output.new))
+        (E.contents errors.old) (E.contents errors.new) result) }
 
     // The words of a run of standard input, where what it has is known.
     ensures run { AskRun (map string_bytes words.now) → IfSome (R.remaining input.old) (λ text.
-        Ends (RunsNamed (map string_bytes words.now) text (W.contents output.old) (W.contents output.new)) result) }
+        Ends (RunsNamed (map string_bytes words.now) text (W.contents output.old) (W.contents output.new))
+        (E.contents errors.old) (E.contents errors.new) result) }
 {
     match run(rt, words, input, output) {
         Ok(()) => 0,
@@ -81,7 +91,8 @@ pub fn program<H: Files + AllocGlobal + Threads + Wait + Clock + Sync, R: Read, 
 
 /// Reports a failure, and returns its exit status, whether or not it could be written.
 fn fail<E: Write>(failure: &Failure, errors: &mut E) -> u8
-    ensures { result ≡ failure_status failure.now }
+    ensures status { result ≡ failure_status failure.now }
+    ensures begun { IsBegun (E.contents errors.old) (E.contents errors.new) (failure_text failure.now) }
 {
     let _ = failure.report(errors);
     failure.status()

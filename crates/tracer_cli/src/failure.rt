@@ -1,11 +1,14 @@
 //! How a run of the program ends otherwise than done.
 
-ghost use Rattle.std.specs.Prelude.{◌≡◌};
+ghost use Rattle.std.specs.Prelude.{◌≡◌, ◌++◌, IfErr, OnOk};
+ghost use Rattle.std.specs.Io.KnownBytes.{Appends};
 ghost use Rattle.std.specs.IoError.{error_kind};
-ghost use Rattle.tracer_cli.specs.Failure.{failure_at};
+ghost use Rattle.tracer_cli.specs.CutOff.{IsCutOff, text_of_parts};
+ghost use Rattle.tracer_cli.specs.Failure.{failure_at, failure_text};
 
+use crate::parts::{CutOff, write_part, write_parts};
+use itoa::Buffer;
 use std::alloc::{AllocError, AllocFailed};
-use std::fmt;
 use std::io::{self, ErrorKind, Write};
 use trace_script::{CaseError, Cause};
 use tracer_workers::RunError;
@@ -34,9 +37,7 @@ pub enum Failure {
 }
 
 impl Failure {
-    ghost use Rattle.std.specs.Prelude.{OnOk};
-    ghost use Rattle.std.specs.Io.KnownBytes.{Appends};
-    ghost use Rattle.tracer_cli.specs.Failure.{failure_status, failure_text};
+    ghost use Rattle.tracer_cli.specs.Failure.{failure_status};
 
     /// The exit status: 1 for a refused file, 2 for the command line, 3 otherwise.
     pub fn status(&self) -> u8
@@ -53,33 +54,54 @@ impl Failure {
         }
     }
 
-    /// Writes the failure's text, on standard error as a rule. Where a write fails, some of the text may be written.
-    pub fn report<E: Write>(&self, errors: &mut E) -> io::Result<()>
-        ensures { OnOk result (Appends (E.contents errors.old) (E.contents errors.new) (failure_text self.now)) }
+    /// Writes the failure's text, on standard error as a rule. The first write that fails ends it: a beginning of the
+    /// text is written then.
+    pub fn report<E: Write>(&self, errors: &mut E) -> Result<(), CutOff>
+        ensures ok { OnOk result (Appends (E.contents errors.old) (E.contents errors.new) (failure_text self.now)) }
+        ensures cut_off { IfErr result (λ _.
+            IsCutOff (E.contents errors.old) (E.contents errors.new) (failure_text self.now)) }
     {
-        write!(errors, "{self}")
+        match self {
+            Failure::Refused(error) => report_refusal(error, errors),
+            Failure::Usage(text) => write_part(text.as_str(), errors),
+            Failure::NoText => write_part("tracer: an argument is not valid UTF-8\n", errors),
+            Failure::UnknownCall(name) => write_parts(
+                &in_five("tracer: unknown call ", name.as_str(), "\n", "", ""),
+                errors,
+            ),
+            Failure::NoMemory => write_part("tracer: no memory\n", errors),
+            Failure::CannotRead => write_part("tracer: cannot read\n", errors),
+            Failure::CannotWrite => write_part("tracer: cannot write\n", errors),
+            Failure::LostStop => write_part("tracer: lost stop\n", errors),
+            Failure::NoThreads => write_part("tracer: cannot start threads\n", errors),
+        }
     }
 }
 
-impl fmt::Display for Failure {
-    ghost use Rattle.std.specs.Prelude.{Some};
-    ghost use Rattle.tracer_cli.specs.Failure.{failure_text};
+/// Writes why a file is refused.
+fn report_refusal<E: Write>(error: &CaseError, errors: &mut E) -> Result<(), CutOff>
+    ensures ok { OnOk result (Appends (E.contents errors.old) (E.contents errors.new)
+        (failure_text (Failure.Refused error.now))) }
+    ensures cut_off { IfErr result (λ _.
+        IsCutOff (E.contents errors.old) (E.contents errors.new) (failure_text (Failure.Refused error.now))) }
+{
+    let mut digits = Buffer::new();
+    let line = digits.format(error.line);
+    let parts = in_five("tracer: line ", line, ": ", error.cause.name(), "\n");
+    write_parts(&parts, errors)
+}
 
-    ghost output = { λ failure. Some (failure_text failure) };
-
-    fn fmt<W: fmt::Write>(&self, f: &mut fmt::Formatter<W>) -> fmt::Result {
-        match self {
-            Failure::Refused(error) => write!(f, "tracer: {error}\n"),
-            Failure::Usage(text) => write!(f, "{text}"),
-            Failure::NoText => write!(f, "tracer: an argument is not valid UTF-8\n"),
-            Failure::UnknownCall(name) => write!(f, "tracer: unknown call {name}\n"),
-            Failure::NoMemory => write!(f, "tracer: no memory\n"),
-            Failure::CannotRead => write!(f, "tracer: cannot read\n"),
-            Failure::CannotWrite => write!(f, "tracer: cannot write\n"),
-            Failure::LostStop => write!(f, "tracer: lost stop\n"),
-            Failure::NoThreads => write!(f, "tracer: cannot start threads\n"),
-        }
-    }
+/// A text in five parts, of which some may be empty.
+fn in_five<'a>(
+    first: &'a str,
+    second: &'a str,
+    third: &'a str,
+    fourth: &'a str,
+    fifth: &'a str,
+) -> [&'a str; 5]
+    ensures { text_of_parts result ≡ first.now ++ (second.now ++ (third.now ++ (fourth.now ++ fifth.now))) }
+{
+    [first, second, third, fourth, fifth]
 }
 
 impl From<AllocError> for Failure {

@@ -52,8 +52,8 @@ pub fn read_job<H: Files + AllocGlobal, R: Read>(
     }
 }
 
-/// The bytes of a file, or of standard input where none is named; one more than a file may have at most. Where a file is
-/// named nothing is read of standard input.
+/// The bytes of a file, or of standard input where none is named; one more than a file may have at most. Where a file
+/// is named nothing is read of standard input.
 fn read_file<H: Files + AllocGlobal, R: Read>(
     rt: &H,
     file: Option<&str>,

@@ -10,6 +10,7 @@ mod grammar;
 mod job;
 mod laws;
 mod order;
+mod parts;
 mod reading;
 mod replay;
 mod replies;
@@ -20,5 +21,6 @@ pub use failure::Failure;
 pub use laws::{
     numbers_are_fixed, plain_words_are_taken, what_is_spelled_is_read, words_are_counted,
 };
+pub use parts::CutOff;
 pub use replay::replay_text;
 pub use trace_script::{CaseError, Cause};

@@ -4,8 +4,12 @@ use Rattle.tracer_cli.proofs.Runs.{untouched}
 use Rattle.tracer_cli.proofs.entry.process.Goals as goal
 
 pub returns-in-Err-clause-output : goal.returns-in-Err-clause-output
-returns-in-Err-clause-output g c =
-    (Err c.arguments_failure.result, untouched c.args.output.now (Err c.arguments_failure.result), c.fail.ensures)
+returns-in-Err-clause-output g c = (
+  Err c.arguments_failure.result,
+  untouched c.args.output.now (Err c.arguments_failure.result),
+  c.fail.ensures.begun,
+  c.fail.ensures.status,
+)
 
 pub returns-in-Ok-clause-run : goal.returns-in-Ok-clause-run
 returns-in-Ok-clause-run g c = rw c.in-Ok.is (rw c.as_slice.ensures.value at c.program.ensures.run)

@@ -109,6 +109,11 @@ pub(crate) const CANNOT_WRITE: &[u8] = b"tracer: cannot write\n";
 
 const NO_MEMORY: &[u8] = b"tracer: no memory\n";
 
+/// What is said of the command `trace`.
+const NO_COMMAND: &[u8] = b"error: unrecognized subcommand 'trace'\n\n\
+    Usage: tracer <COMMAND>\n\n\
+    For more information, try '--help'.\n";
+
 #[test]
 fn standard_input_is_read_to_its_end_or_its_first_failure(rt: HostRuntime) -> Result<(), Fail> {
     let table = [
@@ -154,10 +159,7 @@ fn a_file_that_is_named_is_read_in_place_of_standard_input(rt: HostRuntime) -> R
 #[test]
 fn a_command_that_is_not_there_is_named(rt: HostRuntime) -> Result<(), Fail> {
     let ended = run_with(&rt, &["trace"], &mut FILE)?;
-    let expected = "error: unrecognized subcommand 'trace'\n\n\
-        Usage: tracer <COMMAND>\n\n\
-        For more information, try '--help'.\n";
-    assert_eq!(rt; ended.errors.as_slice(), expected.as_bytes());
+    assert_eq!(rt; ended.errors.as_slice(), NO_COMMAND);
     Ok(())
 }
 
@@ -187,26 +189,39 @@ fn what_cannot_be_written_is_reported(rt: HostRuntime) -> Result<(), Fail> {
     Ok(())
 }
 
+/// What the program says where standard error takes a byte at a time, and no more than there is room for, and standard
+/// output takes none: its exit status, and what standard error has.
+fn told<H: Files + AllocGlobal + Threads + Wait + Clock + Sync>(
+    rt: &H,
+    words: &[&str],
+    mut file: &[u8],
+    room: usize,
+) -> Result<(u8, Vec<u8>), Fail> {
+    let words = command_line(rt, words)?;
+    let mut output = narrow(rt, 0);
+    let mut errors = narrow(rt, room);
+    let status = program(rt, words.as_slice(), &mut file, &mut output, &mut errors);
+    Ok((status, errors.taken))
+}
+
 #[test]
-fn a_failed_write_to_standard_error_changes_no_status(rt: HostRuntime) -> Result<(), Fail> {
-    for (word, file, status) in [
-        ("replay", b"row\n".as_slice(), 1),
-        ("trace", FILE, 2),
-        ("replay", b"row 1 1 1 0\nstate 1\n", 3),
+fn a_failed_write_to_standard_error_cuts_the_message_off(rt: HostRuntime) -> Result<(), Fail> {
+    let refused = b"tracer: line 1: UnknownWord\n".as_slice();
+    for (words, file, status, message) in [
+        (["replay"].as_slice(), b"row\n".as_slice(), 1, refused),
+        (&["trace"], FILE, 2, NO_COMMAND),
+        (
+            &["run", "-f", "-e", "pause"],
+            b"",
+            2,
+            b"tracer: unknown call pause\n",
+        ),
+        (&["replay"], FILE, 3, CANNOT_WRITE),
     ] {
-        for room in [0, 3] {
-            let words = command_line(&rt, &[word])?;
-            let mut file = file;
-            let mut errors = narrow(&rt, room);
-            let ended = program(
-                &rt,
-                words.as_slice(),
-                &mut file,
-                &mut narrow(&rt, 0),
-                &mut errors,
-            );
-            assert_eq!(rt; ended, status, "{word}");
-            assert_eq!(rt; errors.taken.len(), room, "{word}");
+        for room in 0..=message.len() {
+            let (ended, errors) = told(&rt, words, file, room)?;
+            assert_eq!(rt; ended, status, "{words:?}, {room}");
+            assert_eq!(rt; Some(errors.as_slice()), message.get(..room), "{words:?}");
         }
     }
     Ok(())

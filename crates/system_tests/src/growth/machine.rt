@@ -39,10 +39,7 @@ fn a_machine_that_is_refused_a_growth_is_not_made(rt: HostRuntime) {
                 assert!(rt; heap.has_refused(), "{granted}");
                 continue;
             };
-            // Reading goes on with a list that could not be shrunk.
-            if heap.has_refused() {
-                continue;
-            }
+            assert!(rt; !heap.has_refused(), "{granted}");
             let made = is_made(&heap, &case, row);
             assert_eq!(rt; heap.has_refused(), !made, "{granted}");
             if made {

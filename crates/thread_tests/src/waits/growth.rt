@@ -43,7 +43,9 @@ fn a_refused_caller_gives_its_tracer_back(rt: HostRuntime) -> Result<(), Fail> {
     for growth in 0..GROWTHS {
         let heap = RefusingAllocator::new(rt.alloc(), BEFORE + growth);
         let waiter = new_waiter(&heap)?;
+        assert!(rt; !heap.has_refused());
         assert_eq!(rt; shown_after(&rt, &heap, waiter), Some(Shown::Running));
+        assert!(rt; heap.has_refused());
     }
     let heap = RefusingAllocator::new(rt.alloc(), BEFORE + GROWTHS);
     let waiter = new_waiter(&heap)?;

@@ -1,4 +1,5 @@
-//! What a gate is told, and when: between the claim of a stop and its restart.
+//! What a gate is told, and when: between the claim of a stop and its restart. However long it holds a worker, the text
+//! is the same.
 
 use crate::workers::cases::all;
 use std::sync::Wait;
@@ -23,6 +24,33 @@ const WORKERS: u32 = 2;
 /// For how many milliseconds its first stop is held.
 const TURNS: u32 = 50;
 
+/// For how many milliseconds each call of worker 1 is held.
+const LONG: u32 = 1_000;
+
+/// How often the root runs then: its stops are served by whoever comes first.
+const RUNS: u32 = 3;
+
+/// Waits for this many turns of a millisecond.
+fn hold<R: Clock>(rt: &R, turns: u32) {
+    for _ in 0..turns {
+        thread::sleep(rt, Duration::from_millis(1));
+    }
+}
+
+/// A gate that holds each call of worker 1.
+#[derive(Drop)]
+struct Late<'a, R> {
+    rt: &'a R,
+}
+
+impl<'a, R: Clock> Gate for Late<'a, R> {
+    fn between(&self, worker: u32, _tid: u32, _number: u32) {
+        if worker == 1 {
+            hold(self.rt, LONG);
+        }
+    }
+}
+
 /// A gate that holds the first stop of the root. No other stop may come meanwhile.
 #[derive(Drop)]
 struct Holding<'a, R> {
@@ -43,9 +71,7 @@ impl<'a, R: Clock> Gate for Holding<'a, R> {
         if before != 0 {
             return;
         }
-        for _ in 0..TURNS {
-            thread::sleep(self.rt, Duration::from_millis(1));
-        }
+        hold(self.rt, TURNS);
         if self.calls.load(Ordering::SeqCst) != 1 {
             self.is_overtaken.store(true, Ordering::SeqCst);
         }
@@ -81,6 +107,31 @@ fn holds<R: Threads + Wait + Clock + AllocGlobal + Sync>(
 fn a_tracee_stays_at_a_stop_that_a_gate_holds(rt: HostRuntime) -> Result<(), Fail> {
     for seccomp in [false, true] {
         assert!(rt; holds(&rt, seccomp)?);
+    }
+    Ok(())
+}
+
+/// Whether the root's text is printed by two workers of which the second is held at each of its calls.
+fn prints_late<R: Threads + Wait + Clock + AllocGlobal + Sync>(
+    rt: &R,
+    seccomp: bool,
+) -> Result<bool, Fail> {
+    let case = Case::read(rt.alloc(), ROOT.as_bytes())?;
+    let config = Config {
+        seccomp,
+        workers: WORKERS,
+        ..all()
+    };
+    let printed = run_case(rt, rt.alloc(), &case, &config, &Late { rt })?;
+    Ok(printed.as_bytes() == ROOT_TEXT.as_bytes())
+}
+
+#[test]
+fn a_worker_that_is_held_for_a_second_changes_no_byte(rt: HostRuntime) -> Result<(), Fail> {
+    for _ in 0..RUNS {
+        for seccomp in [false, true] {
+            assert!(rt; prints_late(&rt, seccomp)?);
+        }
     }
     Ok(())
 }

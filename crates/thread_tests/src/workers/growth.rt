@@ -40,11 +40,13 @@ fn count_refusals<R: Threads + Wait + Clock + AllocGlobal + Sync>(
     for granted in 0..MOST {
         let heap = RefusingAllocator::new(rt.alloc(), granted);
         let Ok(case) = Case::read(&heap, file.as_bytes()) else {
+            if !heap.has_refused() {
+                return None;
+            }
             continue;
         };
-        // Reading went on with a list that could not be shrunk, and the run would be refused none.
         if heap.has_refused() {
-            continue;
+            return None;
         }
         match run_case(rt, &heap, &case, config, &Open) {
             Ok(printed) => {

@@ -1,12 +1,9 @@
 //! Runs of cases on schedules: their texts, worked out by hand, and each growth refused in turn.
 
-use crate::workers::cases::{
-    EXEC, EXEC_TEXT, FORK, FORK_TEXT, MEMORY, MEMORY_TEXT, THREAD, THREAD_TEXT, all,
-};
+use crate::workers::cases::{FORK, FORK_TEXT, WORKED, all, writes_alone};
 use refusing_allocator::RefusingAllocator;
 use std::test::Fail;
-use trace_options::CallSet;
-use trace_script::Case;
+use trace_script::{Case, Cause};
 use tracer_workers::{Config, RunError, run_scheduled};
 
 /// Schedules of two rows and two workers: none, turns of each actor, actors that are none, one actor alone, and long ones.
@@ -72,8 +69,11 @@ fn a_case_without_rows_prints_nothing(rt: HostRuntime) -> Result<(), Fail> {
 }
 
 #[test]
-fn each_schedule_prints_the_worked_case(rt: HostRuntime) -> Result<(), Fail> {
-    assert!(rt; prints(&rt, FORK, &all(), FORK_TEXT)?);
+fn each_schedule_prints_each_kind_of_case(rt: HostRuntime) -> Result<(), Fail> {
+    for case in WORKED {
+        assert!(rt; prints(&rt, case.file, &all(), case.text)?);
+        assert!(rt; prints(&rt, case.file, &writes_alone(), case.writes)?);
+    }
     Ok(())
 }
 
@@ -95,47 +95,6 @@ fn a_string_is_cut_at_the_limit(rt: HostRuntime) -> Result<(), Fail> {
                 100 +++ exited with 3 +++\n101 exit(0) = ?\n101 +++ exited with 0 +++\n";
     let config = Config { limit: 2, ..all() };
     assert!(rt; prints(&rt, FORK, &config, text)?);
-    Ok(())
-}
-
-#[test]
-fn calls_that_are_not_shown_are_not_printed(rt: HostRuntime) -> Result<(), Fail> {
-    let mut shown = CallSet::none();
-    // The number of write(2).
-    shown.add(1);
-    let text =
-        "100 write(1, \"hi\\n\", 3) = 3\n100 +++ exited with 3 +++\n101 +++ exited with 0 +++\n";
-    let config = Config { shown, ..all() };
-    assert!(rt; prints(&rt, FORK, &config, text)?);
-    Ok(())
-}
-
-#[test]
-fn a_leader_waits_for_its_thread(rt: HostRuntime) -> Result<(), Fail> {
-    assert!(rt; prints(&rt, THREAD, &all(), THREAD_TEXT)?);
-    Ok(())
-}
-
-#[test]
-fn a_signal_is_handed_over(rt: HostRuntime) -> Result<(), Fail> {
-    let deadly = "tracee 200 200 200 0\nsignal 15 deadly\nexit 0\nend\n";
-    let killed = "200 --- SIGTERM ---\n200 +++ killed by SIGTERM +++\n";
-    assert!(rt; prints(&rt, deadly, &all(), killed)?);
-    let handled = "tracee 200 200 200 0\nsignal 15\nexit 0\nend\n";
-    let exited = "200 --- SIGTERM ---\n200 exit(0) = ?\n200 +++ exited with 0 +++\n";
-    assert!(rt; prints(&rt, handled, &all(), exited)?);
-    Ok(())
-}
-
-#[test]
-fn bytes_are_printed_as_they_were_at_the_stops(rt: HostRuntime) -> Result<(), Fail> {
-    assert!(rt; prints(&rt, MEMORY, &all(), MEMORY_TEXT)?);
-    Ok(())
-}
-
-#[test]
-fn an_execve_is_printed_by_the_memory_before_it(rt: HostRuntime) -> Result<(), Fail> {
-    assert!(rt; prints(&rt, EXEC, &all(), EXEC_TEXT)?);
     Ok(())
 }
 
@@ -181,8 +140,8 @@ fn next(number: u32) -> u32 {
 #[test]
 fn schedules_by_chance_print_the_same(rt: HostRuntime) -> Result<(), Fail> {
     let mut number = 1u32;
-    for (file, text) in [(FORK, FORK_TEXT), (THREAD, THREAD_TEXT), (EXEC, EXEC_TEXT)] {
-        let case = Case::read(rt.alloc(), file.as_bytes())?;
+    for worked in WORKED {
+        let case = Case::read(rt.alloc(), worked.file.as_bytes())?;
         for _ in 0..20 {
             let mut schedule = [0u32; 40];
             for entry in schedule.iter_mut() {
@@ -190,25 +149,28 @@ fn schedules_by_chance_print_the_same(rt: HostRuntime) -> Result<(), Fail> {
                 // Two rows, two workers and two numbers of no actor.
                 *entry = (number >> 16) % 6;
             }
-            assert!(rt; prints_on(&rt, &case, &all(), &schedule, text)?);
+            assert!(rt; prints_on(&rt, &case, &all(), &schedule, worked.text)?);
         }
     }
     Ok(())
 }
 
+/// More than a run of the worked case has growths.
+const MOST: u64 = 200;
+
 /// At least this many growths: the copies of the roster, the words, the folder's rows, the rows, and each row's image.
 const GROWTHS: u64 = 8;
 
-/// A run of the worked case with this many growths: whether it prints its text, and whether a growth was refused. None
-/// where the case cannot be read.
-fn run_with(
-    rt: &HostRuntime,
-    granted: u64,
-    schedule: &[u32],
-) -> Option<(Result<bool, RunError>, bool)> {
+/// A run of the worked case with this many growths: whether it prints its text, and whether a growth was refused. Where
+/// the case cannot be read, the cause is `NoMemory`, as that of a run would be.
+fn run_with(rt: &HostRuntime, granted: u64, schedule: &[u32]) -> (Result<bool, RunError>, bool) {
     let heap = RefusingAllocator::new(rt.alloc(), granted);
-    let Ok(case) = Case::read(&heap, FORK.as_bytes()) else {
-        return None;
+    let case = match Case::read(&heap, FORK.as_bytes()) {
+        Ok(case) => case,
+        Err(error) if error.cause == Cause::NoMemory => {
+            return (Err(RunError::NoMemory), heap.has_refused());
+        }
+        Err(_) => return (Ok(false), heap.has_refused()),
     };
     let config = Config {
         workers: 2,
@@ -218,17 +180,19 @@ fn run_with(
         Ok(text) => Ok(text.as_bytes() == FORK_TEXT.as_bytes()),
         Err(error) => Err(error),
     };
-    Some((ran, heap.has_refused()))
+    (ran, heap.has_refused())
 }
 
 #[test]
 fn a_refused_growth_leaves_no_text(rt: HostRuntime) {
     let mut refusals = 0u64;
-    for granted in 0..200 {
+    for granted in 0..MOST {
         match run_with(&rt, granted, &[2, 0]) {
-            None => {}
-            Some((Ok(is_right), _)) => assert!(rt; is_right, "{granted}"),
-            Some((Err(error), has_refused)) => {
+            (Ok(is_right), has_refused) => {
+                assert!(rt; is_right && !has_refused, "{granted}");
+                break;
+            }
+            (Err(error), has_refused) => {
                 assert_eq!(rt; error, RunError::NoMemory, "{granted}");
                 assert!(rt; has_refused, "{granted}");
                 refusals = refusals.wrapping_add(1);
@@ -236,5 +200,5 @@ fn a_refused_growth_leaves_no_text(rt: HostRuntime) {
         }
     }
     assert!(rt; refusals >= GROWTHS, "{refusals}");
-    assert_eq!(rt; run_with(&rt, 200, &[]), Some((Ok(true), false)));
+    assert_eq!(rt; run_with(&rt, MOST, &[]), (Ok(true), false));
 }

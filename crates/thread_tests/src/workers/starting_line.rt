@@ -53,9 +53,6 @@ fn has_run<R: Threads + Wait + Clock + AllocGlobal + Sync>(
     let Ok(case) = Case::read(&heap, ROOT.as_bytes()) else {
         return None;
     };
-    if heap.has_refused() {
-        return None;
-    }
     let config = Config { workers, ..all() };
     let gate = Counting {
         calls: AtomicU32::new(0),

@@ -1,24 +1,13 @@
 //! Runs of cases on threads: their texts, worked out by hand, whatever the workers, the filter and the gate are.
 
-use crate::workers::cases::{
-    EXEC, EXEC_TEXT, FORK, FORK_TEXT, MEMORY, MEMORY_TEXT, THREAD, THREAD_TEXT, all,
-};
+use crate::workers::cases::{FORK, FORK_TEXT, WORKED, all, writes_alone};
 use std::sync::Wait;
 use std::test::Fail;
 use std::thread;
 use std::thread::Threads;
 use std::time::Clock;
-use trace_options::CallSet;
 use trace_script::Case;
 use tracer_workers::{Config, Gate, run_case};
-
-/// A process that a signal kills.
-const DEADLY: &str = "tracee 200 200 200 0\nsignal 15 deadly\nexit 0\nend\n";
-
-const DEADLY_TEXT: &str = "200 --- SIGTERM ---\n200 +++ killed by SIGTERM +++\n";
-
-/// A process that handles a signal.
-const HANDLED: &str = "tracee 200 200 200 0\nsignal 15\nexit 0\nend\n";
 
 /// A gate that returns at once.
 pub(crate) struct Open;
@@ -88,48 +77,24 @@ fn threads_print_the_worked_case(rt: HostRuntime) -> Result<(), Fail> {
     Ok(())
 }
 
-#[test]
-fn threads_print_the_calls_that_are_shown(rt: HostRuntime) -> Result<(), Fail> {
-    let mut shown = CallSet::none();
-    // The number of write(2).
-    shown.add(1);
-    let config = Config { shown, ..all() };
-    // Of these only FORK calls write(2). Signals and deaths are shown always.
-    let cases = [
-        (
-            FORK,
-            "100 write(1, \"hi\\n\", 3) = 3\n100 +++ exited with 3 +++\n101 +++ exited with 0 +++\n",
-        ),
-        (
-            THREAD,
-            "100 +++ exited with 3 +++\n101 +++ exited with 0 +++\n",
-        ),
-        (DEADLY, DEADLY_TEXT),
-        (HANDLED, "200 --- SIGTERM ---\n200 +++ exited with 0 +++\n"),
-        (MEMORY, "300 +++ exited with 0 +++\n"),
-        (EXEC, "400 +++ exited with 0 +++\n"),
-    ];
-    for (file, text) in cases {
-        assert!(rt; prints(&rt, file, &config, &Open, text)?);
-        assert!(rt; prints(&rt, file, &config, &Slow { worker: 1 }, text)?);
+/// Whether threads print each worked case, every call of it and write(2) alone.
+fn print_all<R: Threads + Wait + Clock + AllocGlobal + Sync, G: Gate + Sync>(
+    rt: &R,
+    gate: &G,
+) -> Result<bool, Fail> {
+    for case in WORKED {
+        let prints_all = prints(rt, case.file, &all(), gate, case.text)?;
+        let prints_writes = prints(rt, case.file, &writes_alone(), gate, case.writes)?;
+        if !prints_all || !prints_writes {
+            return Ok(false);
+        }
     }
-    Ok(())
+    Ok(true)
 }
 
 #[test]
 fn threads_print_each_kind_of_case(rt: HostRuntime) -> Result<(), Fail> {
-    let handled = "200 --- SIGTERM ---\n200 exit(0) = ?\n200 +++ exited with 0 +++\n";
-    let cases = [
-        (FORK, FORK_TEXT),
-        (THREAD, THREAD_TEXT),
-        (DEADLY, DEADLY_TEXT),
-        (HANDLED, handled),
-        (MEMORY, MEMORY_TEXT),
-        (EXEC, EXEC_TEXT),
-    ];
-    for (file, text) in cases {
-        assert!(rt; prints(&rt, file, &all(), &Open, text)?);
-        assert!(rt; prints(&rt, file, &all(), &Slow { worker: 1 }, text)?);
-    }
+    assert!(rt; print_all(&rt, &Open)?);
+    assert!(rt; print_all(&rt, &Slow { worker: 1 })?);
     Ok(())
 }

@@ -62,7 +62,7 @@ refused-code:
 	@RT=$(RT) tools/must_not_compile/check.sh $(OUT)/refused_code
 	@echo "refused-code: each was refused by the error that it names"
 
-# How many checks run side by side: one a processor, where memory allows it.
+# How many checks of wrong bodies run side by side: one a processor, where memory allows it. (`rt ci` sees to that itself.)
 CHECKS = $(shell $(PYTHON) tools/checks_at_once.py 2> /dev/null || echo 1)
 
 # Says when a part of the gate begins, so that its output shows where the time goes.
@@ -74,7 +74,7 @@ check: kit
 	@echo "check: docs/STATUS.md has the time"
 	@$(MAKE) --no-print-directory one-source
 	$(call part,proofs from nothing$(COMMA) must-fail edits$(COMMA) tests and programs)
-	@RT_JOBS=$${RT_JOBS:-$(CHECKS)} $(RT) ci
+	@$(RT) ci
 	$(call part,wrong bodies)
 	@$(MAKE) --no-print-directory wrong-bodies-test
 	@$(MAKE) --no-print-directory wrong-bodies-changed

@@ -33,7 +33,7 @@ use crate::limits::MOST_BYTES;
 use crate::script::Script;
 use std::alloc::{Allocator, Global};
 use std::marker::Model;
-use stop_board::Roster;
+use stop_history::Roster;
 use text_lines::last_line;
 
 /// A case: the rows of a trace, and in the same order the script of each.

@@ -3,7 +3,7 @@
 ghost use Rattle.std.specs.Prelude.{◌≡◌};
 
 use std::fmt;
-use stop_board::RosterError;
+use stop_history::RosterError;
 use text_lines::LineFault;
 
 /// What is wrong with a line, in the order in which a line is tested.

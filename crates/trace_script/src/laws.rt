@@ -1,6 +1,7 @@
 //! Laws of the definitions: each function is its contract alone.
 
-ghost use Rattle.std.specs.Prelude.{◌≡◌, ◌≢◌, ◌+◌, ◌*◌, ◌^◌, ℕ, List, Some, None, [], codes, length, option_map, slice_get, Ok};
+ghost use Rattle.std.specs.Prelude.{◌≡◌, ◌≢◌, ◌+◌, ◌*◌, ◌^◌, ℕ, List, Some, None, [], Ok, codes, length};
+ghost use Rattle.std.specs.Prelude.{option_map, slice_get};
 ghost use Rattle.trace_options.specs.SignalNames.{signal_name};
 ghost use Rattle.trace_options.specs.Syscalls.{syscall_named};
 ghost use Rattle.trace_record.specs.Resume.{IsResume};
@@ -102,7 +103,8 @@ pub fn signals_are_known()
 {}
 
 /// The limits of files, scripts and images, the bytes of a page (getpagesize(2)), the flags of the clone that makes a
-/// thread (`<linux/sched.h>`, `CLONE_VM`, `CLONE_SIGHAND` and `CLONE_THREAD`), and how many words a line may begin with.
+/// thread (`<linux/sched.h>`, `CLONE_VM`, `CLONE_SIGHAND` and `CLONE_THREAD`), and how many words a line may begin
+/// with.
 pub fn numbers_are_fixed()
     ensures bytes { MOST_BYTES ≡ 2 ^ 24 }
     ensures steps { MOST_STEPS ≡ 2 ^ 16 }

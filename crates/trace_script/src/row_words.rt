@@ -3,7 +3,7 @@
 ghost use Rattle.std.specs.Prelude.{◌≡◌};
 ghost use Rattle.trace_script.specs.RowWords.{id_of, row_of_words};
 
-use stop_board::{LAST_ID, Row};
+use stop_history::{LAST_ID, Row};
 use text_lines::{LineFault, number_between};
 
 /// The id that a word writes, from 1 to the last one. BadNumber where it is none.

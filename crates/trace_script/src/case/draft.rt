@@ -19,7 +19,7 @@ use crate::cause::Cause;
 use crate::script::Script;
 use std::alloc::Allocator;
 use std::mem;
-use stop_board::{Roster, Row};
+use stop_history::{Roster, Row};
 use trace_pages::NoMemory;
 
 /// What was read so far.

@@ -8,8 +8,7 @@ ghost use Rattle.trace_script.specs.CaseFile.{unless};
 ghost use Rattle.trace_script.specs.declared.cause.Cause.TheVariants as cause;
 
 use crate::cause::{CaseError, Cause};
-use stop_board::Row;
-use stop_history::{is_leader, is_next_child, place_of};
+use stop_history::{Row, is_leader, is_next_child, place_of};
 
 /// What a late step does.
 #[derive(Clone, Copy, Debug, PartialEq, Eq)]

@@ -1,7 +1,7 @@
 //! A line of a case file as it is kept while the file is read. Its byte words are slices of the file: they are tested
 //! with the line, and decoded once nothing else can refuse it, so that out of memory hides no fault.
 
-use stop_board::Row;
+use stop_history::Row;
 
 /// A part of an image.
 #[derive(Clone, Copy)]

@@ -16,6 +16,7 @@ pub mod ReadFacts
 pub mod Refusals
 pub mod Reloads
 pub mod RowsBack
+pub mod StepActs
 pub mod StepFacts
 pub mod Steps
 pub mod StopNumbers

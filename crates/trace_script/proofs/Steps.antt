@@ -1,108 +1,200 @@
--- What is left of steps at a place, and of the step there; and where the step there leads, what is left after it.
-use Rattle.std.proofs.Common.{refl, ◌≡◌, ◌+◌, ◌<◌, ◌∷◌, ◌++◌, [], ℕ, zero, suc, List, length, drop, get_or, arith}
-use Rattle.std.proofs.Common.{ap, sym, ◌∙◌, None, slice_set, take}
+-- What is left of steps at a place: the next act and what comes after it, or the steps after a step that is done.
+use Rattle.std.proofs.Common.{refl, ◌≡◌, ◌≢◌, ◌+◌, ◌-◌, ◌<◌, ◌≤◌, ◌∷◌, ◌++◌, [], ℕ, zero, suc, List, length, drop}
+use Rattle.std.proofs.Common.{get_or, arith, ap, sym, ◌∙◌, Option, None, Some, IfSome, Result, true, false, slice_set, take}
+use Rattle.std.specs.Prelude.{option_map, slice_get}
 use Rattle.std.proofs.Math.Seq.{take-append_seam}
 use Rattle.std.proofs.lemmas.List.{drop-set, drop-set-lt}
+use Rattle.std.proofs.lemmas.Option.{slice_get_within}
+use Rattle.text_lines.specs.Ranges.{◌>>=◌}
 use Rattle.trace_pages.specs.FlatMemory.{FlatMemory}
 use Rattle.trace_record.specs.declared.resume.Resume.{Resume}
 use Rattle.trace_record.specs.declared.stop.Stop.{Stop}
-use Rattle.trace_script.specs.Arrivals.{came_to, steps_came}
+use Rattle.trace_script.specs.Arrivals.{effect_by, next_look, next_outcome}
 use Rattle.trace_script.specs.Kept.{step_of, steps_of}
-use Rattle.trace_script.specs.Left.{acts_at, left_in}
-use Rattle.trace_script.specs.LookAhead.{fault_in, look_over}
-use Rattle.trace_script.specs.StepStops.{acts_of_steps}
-use Rattle.trace_script.specs.StopTrace.{Context, Stopped, advance}
+use Rattle.trace_script.specs.Left.{acts_at, left_in, most_acts}
+use Rattle.trace_script.specs.LookAhead.{look_at, look_over}
+use Rattle.trace_script.specs.Script.{Image, Step}
+use Rattle.trace_script.specs.Script as step
+use Rattle.trace_script.specs.StepStops.{Act, acts_of, acts_of_steps}
+use Rattle.trace_script.specs.StopTrace.{Context, Outcome, advance, effect_of, outcome_by}
+use Rattle.trace_script.specs.declared.effect.Effect.{Effect as KeptEffect}
+use Rattle.trace_script.specs.declared.effect.Effect.TheVariants as kept
+use Rattle.trace_script.specs.declared.found.Found.{Found}
 use Rattle.trace_script.specs.declared.script.Step.{Step as KeptStep}
 use Rattle.trace_script.specs.declared.setting.Setting.{Setting}
-use Rattle.trace_script.specs.declared.stage.Stage.{Stage}
-use Rattle.trace_script.specs.declared.stage.Stage.TheVariants as stage
-use Rattle.trace_script.specs.declared.step_run.Arrival.{Arrival}
-use Rattle.trace_script.specs.declared.step_run.Arrival.TheVariants as arrival
-use Rattle.trace_script.proofs.Looks.{advance_append, followed, front_clear, through_clear}
 
-module _ {Z : Type 0} where
-  pub left_before : (s : Setting) (filled : List ℕ) (steps : List (KeptStep Z)) → left_in s filled steps stage.Before
-      ≡ acts_of_steps s (steps_of filled steps)
-  unfolding acts_of_steps
-  left_before s filled [] = refl
-  left_before s filled (step ∷ steps) = refl
+-- ---- lists
 
-  pub left_at : (s : Setting) (filled : List ℕ) (steps : List (KeptStep Z)) (place : ℕ) (step : KeptStep Z) (at : Stage)
-      → place < length steps
-      → left_in s filled (drop place steps) at
-      ≡ acts_at s (step_of filled (get_or steps place step)) at
-      ++ left_in s filled (drop (place + 1) steps) stage.Before
-  left_at s filled [] place step at within = absurd (omega arith)
-  left_at s filled (first ∷ steps) zero step at within =
-      ap (λ acts. acts_at s (step_of filled first) at ++ acts) (sym (left_before s filled steps))
-  left_at s filled (first ∷ steps) (suc place) step at within =
-      let next : suc place + 1 ≡ suc (place + 1) = omega arith in
-      rw next (left_at s filled steps place step at (omega arith))
+pub get_later : {X : Type 0} (first : X) (xs : List X) (i : ℕ) → i ≢ 0
+    → slice_get (first ∷ xs) i ≡ slice_get xs (i - 1)
+get_later first xs zero later = absurd (later refl)
+get_later first xs (suc i) later = let same : i ≡ suc i - 1 = omega arith in ap (slice_get xs) same
 
-  -- ---- a step at a place that is changed while it is done
-  left_set : (s : Setting) (filled : List ℕ) (steps : List (KeptStep Z)) (place : ℕ) (new : KeptStep Z) (at : Stage)
-      → place < length steps
-      → left_in s filled (drop place (slice_set steps place new)) at
-      ≡ acts_at s (step_of filled new) at ++ left_in s filled (drop (place + 1) steps) stage.Before
-  left_set s filled steps place new at within =
-      ap (λ left. left_in s filled left at) (drop-set steps place new within)
-      ∙ ap (λ acts. acts_at s (step_of filled new) at ++ acts) (sym (left_before s filled (drop (place + 1) steps)))
+drop_next : {X : Type 0} (xs : List X) (i : ℕ) (x : X) → slice_get xs i ≡ Some x → drop i xs ≡ x ∷ drop (i + 1) xs
+drop_next [] i x is = cc
+drop_next (first ∷ xs) zero x is = let same : first ≡ x = cc in ap (λ y. y ∷ xs) same
+drop_next (first ∷ xs) (suc i) x is =
+    let next : suc i + 1 ≡ suc (i + 1) = omega arith in
+    rw next (drop_next xs i x is)
 
-  after_set : (steps : List (KeptStep Z)) (place : ℕ) (new : KeptStep Z)
-      → drop (place + 1) (slice_set steps place new) ≡ drop (place + 1) steps
-  after_set steps place new = drop-set-lt (place + 1) steps place new (omega arith)
-
-  by_arrival : (s : Setting) (how : Resume) (filled : List ℕ) (steps : List (KeptStep Z)) (place : ℕ) (new : KeptStep Z)
-      (came : Arrival) (stop : Stop) (y : Context) → place < length steps
-      → followed (came_to came (acts_at s (step_of filled new)) stop y)
-      (left_in s filled (drop (place + 1) steps) stage.Before)
-      (advance s how (left_in s filled (drop (place + 1) steps) stage.Before))
-      ≡ steps_came s how came place filled (slice_set steps place new) stop y
-  by_arrival s how filled steps place new (arrival.Stopped at) stop y within =
-      ap (λ left. Stopped left stop y) (sym (left_set s filled steps place new at within))
-  by_arrival s how filled steps place new arrival.Through stop y within =
-      ap (λ left. advance s how (left_in s filled left stage.Before) y) (sym (after_set steps place new))
-  by_arrival s how filled steps place new (arrival.Died death) stop y within = refl
-
-  -- the step at the place is clear where what is left is
-  pub clear_here : (s : Setting) (how : Resume) (filled : List ℕ) (steps : List (KeptStep Z)) (place : ℕ)
-      (step : KeptStep Z) (at : Stage) (m : FlatMemory) → place < length steps
-      → fault_in (look_over s how (left_in s filled (drop place steps) at) m) ≡ None
-      → fault_in (look_over s how (acts_at s (step_of filled (get_or steps place step)) at) m) ≡ None
-  clear_here s how filled steps place step at m within clear =
-      front_clear s how (acts_at s (step_of filled (get_or steps place step)) at)
-      (left_in s filled (drop (place + 1) steps) stage.Before) m
-      (ap (λ acts. fault_in (look_over s how acts m)) (sym (left_at s filled steps place step at within)) ∙ clear)
-
-  pub came_here : (s : Setting) (how : Resume) (filled : List ℕ) (steps : List (KeptStep Z)) (place : ℕ)
-      (step new : KeptStep Z) (at : Stage) (came : Arrival) (stop : Stop) (x y : Context) → place < length steps
-      → advance s how (acts_at s (step_of filled (get_or steps place step)) at) x
-      ≡ came_to came (acts_at s (step_of filled new)) stop y
-      → advance s how (left_in s filled (drop place steps) at) x
-      ≡ steps_came s how came place filled (slice_set steps place new) stop y
-  came_here s how filled steps place step new at came stop x y within is =
-      let rest = left_in s filled (drop (place + 1) steps) stage.Before in
-      ap (λ acts. advance s how acts x) (left_at s filled steps place step at within)
-      ∙ advance_append s how (acts_at s (step_of filled (get_or steps place step)) at) rest x
-      ∙ ap (λ o. followed o rest (advance s how rest)) is
-      ∙ by_arrival s how filled steps place new came stop y within
-
-  pub clear_after_it : (s : Setting) (how : Resume) (filled : List ℕ) (steps : List (KeptStep Z)) (place : ℕ)
-      (step new : KeptStep Z) (at : Stage) (came : Arrival) (stop : Stop) (x y : Context) → place < length steps
-      → advance s how (acts_at s (step_of filled (get_or steps place step)) at) x
-      ≡ came_to came (acts_at s (step_of filled new)) stop y
-      → fault_in (look_over s how (left_in s filled (drop place steps) at) x.memory) ≡ None → came ≡ arrival.Through
-      → fault_in (look_over s how (left_in s filled (drop (place + 1) (slice_set steps place new)) stage.Before)
-      y.memory) ≡ None
-  clear_after_it s how filled steps place step new at came stop x y within is clear through =
-      ap (λ left. fault_in (look_over s how (left_in s filled left stage.Before) y.memory)) (after_set steps place new)
-      ∙ through_clear s how (acts_at s (step_of filled (get_or steps place step)) at)
-      (left_in s filled (drop (place + 1) steps) stage.Before) x y
-      (is ∙ ap (λ c. came_to c (acts_at s (step_of filled new)) stop y) through)
-      (ap (λ acts. fault_in (look_over s how acts x.memory)) (sym (left_at s filled steps place step at within))
-      ∙ clear)
+drop_past : {X : Type 0} (xs : List X) (i : ℕ) → slice_get xs i ≡ None → drop i xs ≡ []
+drop_past [] zero is = refl
+drop_past [] (suc i) is = refl
+drop_past (first ∷ xs) zero is = cc
+drop_past (first ∷ xs) (suc i) is = drop_past xs i is
 
 -- a list that was written over the front of another of its length
-pub written_back : {X : Type 0} (new old : List X) (n : ℕ) → length new ≡ n → take n (new ++ drop (length new) old) ≡ new
+pub written_back : {X : Type 0} (new old : List X) (n : ℕ) → length new ≡ n
+    → take n (new ++ drop (length new) old) ≡ new
 written_back new old n long =
     ap (λ k. take k (new ++ drop (length new) old)) (sym long) ∙ take-append_seam new (drop (length new) old)
+
+-- ---- the acts of a step
+
+acts_few : (s : Setting) (step : Step) → length (acts_of s step) ≤ 7
+acts_few s (step.Call nr arguments answer None) = omega arith
+acts_few s (step.Call nr arguments answer (Some fill)) = omega arith
+acts_few s (step.Fork child) = omega arith
+acts_few s (step.Thread child) = omega arith
+acts_few s (step.Exec path image) = omega arith
+acts_few s (step.Signal signal true) = omega arith
+acts_few s (step.Signal signal false) = omega arith
+acts_few s (step.Exit status) = omega arith
+
+-- an act and what it is in its step, by what the program says of both
+abbrev pub IsAct : (said got : Option Act) → Type 0
+IsAct said got = Some said ≡ option_map Some got
+
+act_is : (said got : Option Act) → IsAct said got → (act : Act) × (said ≡ Some act) × (got ≡ Some act)
+act_is said None is = cc
+act_is said (Some act) is = let same : said ≡ Some act = cc in (act, same, refl)
+
+no_act : (got : Option Act) → None ≡ option_map Some got → got ≡ None
+no_act None is = refl
+no_act (Some act) is = cc
+
+pub within_acts : (s : Setting) (step : Step) (place : ℕ) (said : Option Act)
+    → IsAct said (slice_get (acts_of s step) place) → place < most_acts
+within_acts s step place said is =
+    let found = act_is said (slice_get (acts_of s step) place) is in
+    let within = slice_get_within (acts_of s step) place found.0 found.2 in
+    let few = acts_few s step in
+    omega (arith, within, few)
+
+-- ---- an act that was done
+
+same_outcome : (effect : KeptEffect) (stop : Stop) (x y : Context) (acts : List Act) (more : Context → Outcome)
+    → (effect ≡ kept.Stops → y ≡ x)
+    → outcome_by (effect_by effect stop y) acts x more ≡ outcome_by (effect_by effect stop y) acts y more
+same_outcome kept.Stops stop x y acts more stays =
+    ap (λ z. outcome_by (effect_by kept.Stops stop y) acts z more) (sym (stays refl))
+same_outcome kept.GoesOn stop x y acts more stays = refl
+same_outcome (kept.Ends death) stop x y acts more stays = refl
+same_outcome (kept.Faults address) stop x y acts more stays = refl
+
+module _ {Z : Type 0} where
+  -- ---- what is left
+
+  pub left_first : (s : Setting) (filled : List ℕ) (steps : List (KeptStep Z)) → left_in s filled steps 0
+      ≡ acts_of_steps s (steps_of filled steps)
+  unfolding acts_of_steps
+  left_first s filled [] = refl
+  left_first s filled (step ∷ steps) = refl
+
+  left_at : (s : Setting) (filled : List ℕ) (steps : List (KeptStep Z)) (index : ℕ) (step : KeptStep Z) (place : ℕ)
+      → index < length steps
+      → left_in s filled (drop index steps) place
+      ≡ acts_at s (step_of filled (get_or steps index step)) place ++ left_in s filled (drop (index + 1) steps) 0
+  left_at s filled [] index step place within = absurd (omega arith)
+  left_at s filled (first ∷ steps) zero step place within =
+      ap (λ acts. acts_at s (step_of filled first) place ++ acts) (sym (left_first s filled steps))
+  left_at s filled (first ∷ steps) (suc index) step place within =
+      let next : suc index + 1 ≡ suc (index + 1) = omega arith in
+      rw next (left_at s filled steps index step place (omega arith))
+
+  next_left : (s : Setting) (filled : List ℕ) (steps : List (KeptStep Z)) (index : ℕ) (step : KeptStep Z) (place : ℕ)
+      (act : Act) → index < length steps
+      → slice_get (acts_of s (step_of filled (get_or steps index step))) place ≡ Some act
+      → left_in s filled (drop index steps) place ≡ act ∷ left_in s filled (drop index steps) (place + 1)
+  next_left s filled steps index step place act within is =
+      let rest = left_in s filled (drop (index + 1) steps) 0 in
+      left_at s filled steps index step place within
+      ∙ ap (λ acts. acts ++ rest) (drop_next (acts_of s (step_of filled (get_or steps index step))) place act is)
+      ∙ ap (λ acts. act ∷ acts) (sym (left_at s filled steps index step (place + 1) within))
+
+  none_left : (s : Setting) (filled : List ℕ) (steps : List (KeptStep Z)) (index : ℕ) (step : KeptStep Z) (place : ℕ)
+      → index < length steps
+      → None ≡ option_map Some (slice_get (acts_of s (step_of filled (get_or steps index step))) place)
+      → left_in s filled (drop index steps) place ≡ left_in s filled (drop (index + 1) steps) 0
+  none_left s filled steps index step place within is =
+      left_at s filled steps index step place within
+      ∙ ap (λ acts. acts ++ left_in s filled (drop (index + 1) steps) 0)
+      (drop_past (acts_of s (step_of filled (get_or steps index step))) place
+      (no_act (slice_get (acts_of s (step_of filled (get_or steps index step))) place) is))
+
+  -- a step that was changed while an act of it was done
+  set_left : (s : Setting) (filled : List ℕ) (steps : List (KeptStep Z)) (index : ℕ) (step new : KeptStep Z)
+      (place : ℕ) → index < length steps
+      → acts_at s (step_of filled new) place ≡ acts_at s (step_of filled (get_or steps index step)) place
+      → left_in s filled (drop index (slice_set steps index new)) place ≡ left_in s filled (drop index steps) place
+  set_left s filled steps index step new place within same =
+      ap (λ left. left_in s filled left place) (drop-set steps index new within)
+      ∙ ap (λ acts. acts ++ acts_of_steps s (steps_of filled (drop (index + 1) steps))) same
+      ∙ ap (λ acts. acts_at s (step_of filled (get_or steps index step)) place ++ acts)
+      (sym (left_first s filled (drop (index + 1) steps)))
+      ∙ sym (left_at s filled steps index step place within)
+
+  -- ---- the next act, looked at and done
+
+  pub look_next : (s : Setting) (how : Resume) (filled : List ℕ) (steps : List (KeptStep Z)) (index : ℕ)
+      (step : KeptStep Z) (place : ℕ) (said : Option Act) (found : Result FlatMemory Found) (m : FlatMemory)
+      → index < length steps → IsAct said (slice_get (acts_of s (step_of filled (get_or steps index step))) place)
+      → IfSome said (λ act. found ≡ look_at s how act m)
+      → look_over s how (left_in s filled (drop index steps) place) m
+      ≡ next_look s how (Some found) (left_in s filled (drop index steps) (place + 1))
+      (left_in s filled (drop (index + 1) steps) 0) m
+  look_next s how filled steps index step place said found m within is looked =
+      let act = act_is said (slice_get (acts_of s (step_of filled (get_or steps index step))) place) is in
+      let rest = left_in s filled (drop index steps) (place + 1) in
+      let at : found ≡ look_at s how act.0 m = rw act.1 at looked in
+      ap (λ acts. look_over s how acts m) (next_left s filled steps index step place act.0 within act.2)
+      ∙ ap (λ l. l >>= look_over s how rest) (sym at)
+
+  pub look_none : (s : Setting) (how : Resume) (filled : List ℕ) (steps : List (KeptStep Z)) (index : ℕ)
+      (step : KeptStep Z) (place : ℕ) (m : FlatMemory) → index < length steps
+      → None ≡ option_map Some (slice_get (acts_of s (step_of filled (get_or steps index step))) place)
+      → look_over s how (left_in s filled (drop index steps) place) m
+      ≡ next_look s how None (left_in s filled (drop index steps) (place + 1))
+      (left_in s filled (drop (index + 1) steps) 0) m
+  look_none s how filled steps index step place m within is =
+      ap (λ acts. look_over s how acts m) (none_left s filled steps index step place within is)
+
+  pub act_next : (s : Setting) (how : Resume) (filled : List ℕ) (steps : List (KeptStep Z)) (index : ℕ)
+      (step new : KeptStep Z) (place : ℕ) (said : Option Act) (effect : KeptEffect) (stop : Stop) (x y : Context)
+      → index < length steps → IsAct said (slice_get (acts_of s (step_of filled (get_or steps index step))) place)
+      → IfSome said (λ act. effect_of s how act x ≡ effect_by effect stop y) → (effect ≡ kept.Stops → y ≡ x)
+      → ((p : ℕ) → said ≡ slice_get (acts_of s (step_of filled (get_or steps index step))) p
+      → acts_at s (step_of filled new) (p + 1) ≡ acts_at s (step_of filled (get_or steps index step)) (p + 1))
+      → advance s how (left_in s filled (drop index steps) place) x
+      ≡ next_outcome s how (Some effect) (left_in s filled (drop index (slice_set steps index new)) (place + 1))
+      (left_in s filled (drop (index + 1) (slice_set steps index new)) 0) stop y
+  act_next s how filled steps index step new place said effect stop x y within is done stays after =
+      let act = act_is said (slice_get (acts_of s (step_of filled (get_or steps index step))) place) is in
+      let rest = left_in s filled (drop index steps) (place + 1) in
+      let at : effect_of s how act.0 x ≡ effect_by effect stop y = rw act.1 at done in
+      ap (λ acts. advance s how acts x) (next_left s filled steps index step place act.0 within act.2)
+      ∙ ap (λ e. outcome_by e rest x (advance s how rest)) at
+      ∙ same_outcome effect stop x y rest (advance s how rest) stays
+      ∙ ap (λ acts. outcome_by (effect_by effect stop y) acts y (advance s how acts))
+      (sym (set_left s filled steps index step new (place + 1) within (after place (act.1 ∙ sym act.2))))
+
+  pub act_none : (s : Setting) (how : Resume) (filled : List ℕ) (steps : List (KeptStep Z)) (index : ℕ)
+      (step new : KeptStep Z) (place : ℕ) (stop : Stop) (x : Context) → index < length steps
+      → None ≡ option_map Some (slice_get (acts_of s (step_of filled (get_or steps index step))) place)
+      → advance s how (left_in s filled (drop index steps) place) x
+      ≡ next_outcome s how None (left_in s filled (drop index (slice_set steps index new)) (place + 1))
+      (left_in s filled (drop (index + 1) (slice_set steps index new)) 0) stop x
+  act_none s how filled steps index step new place stop x within is =
+      ap (λ acts. advance s how acts x) (none_left s filled steps index step place within is)
+      ∙ ap (λ left. advance s how (left_in s filled left 0) x)
+      (sym (drop-set-lt (index + 1) steps index new (omega arith)))

@@ -23,9 +23,7 @@ use Rattle.trace_script.specs.declared.progress.Progress.TheVariants as progress
 use Rattle.trace_script.specs.declared.script.Image.{Image as KeptImage}
 use Rattle.trace_script.specs.declared.script.Step.{Step as KeptStep}
 use Rattle.trace_script.specs.declared.setting.Setting.{Setting}
-use Rattle.trace_script.specs.declared.stage.Stage.{Stage}
-use Rattle.trace_script.specs.declared.stage.Stage.TheVariants as stages
-use Rattle.trace_script.proofs.Steps.{left_before}
+use Rattle.trace_script.proofs.Steps.{left_first}
 
 -- ---- a stop leaves fewer stops
 
@@ -134,21 +132,21 @@ module _ {Z : Type 0} where
 
   pub loaded_within : (s : Setting) (at : Progress) (image : KeptImage Z) (filled : List ℕ) (steps : List (KeptStep Z))
       (number : ℕ) → at ≡ progress.New → IsWithin LAST_NUMBER (position s number (left_by s at image filled steps))
-      → IsWithin LAST_NUMBER (position s (number + 1) (left_in s filled steps stages.Before))
+      → IsWithin LAST_NUMBER (position s (number + 1) (left_in s filled steps 0))
   loaded_within s at image filled steps number new within =
       let opened : IsWithin LAST_NUMBER (position s number (left_by s progress.New image filled steps)) =
       subst (λ p. IsWithin LAST_NUMBER (position s number (left_by s p image filled steps))) new within in
-      subst (λ acts. IsWithin LAST_NUMBER (position s (number + 1) acts)) (sym (left_before s filled steps))
+      subst (λ acts. IsWithin LAST_NUMBER (position s (number + 1) acts)) (sym (left_first s filled steps))
       (omega (arith, opened))
 
   pub stopped_within : (s : Setting) (how : Resume) (was : Progress) (image : KeptImage Z) (filled : List ℕ)
-      (steps : List (KeptStep Z)) (number place : ℕ) (stage : Stage) (left : List Act) (at : Stop) (x y : Context)
-      → was ≡ progress.Going place stage
-      → advance s how (left_in s filled (drop place steps) stage) x ≡ Stopped left at y
+      (steps : List (KeptStep Z)) (number index place : ℕ) (left : List Act) (at : Stop) (x y : Context)
+      → was ≡ progress.Going index place
+      → advance s how (left_in s filled (drop index steps) place) x ≡ Stopped left at y
       → IsWithin LAST_NUMBER (position s number (left_by s was image filled steps))
       → IsWithin LAST_NUMBER (position s (number + 1) left)
-  stopped_within s how was image filled steps number place stage left at x y going is within =
-      let acts = left_in s filled (drop place steps) stage in
+  stopped_within s how was image filled steps number index place left at x y going is within =
+      let acts = left_in s filled (drop index steps) place in
       let less : stops_in left + 1 ≤ stops_in acts =
       subst (λ o. LeavesLess o (stops_in acts)) is (leaves_less s how acts x) in
       let before : IsWithin LAST_NUMBER (position s number acts) =

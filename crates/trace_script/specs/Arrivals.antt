@@ -1,43 +1,45 @@
--- Where a step, or steps in a row, were left, as an outcome of their acts.
-use Rattle.std.specs.Prelude.{◌+◌, ℕ, List, Result, Ok, Err, drop}
+-- Where an act, or acts in a row, lead: what the program answers, as an effect or an outcome.
+use Rattle.std.specs.Prelude.{ℕ, List, Option, Some, None, Result, drop}
+use Rattle.text_lines.specs.Ranges.{◌>>=◌}
+use Rattle.trace_pages.specs.FlatMemory.{FlatMemory}
 use Rattle.trace_record.specs.declared.resume.Resume.{Resume}
 use Rattle.trace_record.specs.declared.stop.Stop.{Stop}
 use Rattle.trace_script.specs.Left.{left_in}
+use Rattle.trace_script.specs.LookAhead.{look_over}
 use Rattle.trace_script.specs.StepStops.{Act}
-use Rattle.trace_script.specs.StopTrace.{Context, Outcome, Stopped, Through, Died, Faulted, advance}
+use Rattle.trace_script.specs.StopTrace.{Context, Effect, Stops, GoesOn, Ends, Faults}
+use Rattle.trace_script.specs.StopTrace.{Outcome, Stopped, Through, Died, Faulted, advance, outcome_by}
+use Rattle.trace_script.specs.declared.effect.Effect.{Effect as KeptEffect}
+use Rattle.trace_script.specs.declared.effect.Effect.TheVariants as kept
+use Rattle.trace_script.specs.declared.effect.Reached.{Reached}
+use Rattle.trace_script.specs.declared.effect.Reached.TheVariants as reached_at
+use Rattle.trace_script.specs.declared.found.Found.{Found}
 use Rattle.trace_script.specs.declared.script.Step.{Step as KeptStep}
 use Rattle.trace_script.specs.declared.setting.Setting.{Setting}
-use Rattle.trace_script.specs.declared.stage.Stage.{Stage}
-use Rattle.trace_script.specs.declared.stage.Stage.TheVariants as stage
-use Rattle.trace_script.specs.declared.step_run.Arrival.{Arrival}
-use Rattle.trace_script.specs.declared.steps_run.Reached.{Reached}
-use Rattle.trace_script.specs.declared.steps_run.Reached.TheVariants as reached_at
-use Rattle.trace_script.specs.declared.step_run.Arrival.TheVariants as arrival
 
--- one step, by what is left of it after each stop
-abbrev pub came_to : Arrival → (Stage → List Act) → Stop → Context → Outcome
-came_to (arrival.Stopped at) left stop x = Stopped (left at) stop x
-came_to arrival.Through left stop x = Through x
-came_to (arrival.Died death) left stop x = Died death
+-- one act
+abbrev pub effect_by : KeptEffect → Stop → Context → Effect
+effect_by kept.Stops stop x = Stops stop
+effect_by kept.GoesOn stop x = GoesOn x
+effect_by (kept.Ends death) stop x = Ends death
+effect_by (kept.Faults address) stop x = Faults address
 
--- the step at a place of a list
-abbrev pub steps_came : {Z : Type 0} → Setting → Resume → Arrival → (place : ℕ) → (filled : List ℕ)
-    → List (KeptStep Z) → Stop → Context → Outcome
-steps_came s how (arrival.Stopped at) place filled steps stop x =
-    Stopped (left_in s filled (drop place steps) at) stop x
-steps_came s how arrival.Through place filled steps stop x =
-    advance s how (left_in s filled (drop (place + 1) steps) stage.Before) x
-steps_came s how (arrival.Died death) place filled steps stop x = Died death
+-- the next act of a step and the acts after it, or where the step has no more, the steps after it
+abbrev pub next_outcome : Setting → Resume → Option KeptEffect → (acts steps : List Act) → Stop → Context → Outcome
+next_outcome s how None acts steps stop x = advance s how steps x
+next_outcome s how (Some effect) acts steps stop x = outcome_by (effect_by effect stop x) acts x (advance s how acts)
+
+-- the same of a look ahead
+abbrev pub next_look : Setting → Resume → Option (Result FlatMemory Found) → (acts steps : List Act) → FlatMemory
+    → Result FlatMemory Found
+next_look s how None acts steps memory = look_over s how steps memory
+next_look s how (Some found) acts steps memory = found >>= look_over s how acts
 
 -- steps in a row
 abbrev pub reached : {Z : Type 0} → Setting → Reached → (filled : List ℕ) → List (KeptStep Z) → Stop → Context
     → Outcome
-reached s (reached_at.Stopped place at) filled steps stop x = Stopped (left_in s filled (drop place steps) at) stop x
+reached s (reached_at.Stopped index place) filled steps stop x =
+    Stopped (left_in s filled (drop index steps) place) stop x
 reached s reached_at.Through filled steps stop x = Through x
 reached s (reached_at.Died death) filled steps stop x = Died death
-
--- the same, or the fault that was found before
-abbrev pub went_on : {Z : Type 0} → Setting → Result Reached ℕ → (filled : List ℕ) → List (KeptStep Z) → Stop
-    → Context → Outcome
-went_on s (Ok came) filled steps stop x = reached s came filled steps stop x
-went_on s (Err address) filled steps stop x = Faulted address
+reached s (reached_at.Faulted address) filled steps stop x = Faulted address

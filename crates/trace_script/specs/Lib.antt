@@ -10,6 +10,7 @@ pub mod DigitValues
 pub mod Draft
 pub mod Fills
 pub mod Kept
+pub mod KeptActs
 pub mod Left
 pub mod LookAhead
 pub mod Machine

@@ -1,12 +1,15 @@
 //! The tracees' side of a trace: case files, and the machine that runs a scripted tracee from stop to stop.
 #![tactic(auto)]
 
+mod act;
 mod calls;
 mod case;
 mod cause;
 mod copies;
+mod effect;
 mod fill;
 mod found;
+mod halts;
 mod laws;
 mod limits;
 mod look_ahead;
@@ -18,8 +21,7 @@ mod row_words;
 mod script;
 mod setting;
 mod signals;
-mod stage;
-mod step_run;
+mod step_acts;
 mod steps_run;
 
 pub use calls::{CLONE, CLONE_THREAD_FLAGS, EXECVE, EXIT, FORK};

@@ -1,29 +1,26 @@
-//! A look ahead over steps: whether a store faults before the tracee stops or dies. Nothing is changed.
-//!
-//! There is a function for each place in a step at which a tracee can be; each passes on to the next place. The
-//! answer is the memory with which the look goes on, or what was found.
+//! A look ahead over acts: whether a store faults before the tracee stops or dies. Nothing is changed.
 
-ghost use Rattle.std.specs.Prelude.{◌≡◌, ◌<◌, ◌+◌, ℕ, List, Ok, Err, if◌then◌else◌, drop, length};
+ghost use Rattle.std.specs.Prelude.{◌≡◌, ◌≢◌, ◌<◌, ◌+◌, ℕ, List, None, Ok, Err, IfSome, drop, length};
+ghost use Rattle.std.specs.Prelude.{if◌then◌else◌, option_map};
 ghost use Rattle.trace_pages.specs.FlatMemory.{run_end};
 ghost use Rattle.trace_pages.specs.Memory.{store_answer};
+ghost use Rattle.trace_script.specs.Arrivals.{next_look};
+ghost use Rattle.trace_script.specs.Fills.{memory_after};
 ghost use Rattle.trace_script.specs.Kept.{fill_of, seen, step_of};
-ghost use Rattle.trace_script.specs.Left.{acts_at, is_deadly, left_in};
-ghost use Rattle.trace_script.specs.LookAhead.{fault_in, fill_check, look_on, look_over};
-ghost use Rattle.trace_script.specs.StepStops.{acts_of, after_enter, after_event, after_filter, after_signal};
-ghost use Rattle.trace_script.specs.StepStops.{from_entry, is_filtered, is_traced, nr_of};
+ghost use Rattle.trace_script.specs.KeptActs.{act_in};
+ghost use Rattle.trace_script.specs.Left.{left_in, most_acts};
+ghost use Rattle.trace_script.specs.LookAhead.{fault_in, fill_check, look_at, look_over};
 ghost use Rattle.trace_script.specs.declared.found.Found.TheVariants as found;
-ghost use Rattle.trace_script.specs.declared.setting.Setting.{Setting};
-ghost use Rattle.trace_script.specs.declared.stage.Stage.TheVariants as stages;
 
-use crate::calls::{CLONE, EXECVE, EXIT, FORK};
+use crate::act::Act;
 use crate::found::Found;
+use crate::halts::halts;
 use crate::script::{Fill, Step};
-use crate::setting::{Setting, has_option};
-use crate::stage::Stage;
+use crate::setting::Setting;
+use crate::step_acts::act_at;
 use std::alloc::Allocator;
-use trace_options::Options;
 use trace_pages::Memory;
-use trace_record::{Kind, Resume};
+use trace_record::Resume;
 
 /// The address of the store that faults before the tracee stops or dies, in what is left of steps from a place in one
 /// of them on.
@@ -31,196 +28,124 @@ pub fn fault_ahead<A: Allocator>(
     steps: &[Step<A>],
     filled: &[u8],
     from: usize,
-    stage: Stage,
+    place: u32,
     setting: &Setting,
     how: Resume,
     memory: &Memory<A>,
 ) -> Option<u64>
-    ensures { result ≡ fault_in (look_over setting.now how (left_in setting.now filled.now (drop from steps.now) stage)
+    ensures { result ≡ fault_in (look_over setting.now how (left_in setting.now filled.now (drop from steps.now) place)
         memory.now) }
 {
-    match look_ahead(steps, filled, from, stage, setting, how, memory) {
+    match look_ahead(steps, filled, from, place, setting, how, memory) {
         Err(Found::Fault(addr)) => Some(addr),
         Err(Found::Halt) => None,
         Ok(_) => None,
     }
 }
 
-/// Looks at what is left of steps from a place in one of them on.
+/// Looks at the acts that are left of steps from a place in one of them on. The answer is the memory with which the
+/// look goes on, or what was found.
 fn look_ahead<'a, A: Allocator>(
     steps: &'a [Step<A>],
     filled: &[u8],
     from: usize,
-    stage: Stage,
+    place: u32,
     setting: &Setting,
     how: Resume,
     memory: &'a Memory<A>,
 ) -> Result<&'a Memory<A>, Found>
-    ensures { seen result ≡ look_over setting.now how (left_in setting.now filled.now (drop from steps.now) stage)
+    ensures { seen result ≡ look_over setting.now how (left_in setting.now filled.now (drop from steps.now) place)
         memory.now }
 {
-    let mut place = from;
-    let mut at = stage;
+    let mut index = from;
+    let mut at = place;
     let mut now = memory;
-    while place < steps.len() {
-        now = look_here(steps, filled, place, at, setting, how, now)?;
-        at = Stage::Before;
-        place += 1;
+    while index < steps.len() {
+        match look_here(steps, filled, index, at, setting, how, now) {
+            Some(found) => {
+                now = found?;
+                at += 1;
+            }
+            None => {
+                index += 1;
+                at = 0;
+            }
+        }
     }
     Ok(now)
 }
 
-/// Looks at what is left of the step at a place.
+/// Looks at the act at a place of the step at an index, if the step has one there.
 fn look_here<'a, A: Allocator>(
     steps: &'a [Step<A>],
     filled: &[u8],
-    place: usize,
-    stage: Stage,
+    index: usize,
+    place: u32,
     setting: &Setting,
     how: Resume,
     memory: &'a Memory<A>,
-) -> Result<&'a Memory<A>, Found>
-    requires { place < length steps.now }
-    ensures { look_over setting.now how (left_in setting.now filled.now (drop place steps.now) stage) memory.now
-        ≡ look_on (seen result) setting.now how
-        (left_in setting.now filled.now (drop (place + 1) steps.now) stages.Before) }
+) -> Option<Result<&'a Memory<A>, Found>>
+    requires { index < length steps.now }
+    ensures found { look_over setting.now how (left_in setting.now filled.now (drop index steps.now) place) memory.now
+        ≡ next_look setting.now how (option_map seen result)
+        (left_in setting.now filled.now (drop index steps.now) (place + 1))
+        (left_in setting.now filled.now (drop (index + 1) steps.now) 0) memory.now }
+    ensures few { result ≢ None → place < most_acts }
 {
-    look_at_step(&steps[place], filled, stage, setting, how, memory)
-}
-
-/// Looks at what is left of a step from a place on.
-fn look_at_step<'a, A: Allocator>(
-    step: &'a Step<A>,
-    filled: &[u8],
-    stage: Stage,
-    setting: &Setting,
-    how: Resume,
-    memory: &'a Memory<A>,
-) -> Result<&'a Memory<A>, Found>
-    ensures { seen result ≡ look_over setting.now how (acts_at setting.now (step_of filled.now step.now) stage)
-        memory.now }
-{
-    match stage {
-        Stage::Before => before(step, filled, setting, how, memory),
-        Stage::Entered => enter(step, filled, setting, how, memory),
-        Stage::Filtered => filter(step, filled, setting, how, memory),
-        Stage::Event => event(step, filled, how, memory),
-        Stage::Signaled => signal(step, how, memory),
-        Stage::Done => Ok(memory),
+    let step = &steps[index];
+    match act_at(step, setting, place) {
+        Some(act) => Some(look_at(step, act, filled, setting, how, memory)),
+        None => None,
     }
 }
 
-/// The whole step.
-fn before<'a, A: Allocator>(
+/// Looks at an act of a step.
+fn look_at<'a, A: Allocator>(
     step: &'a Step<A>,
+    act: Act,
     filled: &[u8],
     setting: &Setting,
     how: Resume,
     memory: &'a Memory<A>,
 ) -> Result<&'a Memory<A>, Found>
-    ensures { seen result ≡ look_over setting.now how (acts_of setting.now (step_of filled.now step.now)) memory.now }
+    ensures { IfSome (act_in filled.now (step_of filled.now step.now) act)
+        (λ act. seen result ≡ look_at setting.now how act memory.now) }
 {
-    match step {
-        Step::Signal { .. } => Err(Found::Halt),
-        Step::Call(_) => entry(step, filled, setting, how, memory),
-        Step::Fork(_) => entry(step, filled, setting, how, memory),
-        Step::Thread(_) => entry(step, filled, setting, how, memory),
-        Step::Exec { .. } => entry(step, filled, setting, how, memory),
-        Step::Exit(_) => entry(step, filled, setting, how, memory),
+    match act {
+        Act::Halts(when, _) => go_on_unless(halts(when, step, setting, how), memory),
+        Act::Calls => Ok(memory),
+        Act::Becomes => Ok(memory_after(step, memory)),
+        Act::Stores(fill) => {
+            check(fill, filled, memory)?;
+            Ok(memory)
+        }
+        Act::Answers(_) => Ok(memory),
+        Act::Delivers => go_on_unless(how.signal != 0, memory),
+        Act::Dies(_) => Err(Found::Halt),
     }
 }
 
-/// From the entry to the call on.
-fn entry<'a, A: Allocator>(
-    step: &'a Step<A>,
-    filled: &[u8],
-    setting: &Setting,
-    how: Resume,
-    memory: &'a Memory<A>,
-) -> Result<&'a Memory<A>, Found>
-    ensures { seen result ≡ look_over setting.now how (from_entry setting.now (step_of filled.now step.now))
-        memory.now }
+/// The same memory, unless the tracee stops or dies.
+fn go_on_unless<A: Allocator>(halts: bool, memory: &Memory<A>) -> Result<&Memory<A>, Found>
+    ensures { seen result ≡ (if halts then Err found.Halt else Ok memory.now) }
 {
-    if is_traced(how.kind) {
+    if halts {
         return Err(Found::Halt);
     }
-    enter(step, filled, setting, how, memory)
+    Ok(memory)
 }
 
-/// After the syscall-enter-stop.
-fn enter<'a, A: Allocator>(
-    step: &'a Step<A>,
-    filled: &[u8],
-    setting: &Setting,
-    how: Resume,
-    memory: &'a Memory<A>,
-) -> Result<&'a Memory<A>, Found>
-    ensures { seen result ≡ look_over setting.now how (after_enter setting.now (step_of filled.now step.now))
-        memory.now }
-{
-    if is_filtered(nr_of(step), setting) {
-        return Err(Found::Halt);
-    }
-    filter(step, filled, setting, how, memory)
-}
-
-/// After the seccomp stop.
-fn filter<'a, A: Allocator>(
-    step: &'a Step<A>,
-    filled: &[u8],
-    setting: &Setting,
-    how: Resume,
-    memory: &'a Memory<A>,
-) -> Result<&'a Memory<A>, Found>
-    ensures { seen result ≡ look_over setting.now how (after_filter setting.now (step_of filled.now step.now))
-        memory.now }
+/// The memory after a step that is an exec: its program's.
+fn memory_after<'a, A: Allocator>(step: &'a Step<A>, memory: &'a Memory<A>) -> &'a Memory<A>
+    ensures { (filled : List ℕ) → result.now ≡ memory_after memory.now (step_of filled step.now) }
 {
     match step {
-        Step::Call(_) => event(step, filled, how, memory),
-        Step::Fork(_) => {
-            if has_option(setting, Options::TRACEFORK) {
-                return Err(Found::Halt);
-            }
-            answer(how, memory)
-        }
-        Step::Thread(_) => {
-            if has_option(setting, Options::TRACECLONE) {
-                return Err(Found::Halt);
-            }
-            answer(how, memory)
-        }
-        Step::Exec { image, .. } => {
-            if has_option(setting, Options::TRACEEXEC) {
-                return Err(Found::Halt);
-            }
-            answer(how, &image.memory)
-        }
-        Step::Signal { .. } => Ok(memory),
-        Step::Exit(_) => Err(Found::Halt),
-    }
-}
-
-/// After the event of a fork, a clone or an exec; the rest of any other call.
-fn event<'a, A: Allocator>(
-    step: &'a Step<A>,
-    filled: &[u8],
-    how: Resume,
-    memory: &'a Memory<A>,
-) -> Result<&'a Memory<A>, Found>
-    ensures { (s : Setting) → seen result ≡ look_over s how (after_event (step_of filled.now step.now)) memory.now }
-{
-    match step {
-        Step::Call(call) => {
-            if let Some(fill) = call.fill {
-                check(fill, filled, memory)?;
-            }
-            answer(how, memory)
-        }
-        Step::Fork(_) => answer(how, memory),
-        Step::Thread(_) => answer(how, memory),
-        Step::Exec { .. } => answer(how, memory),
-        Step::Signal { .. } => Ok(memory),
-        Step::Exit(_) => Ok(memory),
+        Step::Exec { image, .. } => &image.memory,
+        Step::Call(_) => memory,
+        Step::Fork(_) => memory,
+        Step::Thread(_) => memory,
+        Step::Signal { .. } => memory,
+        Step::Exit(_) => memory,
     }
 }
 
@@ -233,69 +158,4 @@ fn check<A: Allocator>(fill: Fill, filled: &[u8], memory: &Memory<A>) -> Result<
         Ok(()) => Ok(()),
         Err(fault) => Err(Found::Fault(fault.addr)),
     }
-}
-
-/// The answer of a call.
-fn answer<A: Allocator>(how: Resume, memory: &Memory<A>) -> Result<&Memory<A>, Found>
-    ensures { seen result ≡ (if is_traced how.kind then Err found.Halt else Ok memory.now) }
-{
-    if is_traced(how.kind) {
-        return Err(Found::Halt);
-    }
-    Ok(memory)
-}
-
-/// After the signal-delivery-stop.
-fn signal<'a, A: Allocator>(
-    step: &Step<A>,
-    how: Resume,
-    memory: &'a Memory<A>,
-) -> Result<&'a Memory<A>, Found>
-    ensures { (filled : List ℕ) (s : Setting) →
-        seen result ≡ look_over s how (after_signal (is_deadly (step_of filled step.now))) memory.now }
-{
-    match step {
-        Step::Signal { deadly, .. } => {
-            if *deadly && how.signal != 0 {
-                return Err(Found::Halt);
-            }
-            Ok(memory)
-        }
-        Step::Call(_) => Ok(memory),
-        Step::Fork(_) => Ok(memory),
-        Step::Thread(_) => Ok(memory),
-        Step::Exec { .. } => Ok(memory),
-        Step::Exit(_) => Ok(memory),
-    }
-}
-
-/// The number of a step's system call; a signal is none.
-pub fn nr_of<A: Allocator>(step: &Step<A>) -> u64
-    ensures { (filled : List ℕ) → result ≡ nr_of (step_of filled step.now) }
-{
-    match step {
-        Step::Call(call) => call.nr,
-        Step::Fork(_) => FORK,
-        Step::Thread(_) => CLONE,
-        Step::Exec { .. } => EXECVE,
-        Step::Signal { .. } => 0,
-        Step::Exit(_) => EXIT,
-    }
-}
-
-/// Whether the tracee stops at syscall-stops.
-pub fn is_traced(kind: Kind) -> bool
-    ensures { result ≡ is_traced kind }
-{
-    match kind {
-        Kind::Syscall => true,
-        Kind::Cont => false,
-    }
-}
-
-/// Whether the filter stops a call.
-pub fn is_filtered(nr: u64, setting: &Setting) -> bool
-    ensures { result ≡ is_filtered setting.now nr }
-{
-    has_option(setting, Options::TRACESECCOMP) && setting.filter.calls.contains(nr)
 }

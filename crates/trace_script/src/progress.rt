@@ -1,6 +1,5 @@
 //! How far a machine is.
 
-use crate::stage::Stage;
 use trace_record::Death;
 
 /// What a machine does next.
@@ -8,8 +7,8 @@ use trace_record::Death;
 pub enum Progress {
     /// It loads its program.
     New,
-    /// It goes on with the step at this place, from this place in the step on.
-    Going { place: usize, stage: Stage },
+    /// It goes on with the step at this index, from this place in the step on.
+    Going { index: usize, place: u32 },
     /// It answers its tracee's death.
     Ended(Death),
 }

@@ -1,81 +1,200 @@
-//! Steps in a row, done from a place in one of them on, up to the next stop, the death or the end of the script.
+//! The acts of steps, done one after the other, up to the next stop, the death, a fault or the end of the script.
 
-ghost use Rattle.std.specs.Prelude.{◌≡◌, ◌<◌, ◌+◌, None, drop, length};
-ghost use Rattle.trace_script.specs.Arrivals.{reached, steps_came};
-ghost use Rattle.trace_script.specs.Left.{left_in};
-ghost use Rattle.trace_script.specs.LookAhead.{fault_in, look_over};
-ghost use Rattle.trace_script.specs.StopTrace.{advance, context_of};
-ghost use Rattle.trace_script.specs.declared.stage.Stage.TheVariants as stages;
-ghost use Rattle.trace_script.specs.declared.step_run.Arrival.TheVariants as arrival;
+ghost use Rattle.std.specs.Prelude.{◌≡◌, ◌≢◌, ◌<◌, ◌+◌, ℕ, List, None, IfSome, drop, if◌then◌else◌, length};
+ghost use Rattle.std.specs.Prelude.{◌==◌, false, option_map, slice_get};
+ghost use Rattle.trace_pages.specs.FlatMemory.{run_end, stored};
+ghost use Rattle.trace_pages.specs.Memory.{store_answer};
+ghost use Rattle.trace_script.specs.Arrivals.{effect_by, next_outcome, reached};
+ghost use Rattle.trace_script.specs.Kept.{fill_of, step_of};
+ghost use Rattle.trace_script.specs.KeptActs.{act_in, program_of, when_in};
+ghost use Rattle.trace_script.specs.Left.{acts_at, left_in, most_acts};
+ghost use Rattle.trace_script.specs.Registers.{with_start};
+ghost use Rattle.trace_script.specs.StepStops.{Becomes, acts_of, halts};
+ghost use Rattle.trace_script.specs.StopTrace.{Ends, GoesOn, Stops, advance, context, context_of};
+ghost use Rattle.trace_script.specs.StopTrace.{effect_of, store_effect};
+ghost use Rattle.trace_record.specs.declared.death.Death.TheVariants.{Signaled};
+ghost use Rattle.trace_script.specs.declared.effect.Effect.TheVariants as effect;
+ghost use Rattle.trace_script.specs.declared.setting.Setting.{Setting};
 
-use crate::script::Step;
+use crate::act::{Act, When};
+use crate::effect::{Effect, Reached};
+use crate::halts::halts;
+use crate::registers::{with_answer, with_call, with_start};
+use crate::script::{Fill, Image, Step};
 use crate::setting::Setting;
-use crate::stage::Stage;
-use crate::step_run::{Arrival, run_from};
+use crate::step_acts::{act_at, arguments_of, nr_of};
 use std::alloc::Allocator;
-use trace_record::{Death, Resume, StopRecord};
+use trace_record::{Death, Resume, Stop, StopRecord};
 
-/// Where steps were left.
-#[derive(Clone, Copy, Debug, PartialEq, Eq)]
-pub enum Reached {
-    /// At a stop, at this place of this step.
-    Stopped(usize, Stage),
-    /// At their end.
-    Through,
-    /// At the tracee's death.
-    Died(Death),
-}
-
-/// Does what is left of steps from a place in one of them on, where no store on the way faults.
+/// Does the acts that are left of steps from a place in one of them on.
 pub fn run_steps<A: Allocator>(
     steps: &mut [Step<A>],
     filled: &[u8],
     from: usize,
-    stage: Stage,
+    place: u32,
     setting: &Setting,
     how: Resume,
     held: &mut StopRecord<A>,
 ) -> Reached
-    requires { fault_in (look_over setting.now how (left_in setting.now filled.now (drop from steps.old) stage)
-        held.old.memory) ≡ None }
-    ensures reached { advance setting.now how (left_in setting.now filled.now (drop from steps.old) stage)
+    ensures reached { advance setting.now how (left_in setting.now filled.now (drop from steps.old) place)
         (context_of held.old) ≡ reached setting.now result filled.now steps.new held.new.stop (context_of held.new) }
     ensures len { length steps.new ≡ length steps.old }
 {
-    let mut place = from;
-    let mut at = stage;
-    while place < steps.len() {
-        match run_step(steps, filled, place, at, setting, how, held) {
-            Arrival::Stopped(stage) => return Reached::Stopped(place, stage),
-            Arrival::Died(death) => return Reached::Died(death),
-            Arrival::Through => {}
+    let mut index = from;
+    let mut at = place;
+    while index < steps.len() {
+        match run_here(steps, filled, index, at, setting, how, held) {
+            Some(Effect::Stops) => return Reached::Stopped(index, at + 1),
+            Some(Effect::GoesOn) => at += 1,
+            Some(Effect::Ends(death)) => return Reached::Died(death),
+            Some(Effect::Faults(addr)) => return Reached::Faulted(addr),
+            None => {
+                index += 1;
+                at = 0;
+            }
         }
-        at = Stage::Before;
-        place += 1;
     }
     Reached::Through
 }
 
-/// Does what is left of the step at a place.
-fn run_step<A: Allocator>(
+/// Does the act at a place of the step at an index, if the step has one there.
+fn run_here<A: Allocator>(
     steps: &mut [Step<A>],
     filled: &[u8],
-    place: usize,
-    stage: Stage,
+    index: usize,
+    place: u32,
     setting: &Setting,
     how: Resume,
     held: &mut StopRecord<A>,
-) -> Arrival
-    requires within { place < length steps.old }
-    requires clear { fault_in (look_over setting.now how (left_in setting.now filled.now (drop place steps.old) stage)
-        held.old.memory) ≡ None }
-    ensures came { advance setting.now how (left_in setting.now filled.now (drop place steps.old) stage)
+) -> Option<Effect>
+    requires { index < length steps.old }
+    ensures outcome { advance setting.now how (left_in setting.now filled.now (drop index steps.old) place)
         (context_of held.old)
-        ≡ steps_came setting.now how result place filled.now steps.new held.new.stop (context_of held.new) }
-    ensures clear { result ≡ arrival.Through →
-        fault_in (look_over setting.now how (left_in setting.now filled.now (drop (place + 1) steps.new) stages.Before)
-        held.new.memory) ≡ None }
+        ≡ next_outcome setting.now how result (left_in setting.now filled.now (drop index steps.new) (place + 1))
+        (left_in setting.now filled.now (drop (index + 1) steps.new) 0) held.new.stop (context_of held.new) }
+    ensures few { result ≢ None → place < most_acts }
     ensures len { length steps.new ≡ length steps.old }
 {
-    run_from(&mut steps[place], filled, stage, setting, how, held)
+    let step = &mut steps[index];
+    match act_at(step, setting, place) {
+        Some(act) => Some(run_act(step, act, filled, setting, how, held)),
+        None => None,
+    }
+}
+
+/// Does an act of a step. What comes after it in the step stays the same.
+fn run_act<A: Allocator>(
+    step: &mut Step<A>,
+    act: Act,
+    filled: &[u8],
+    setting: &Setting,
+    how: Resume,
+    held: &mut StopRecord<A>,
+) -> Effect
+    ensures effect { IfSome (act_in filled.now (step_of filled.now step.old) act)
+        (λ act. effect_of setting.now how act (context_of held.old)
+        ≡ effect_by result held.new.stop (context_of held.new)) }
+    ensures stays { result ≡ effect.Stops → context_of held.new ≡ context_of held.old }
+    ensures rest { (place : ℕ) → act_in filled.now (step_of filled.now step.old) act
+        ≡ slice_get (acts_of setting.now (step_of filled.now step.old)) place →
+        acts_at setting.now (step_of filled.now step.new) (place + 1)
+        ≡ acts_at setting.now (step_of filled.now step.old) (place + 1) }
+{
+    match act {
+        Act::Halts(when, stop) => halt(when, stop, step, setting, how, held),
+        Act::Calls => {
+            held.regs = with_call(nr_of(step), &arguments_of(step), &held.regs);
+            Effect::GoesOn
+        }
+        Act::Becomes => {
+            start(step, held);
+            Effect::GoesOn
+        }
+        Act::Stores(fill) => store(fill, filled, held),
+        Act::Answers(answer) => {
+            held.regs = with_answer(answer, &held.regs);
+            Effect::GoesOn
+        }
+        Act::Delivers => deliver(how),
+        Act::Dies(death) => Effect::Ends(death),
+    }
+}
+
+/// Stops, if the tracee does at this place.
+fn halt<A: Allocator>(
+    when: When,
+    stop: Stop,
+    step: &Step<A>,
+    setting: &Setting,
+    how: Resume,
+    held: &mut StopRecord<A>,
+) -> Effect
+    ensures effect { (filled : List ℕ) →
+        (if halts setting.now how (when_in (step_of filled step.now) when) then Stops stop
+        else GoesOn (context_of held.old)) ≡ effect_by result held.new.stop (context_of held.new) }
+    ensures stays { context_of held.new ≡ context_of held.old }
+{
+    if !halts(when, step, setting, how) {
+        return Effect::GoesOn;
+    }
+    held.stop = stop;
+    Effect::Stops
+}
+
+/// Starts the program of a step that is an exec.
+fn start<A: Allocator>(step: &mut Step<A>, held: &mut StopRecord<A>)
+    ensures context { (filled : List ℕ) → IfSome (program_of (step_of filled step.old))
+        (λ image. context_of held.new
+        ≡ context (with_start image.rip image.rsp held.old.regs) image.memory) }
+    ensures rest { (filled : List ℕ) (s : Setting) (place : ℕ) →
+        option_map Becomes (program_of (step_of filled step.old))
+        ≡ slice_get (acts_of s (step_of filled step.old)) place →
+        acts_at s (step_of filled step.new) (place + 1) ≡ acts_at s (step_of filled step.old) (place + 1) }
+{
+    match step {
+        Step::Exec { image, .. } => put_in(image, held),
+        Step::Call(_) => {}
+        Step::Fork(_) => {}
+        Step::Thread(_) => {}
+        Step::Signal { .. } => {}
+        Step::Exit(_) => {}
+    }
+}
+
+/// Puts the program of an exec in. The image takes the old memory, which no one reads again.
+fn put_in<A: Allocator>(image: &mut Image<A>, held: &mut StopRecord<A>)
+    ensures memory { held.new.memory ≡ image.old.memory }
+    ensures regs { held.new.regs ≡ with_start image.old.rip image.old.rsp held.old.regs }
+{
+    std::mem::swap(&mut held.memory, &mut image.memory);
+    held.regs = with_start(image.rip, image.rsp, &held.regs);
+}
+
+/// Writes what a call writes, or finds the address at which it faults.
+fn store<A: Allocator>(fill: Fill, filled: &[u8], held: &mut StopRecord<A>) -> Effect
+    ensures effect { let bytes = (fill_of filled.now fill).bytes in
+        store_effect (store_answer (run_end held.old.memory fill.addr (length bytes)))
+        (context held.old.regs (stored held.old.memory fill.addr bytes))
+        ≡ effect_by result held.new.stop (context_of held.new) }
+    ensures stays { result ≢ effect.Stops }
+{
+    match held.memory.store(fill.addr, fill.bytes(filled)) {
+        Ok(()) => Effect::GoesOn,
+        Err(fault) => Effect::Faults(fault.addr),
+    }
+}
+
+/// Hands the signal of a restart over where it kills.
+fn deliver(how: Resume) -> Effect
+    ensures effect { (at : _) (x : _) → (if how.signal == 0 then GoesOn x else Ends (Signaled how.signal false))
+        ≡ effect_by result at x }
+    ensures stays { result ≢ effect.Stops }
+{
+    if how.signal == 0 {
+        return Effect::GoesOn;
+    }
+    Effect::Ends(Death::Signaled {
+        signal: how.signal,
+        core: false,
+    })
 }

@@ -1,20 +1,22 @@
 //! What a machine does.
 
-ghost use Rattle.std.specs.Prelude.{◌≡◌, ◌<◌, ◌≤◌, [], drop, length, IfOk, OnErr};
+ghost use Rattle.std.specs.Prelude.{◌≡◌, ◌<◌, ◌≤◌, [], ℕ, drop, length, IfOk};
 ghost use Rattle.stop_history.specs.Roster.{row_at};
 ghost use Rattle.trace_options.specs.Options.{IsTaken, option_bits};
 ghost use Rattle.trace_record.specs.Content.{content_by};
 ghost use Rattle.trace_record.specs.declared.stop.Stop.TheVariants as stop;
-ghost use Rattle.trace_script.specs.Arrivals.{went_on};
+ghost use Rattle.trace_script.specs.Arrivals.{reached};
 ghost use Rattle.trace_script.specs.CaseFile.{script_at};
 ghost use Rattle.trace_script.specs.Kept.{script_of};
 ghost use Rattle.trace_script.specs.Left.{left_in};
 ghost use Rattle.trace_script.specs.Machine.{IsAnswer};
 ghost use Rattle.trace_script.specs.Registers.{first_regs};
 ghost use Rattle.trace_script.specs.StopTrace.{advance, context_of, next_element, next_position, opening_position};
+ghost use Rattle.trace_script.specs.declared.effect.Reached.TheVariants as reached_at;
 
 use crate::case::Case;
 use crate::copies::{copy_image, copy_steps};
+use crate::effect::Reached;
 use crate::limits::MOST_STEPS;
 use crate::look_ahead::fault_ahead;
 use crate::machine::Machine;
@@ -23,8 +25,7 @@ use crate::progress::Progress;
 use crate::registers::first_regs;
 use crate::script::{Image, Script, Step};
 use crate::setting::Setting;
-use crate::stage::Stage;
-use crate::steps_run::{Reached, run_steps};
+use crate::steps_run::run_steps;
 use std::alloc::Allocator;
 use trace_options::{Filter, Options};
 use trace_pages::NoMemory;
@@ -84,24 +85,17 @@ impl<A: Allocator> Machine<A> {
         match self.progress {
             Progress::New => {
                 load(&mut self.image, held);
-                self.progress = Progress::Going {
-                    place: 0,
-                    stage: Stage::Before,
-                };
+                self.progress = Progress::Going { index: 0, place: 0 };
                 self.number += 1;
                 sign(self.setting.tid, self.number, held);
                 Next::Stop
             }
-            Progress::Going { place, stage } => {
+            Progress::Going { index, place } => {
                 let steps = self.steps.as_mut_slice();
                 let filled = self.filled.as_slice();
-                let came = match go_on(steps, filled, place, stage, &self.setting, how, held) {
-                    Ok(came) => came,
-                    Err(addr) => return Next::Fault(addr),
-                };
-                match came {
-                    Reached::Stopped(place, stage) => {
-                        self.progress = Progress::Going { place, stage };
+                match go_on(steps, filled, index, place, &self.setting, how, held) {
+                    Reached::Stopped(index, place) => {
+                        self.progress = Progress::Going { index, place };
                         self.number += 1;
                         sign(self.setting.tid, self.number, held);
                         Next::Stop
@@ -118,6 +112,7 @@ impl<A: Allocator> Machine<A> {
                         let_go(&mut self.filled);
                         Next::Death(death)
                     }
+                    Reached::Faulted(addr) => Next::Fault(addr),
                 }
             }
             Progress::Ended(death) => Next::Death(death),
@@ -152,23 +147,25 @@ fn sign<A: Allocator>(tid: u32, number: u32, held: &mut StopRecord<A>)
     held.number = number;
 }
 
-/// Goes on with steps, or returns the address of the first store on the way that faults.
+/// Does the acts that are left of steps from a place in one of them on, unless a store on the way faults: then nothing
+/// is done.
 fn go_on<A: Allocator>(
     steps: &mut [Step<A>],
     filled: &[u8],
-    place: usize,
-    stage: Stage,
+    index: usize,
+    place: u32,
     setting: &Setting,
     how: Resume,
     held: &mut StopRecord<A>,
-) -> Result<Reached, u64>
-    ensures outcome { advance setting.now how (left_in setting.now filled.now (drop place steps.old) stage)
-        (context_of held.old) ≡ went_on setting.now result filled.now steps.new held.new.stop (context_of held.new) }
+) -> Reached
+    ensures outcome { advance setting.now how (left_in setting.now filled.now (drop index steps.old) place)
+        (context_of held.old) ≡ reached setting.now result filled.now steps.new held.new.stop (context_of held.new) }
     ensures len { length steps.new ≡ length steps.old }
-    ensures fault { OnErr result ((steps.new ≡ steps.old) × (held.new ≡ held.old)) }
+    ensures fault { (address : ℕ) → result ≡ reached_at.Faulted address →
+        (steps.new ≡ steps.old) × (held.new ≡ held.old) }
 {
-    if let Some(addr) = fault_ahead(steps, filled, place, stage, setting, how, &held.memory) {
-        return Err(addr);
+    if let Some(addr) = fault_ahead(steps, filled, index, place, setting, how, &held.memory) {
+        return Reached::Faulted(addr);
     }
-    Ok(run_steps(steps, filled, place, stage, setting, how, held))
+    run_steps(steps, filled, index, place, setting, how, held)
 }

@@ -1,23 +1,34 @@
--- The step at the place comes first, and then those after it.
-use Rattle.std.proofs.Common.{ap, sym, ◌∙◌, drop, get_or, ◌+◌}
-use Rattle.trace_script.specs.Kept.{step_of}
-use Rattle.trace_script.specs.Left.{acts_at, left_in}
-use Rattle.trace_script.specs.LookAhead.{look_on, look_over}
-use Rattle.trace_script.specs.declared.stage.Stage.TheVariants as stage
-use Rattle.trace_script.proofs.Looks.{look_append}
-use Rattle.trace_script.proofs.Steps.{left_at}
+-- The act at the place is the next of those that are left, or the step has no more.
+use Rattle.std.proofs.Common.{◌≡◌, None, Some, subst}
+use Rattle.std.specs.Prelude.{option_map, slice_get}
+use Rattle.trace_script.specs.Kept.{seen, step_of}
+use Rattle.trace_script.specs.KeptActs.{act_in}
+use Rattle.trace_script.specs.StepStops.{acts_of}
+use Rattle.trace_script.proofs.Steps.{IsAct, look_next, look_none, within_acts}
 use Rattle.trace_script.proofs.look_ahead.look_here.Goals as goal
 
-pub returns : goal.returns
-returns g c =
+pub returns-in-Some-clause-found : goal.returns-in-Some-clause-found
+returns-in-Some-clause-found g c =
     let s = c.args.setting.now in
-    let how = c.args.how in
-    let m = c.args.memory.now in
     let filled = c.args.filled.now in
-    let step = c.index-steps-place.result in
-    let rest = left_in s filled (drop (c.args.place + 1) c.args.steps.now) stage.Before in
-    ap (λ acts. look_over s how acts m) (left_at s filled c.args.steps.now c.args.place step c.args.stage c.requires)
-    ∙ look_append s how (acts_at s (step_of filled (get_or c.args.steps.now c.args.place step)) c.args.stage) rest m
-    ∙ ap (λ found. look_on found s how rest)
-    (ap (λ q. look_over s how (acts_at s (step_of filled q) c.args.stage) m) (sym c.index-steps-place.is)
-    ∙ sym c.look_at_step.ensures)
+    let step = c.index-steps-index.result in
+    let said = act_in filled (step_of filled step) c.in-Some.act in
+    look_next s c.args.how filled c.args.steps.now c.args.index step c.args.place said (seen c.look_at.result)
+    c.args.memory.now c.requires
+    (subst (λ q. IsAct said (slice_get (acts_of s (step_of filled q)) c.args.place)) c.index-steps-index.is
+    (c.in-Some.ensures filled)) c.look_at.ensures
+
+pub returns-in-Some-clause-few : goal.returns-in-Some-clause-few
+returns-in-Some-clause-few g c = λ some.
+    let filled = c.args.filled.now in
+    let step = step_of filled c.index-steps-index.result in
+    within_acts c.args.setting.now step c.args.place (act_in filled step c.in-Some.act) (c.in-Some.ensures filled)
+
+pub returns-in-None-clause-found : goal.returns-in-None-clause-found
+returns-in-None-clause-found g c =
+    let s = c.args.setting.now in
+    let filled = c.args.filled.now in
+    look_none s c.args.how filled c.args.steps.now c.args.index c.index-steps-index.result c.args.place
+    c.args.memory.now c.requires
+    (subst (λ q. None ≡ option_map Some (slice_get (acts_of s (step_of filled q)) c.args.place))
+    c.index-steps-index.is (c.in-None.ensures filled))

@@ -5,7 +5,7 @@ use Rattle.trace_script.specs.Arrivals.{reached}
 use Rattle.trace_script.specs.Left.{left_in}
 use Rattle.trace_script.specs.StopNumbers.{IsWithin}
 use Rattle.trace_script.specs.StopTrace.{advance, context_of, position}
-use Rattle.trace_script.proofs.Steps.{left_before, written_back}
+use Rattle.trace_script.proofs.Steps.{left_first, written_back}
 use Rattle.trace_script.proofs.StopNumbers.{loaded_within, stopped_within}
 use Rattle.trace_script.proofs.machine.Machine.next.Goals as goal
 
@@ -22,16 +22,16 @@ invariant_of-self-in-Stopped g c =
     let kept = written_back c.go_on.new.steps c.self.inside.steps.items c.self.inside.steps.len
     (c.go_on.ensures.len ∙ c.as_mut_slice-steps.ensures.len) in
     subst (λ steps. IsWithin LAST_NUMBER (position s (c.self.inside.number + 1)
-    (left_in s filled (drop c.in-Stopped.place steps) c.in-Stopped.stage))) (sym kept)
+    (left_in s filled (drop c.in-Stopped.index steps) c.in-Stopped.place))) (sym kept)
     (stopped_within s c.args.how c.self.inside.progress c.self.inside.image c.self.inside.filled.items
-    c.self.inside.steps.items c.self.inside.number c.in-Going.place c.in-Going.stage
-    (left_in s filled (drop c.in-Stopped.place c.go_on.new.steps) c.in-Stopped.stage) c.go_on.new.held.stop
+    c.self.inside.steps.items c.self.inside.number c.in-Going.index c.in-Going.place
+    (left_in s filled (drop c.in-Stopped.index c.go_on.new.steps) c.in-Stopped.place) c.go_on.new.held.stop
     (context_of c.args.held.now) (context_of c.go_on.new.held) c.in-Going.is
-    (ap (λ b. advance s c.args.how (left_in s b (drop c.in-Going.place c.self.inside.steps.items) c.in-Going.stage)
+    (ap (λ b. advance s c.args.how (left_in s b (drop c.in-Going.index c.self.inside.steps.items) c.in-Going.place)
     (context_of c.args.held.now)) (sym c.as_slice-filled.ensures.value)
-    ∙ ap (λ steps. advance s c.args.how (left_in s seen (drop c.in-Going.place steps) c.in-Going.stage)
-    (context_of c.args.held.now)) (sym c.as_mut_slice-steps.ensures.value) ∙ c.in-Ok.ensures.outcome
-    ∙ ap (λ b. reached s c.in-Ok.came b c.go_on.new.steps c.go_on.new.held.stop (context_of c.go_on.new.held))
+    ∙ ap (λ steps. advance s c.args.how (left_in s seen (drop c.in-Going.index steps) c.in-Going.place)
+    (context_of c.args.held.now)) (sym c.as_mut_slice-steps.ensures.value) ∙ c.go_on.ensures.outcome
+    ∙ ap (λ b. reached s c.go_on.result b c.go_on.new.steps c.go_on.new.held.stop (context_of c.go_on.new.held))
     c.as_slice-filled.ensures.value
     ∙ ap (λ came. reached s came filled c.go_on.new.steps c.go_on.new.held.stop (context_of c.go_on.new.held))
     c.in-Stopped.is)
@@ -41,4 +41,4 @@ pub returns-in-New-clause-position : goal.returns-in-New-clause-position
 returns-in-New-clause-position g c =
     rw (← c.self.view_is, c.in-New.is)
     (ap (position c.self.inside.setting (c.self.inside.number + 1))
-    (left_before c.self.inside.setting c.self.inside.filled.items c.self.inside.steps.items))
+    (left_first c.self.inside.setting c.self.inside.filled.items c.self.inside.steps.items))

@@ -1,0 +1,44 @@
+//! Whether a tracee stops at a place.
+
+ghost use Rattle.std.specs.Prelude.{◌≡◌, ℕ, List};
+ghost use Rattle.trace_script.specs.Kept.{step_of};
+ghost use Rattle.trace_script.specs.KeptActs.{when_in};
+ghost use Rattle.trace_script.specs.StepStops.{halts, is_filtered, is_traced, nr_of};
+
+use crate::act::When;
+use crate::script::Step;
+use crate::setting::{Setting, has_option};
+use crate::step_acts::nr_of;
+use std::alloc::Allocator;
+use trace_options::Options;
+use trace_record::{Kind, Resume};
+
+/// Whether a tracee of the setting stops at a place of a step, for this restart.
+pub fn halts<A: Allocator>(when: When, step: &Step<A>, setting: &Setting, how: Resume) -> bool
+    ensures { (filled : List ℕ) →
+        result ≡ halts setting.now how (when_in (step_of filled step.now) when) }
+{
+    match when {
+        When::Always => true,
+        When::Traced => is_traced(how.kind),
+        When::Filtered => is_filtered(step, setting),
+        When::ByOption(option) => has_option(setting, option),
+    }
+}
+
+/// Whether the tracee stops at syscall-stops.
+fn is_traced(kind: Kind) -> bool
+    ensures { result ≡ is_traced kind }
+{
+    match kind {
+        Kind::Syscall => true,
+        Kind::Cont => false,
+    }
+}
+
+/// Whether the filter stops a step's call.
+fn is_filtered<A: Allocator>(step: &Step<A>, setting: &Setting) -> bool
+    ensures { (filled : List ℕ) → result ≡ is_filtered setting.now (nr_of (step_of filled step.now)) }
+{
+    has_option(setting, Options::TRACESECCOMP) && setting.filter.calls.contains(nr_of(step))
+}

@@ -1,6 +1,6 @@
 -- The claims that are kept, as the history goes on.
 use Rattle.std.proofs.Common.{refl, ◌≡◌, ◌≢◌, ◌<◌, ◌++◌, [], ℕ, Bool, true, false, List, length}
-use Rattle.std.proofs.Common.{ℤ, get_or, set, IfNone}
+use Rattle.std.proofs.Common.{get_or, set, IfNone}
 use Rattle.std.proofs.Common.{Option, Some, None, replicate, ◌∙◌, sym, ap, inl, inr, arith, subst, eq-eqb, is_some}
 use Rattle.std.specs.List.{list_any}
 use Rattle.std.proofs.lemmas.Bool.{cases_Bool}
@@ -23,7 +23,8 @@ use Rattle.stop_table.specs.View.{View, actors_of, is_among}
 use Rattle.stop_table.proofs.Entries.{content_number, history_append, other_cell, own_cell, shown_state, stays_on}
 use Rattle.stop_table.proofs.Own.{claimed_by_is, held_moved}
 use Rattle.stop_table.proofs.Walking.{legal_after}
-use Rattle.trace_calls.specs.ByPid.{HasClaimed, HasNotClaimed, published, row_of_pid}
+use Rattle.trace_calls.specs.ByPid.{published}
+use Rattle.trace_calls.specs.ByRow.{HasClaimedRow}
 use Rattle.trace_calls.specs.Handle.{CallsHandle, IsCalls, KeepsClaim, KeepsClaims, handle_of}
 use Rattle.trace_calls.specs.Waiting.{Reports}
 use Rattle.trace_calls.proofs.Places.{none_in_range, replicate_place, set_place, without_some}
@@ -155,13 +156,19 @@ nothing_yet v count long none row claim is =
     let at = replicate_place count row None claim is in
     subst (KeepsClaim v row) (sym at.1) (free_row v none row (let low = at.0 in omega arith))
 
--- ---- the calls by pid
+-- ---- the calls by row
+
+pub in_roster : {A : Type 0} (a : CallsHandle) (t : TracerHandle) (rows : List Row) (held : List (Option (Claim A)))
+    (counts : List ℕ) (row : ℕ) → handle_of t counts ≡ a → IsCalls t rows held counts → row < length rows
+    → row < length a.view.roster
+in_roster a t rows held counts row same calls low =
+    let long = ap length calls.roster ∙ ap (λ (h : CallsHandle). length h.view.roster) same in
+    omega (arith, low, long)
 
 module _ {A : Type 0} (a : CallsHandle) (t : TracerHandle) (rows : List Row) (held : List (Option (Claim A)))
-    (counts : List ℕ) (same : handle_of t counts ≡ a) (calls : IsCalls t rows held counts) (pid : ℤ) (row : ℕ)
-    (claim : Option (Claim A)) (place : row_of_pid a.view.roster pid ≡ Some row) (within : row < length a.view.roster)
-    (stands : claim ≡ get_or held row claim) where
-  pub low : row < length held
+    (counts : List ℕ) (same : handle_of t counts ≡ a) (calls : IsCalls t rows held counts) (row : ℕ)
+    (claim : Option (Claim A)) (within : row < length a.view.roster) (stands : claim ≡ get_or held row claim) where
+  low : row < length held
   low =
       let long : length held ≡ length a.view.roster =
       calls.held_long ∙ ap length calls.roster ∙ ap (λ (h : CallsHandle). length h.view.roster) same in
@@ -170,21 +177,17 @@ module _ {A : Type 0} (a : CallsHandle) (t : TracerHandle) (rows : List Row) (he
   keeps : KeepsClaim t.view row claim
   keeps = calls.claims row claim (slice_get_read held (length held) row claim refl low stands)
 
-  pub not_claimed : claim ≡ None → HasNotClaimed a pid
-  not_claimed none other is =
-      let at : row ≡ other = cc (sym place ∙ is) in
-      subst (λ (h : CallsHandle). is_held h.view other ≡ false) same
-      (subst (λ r. is_held t.view r ≡ false) at (subst (KeepsClaim t.view row) none keeps))
-
-  pub has_claimed : (c : Claim A) → claim ≡ Some c → HasClaimed a pid row
-  has_claimed c is =
-      let k = subst (KeepsClaim t.view row) is keeps in (
-        place,
-        subst (λ (h : CallsHandle). is_held h.view row ≡ true) same (holding_held t.view row c.word c.stop k.1),
-      )
+  pub not_claimed : claim ≡ None → is_held a.view row ≡ false
+  not_claimed none =
+      subst (λ (h : CallsHandle). is_held h.view row ≡ false) same (subst (KeepsClaim t.view row) none keeps)
 
   pub holding : (c : Claim A) → claim ≡ Some c → (c.row ≡ row) × IsHolding t.view row c.word c.stop
   holding c is = subst (KeepsClaim t.view row) is keeps
+
+  pub has_claimed : (c : Claim A) → claim ≡ Some c → HasClaimedRow a row
+  has_claimed c is =
+      let k = holding c is in
+      (within, subst (λ (h : CallsHandle). is_held h.view row ≡ true) same (holding_held t.view row c.word c.stop k.1))
 
   pub was_published : (c : Claim A) → claim ≡ Some c → c.stop ≡ published a row
   was_published c is =

@@ -6,4 +6,5 @@ mod Rests
 mod Retries
 mod Scans
 mod Settled
+mod Told
 mod Tries

@@ -2,14 +2,13 @@
 use Rattle.std.proofs.Common.{◌≡◌, ◌∙◌, ℕ, Bool, true, false, Option, Some, None, Result, Ok, Err, ap, subst, sym, set}
 use Rattle.trace_options.specs.declared.errno.Errno.{Errno}
 use Rattle.trace_options.specs.declared.errno.Errno.TheVariants as errno
-use Rattle.trace_status.specs.declared.wait_status.WaitStatus.{WaitStatus}
-use Rattle.trace_status.specs.declared.wait_status.WaitStatus.TheVariants.{StillAlive}
 use Rattle.stop_history.specs.Over.{is_gone}
 use Rattle.stop_table.specs.Handle.{Looked}
 use Rattle.stop_table.specs.View.{View}
 use Rattle.stop_table.proofs.Walking.{looked_on}
 use Rattle.trace_calls.specs.declared.request.Request.{Request}
-use Rattle.trace_calls.specs.Answer.{IsAnswer, IsStatusAnswer, IsStatusOf}
+use Rattle.trace_calls.specs.declared.row_status.RowStatus.{RowStatus}
+use Rattle.trace_calls.specs.Answer.{AnswersByRow, IsRowAnswer, IsStatusOf}
 use Rattle.trace_calls.specs.Handle.{CallsHandle}
 use Rattle.trace_calls.specs.Retry.{OnlyLooked}
 use Rattle.trace_calls.specs.Selection.{IsSelected}
@@ -62,27 +61,25 @@ module _ (request : Request) (u v w : View) (first : Looked u v) where
   )
 
 module _ (request : Request) (a c b : CallsHandle) (only : OnlyLooked a c) where
-  status_from : (status : WaitStatus) (pid : Option ℕ) → IsStatusAnswer request c b status pid
-      → IsStatusAnswer request a b status pid
-  status_from status None is = (nothing_from request a.view c.view b.view only.2 is.0, is.1 ∙ only.1)
-  status_from status (Some pid) is = record {
-    row = is.row;
-    number = is.number;
+  found_again : (found : RowStatus) → AnswersByRow request c b found → AnswersByRow request a b found
+  found_again found is = record {
     raw = is.raw;
-    found = found_from request a.view c.view b.view only.2 is.row is.number is.raw is.found;
-    is_status = subst (λ rows. IsStatusOf rows is.row is.raw status) only.2.grows.same.roster is.is_status;
-    counts = is.counts ∙ ap (λ counts. set counts is.row is.number) only.1;
+    is_found = found_from request a.view c.view b.view only.2 found.row found.number is.raw is.is_found;
+    is_status = subst (λ rows. IsStatusOf rows found.row is.raw found.status) only.2.grows.same.roster is.is_status;
+    counts = is.counts ∙ ap (λ counts. set counts found.row found.number) only.1;
   }
 
-  pub answer_from : (result : Result WaitStatus Errno) → IsAnswer request c b result → IsAnswer request a b result
-  answer_from (Ok status) is = status_from status _ is
+  pub answer_from : (result : Result (Option RowStatus) Errno) → IsRowAnswer request c b result
+      → IsRowAnswer request a b result
+  answer_from (Ok (Some found)) is = found_again found is
+  answer_from (Ok None) is = (nothing_from request a.view c.view b.view only.2 is.0, is.1 ∙ only.1)
   answer_from (Err errno.ECHILD) is = (none_from request a.view c.view b.view only.2 is.0, is.1 ∙ only.1)
   answer_from (Err errno.EINVAL) is = is
   answer_from (Err errno.ESRCH) is = is
   answer_from (Err errno.EIO) is = is
 
-  pub tried_again : (result : Result WaitStatus Errno) → result ≡ Ok StillAlive → IsAnswer request c b result
+  pub tried_again : (result : Result (Option RowStatus) Errno) → result ≡ Ok None → IsRowAnswer request c b result
       → b.table_id ≡ c.table_id → OnlyLooked a b
-  tried_again result still is table =
-      let n = subst (IsAnswer request c b) still is in
+  tried_again result nothing is table =
+      let n = subst (IsRowAnswer request c b) nothing is in
       (table ∙ only.0, n.1 ∙ only.1, looked_on a.view c.view b.view only.2 n.0.looked)

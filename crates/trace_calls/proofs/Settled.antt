@@ -7,7 +7,6 @@ use Rattle.std.proofs.lemmas.List.{length-set}
 use Rattle.std.proofs.lemmas.Option.{slice_get-get_or}
 use Rattle.trace_options.specs.declared.errno.Errno.{Errno}
 use Rattle.trace_status.specs.WaitStatus.{pid_of}
-use Rattle.trace_status.specs.declared.wait_status.WaitStatus.{WaitStatus}
 use Rattle.trace_record.specs.Death.{death_status, death_wait_status}
 use Rattle.trace_record.specs.Stop.{stop_status, stop_wait_status}
 use Rattle.trace_record.specs.declared.death.Death.{Death}
@@ -29,9 +28,10 @@ use Rattle.stop_table.specs.View.{View}
 use Rattle.stop_table.proofs.Entries.{legal_back, ranged_history}
 use Rattle.stop_table.proofs.Walking.{legal_after}
 use Rattle.trace_calls.specs.declared.request.Request.{Request}
+use Rattle.trace_calls.specs.declared.row_status.RowStatus.{RowStatus}
 use Rattle.trace_calls.specs.declared.scan.Finding.{Finding}
 use Rattle.trace_calls.specs.declared.scan.Finding.TheVariants as finding
-use Rattle.trace_calls.specs.Answer.{IsAnswer, IsStatusAnswer, IsStatusOf}
+use Rattle.trace_calls.specs.Answer.{IsRowAnswer, IsStatusOf}
 use Rattle.trace_calls.specs.Handle.{IsCalls, KeepsClaim, KeepsClaims, handle_of}
 use Rattle.trace_calls.specs.Scan.{IsFinding}
 use Rattle.trace_calls.specs.Settling.{Answers, IsPlaced, IsReportable, Settles}
@@ -197,7 +197,7 @@ module _ {A : Type 0} (request : Request) (rows : List Row) (t t' : TracerHandle
   same_roster finding.NothingYet f = f.looked.grows.same.roster
   same_roster finding.NoChild f = f.looked.grows.same.roster
 
-  kept_claims : (held' : List (Option (Claim A))) (counts' : List ℕ) (result : Result WaitStatus Errno)
+  kept_claims : (held' : List (Option (Claim A))) (counts' : List ℕ) (result : Result (Option RowStatus) Errno)
       → (found : Finding A) → IsFinding request t.view t'.view found
       → Settles rows held held' counts counts' found result → KeepsClaims t'.view held'
   kept_claims held' counts' result (finding.Stop claim) f s row other at =
@@ -226,7 +226,7 @@ module _ {A : Type 0} (request : Request) (rows : List Row) (t t' : TracerHandle
   kept_claims held' counts' result finding.NoChild f s row other stands =
       kept_looking f.looked row other (ap (λ h. slice_get h row) (sym s.1) ∙ stands)
 
-  held_long : (held' : List (Option (Claim A))) (counts' : List ℕ) (result : Result WaitStatus Errno)
+  held_long : (held' : List (Option (Claim A))) (counts' : List ℕ) (result : Result (Option RowStatus) Errno)
       → (found : Finding A) → Settles rows held held' counts counts' found result
       → (length held' ≡ length held) × (length counts' ≡ length counts)
   held_long held' counts' result (finding.Stop claim) s =
@@ -238,7 +238,7 @@ module _ {A : Type 0} (request : Request) (rows : List Row) (t t' : TracerHandle
   held_long held' counts' result finding.NothingYet s = (ap length s.1, ap length s.2)
   held_long held' counts' result finding.NoChild s = (ap length s.1, ap length s.2)
 
-  pub kept : (held' : List (Option (Claim A))) (counts' : List ℕ) (result : Result WaitStatus Errno)
+  pub kept : (held' : List (Option (Claim A))) (counts' : List ℕ) (result : Result (Option RowStatus) Errno)
       → (found : Finding A) → IsFinding request t.view t'.view found
       → Settles rows held held' counts counts' found result → IsCalls t' rows held' counts'
   kept held' counts' result found f s =
@@ -252,20 +252,22 @@ module _ {A : Type 0} (request : Request) (rows : List Row) (t t' : TracerHandle
 
   -- ---- what is answered
 
-  answers_row : (counts' : List ℕ) (result : Result WaitStatus Errno) (row number raw : ℕ)
+  answers_row : (counts' : List ℕ) (result : Result (Option RowStatus) Errno) (row number raw : ℕ)
       → Found request t.view t'.view row number raw → Answers rows counts counts' row number raw result
-      → IsAnswer request (handle_of t counts) (handle_of t' counts') result
+      → IsRowAnswer request (handle_of t counts) (handle_of t' counts') result
   answers_row counts' result row number raw f s =
-      let status = s.0.0 in
-      let told = subst (λ rs. IsStatusOf rs row raw status) calls.roster s.0.2 in
-      subst (IsAnswer request (handle_of t counts) (handle_of t' counts')) (sym s.0.1)
-      (subst (IsStatusAnswer request (handle_of t counts) (handle_of t' counts') status) (sym told.0)
-      (record { row = row; number = number; raw = raw; found = f; is_status = told; counts = s.1 }))
+      subst (IsRowAnswer request (handle_of t counts) (handle_of t' counts')) (sym s.0.1)
+      (record {
+        raw = raw;
+        is_found = f;
+        is_status = subst (λ rs. IsStatusOf rs row raw s.0.0) calls.roster s.0.2;
+        counts = s.1;
+      })
 
-  pub answered : (held' : List (Option (Claim A))) (counts' : List ℕ) (result : Result WaitStatus Errno)
+  pub answered : (held' : List (Option (Claim A))) (counts' : List ℕ) (result : Result (Option RowStatus) Errno)
       → (found : Finding A) → IsFinding request t.view t'.view found
       → Settles rows held held' counts counts' found result
-      → IsAnswer request (handle_of t counts) (handle_of t' counts') result
+      → IsRowAnswer request (handle_of t counts) (handle_of t' counts') result
   answered held' counts' result (finding.Stop claim) f s =
       answers_row counts' result claim.row claim.stop.number (stop_status claim.stop.stop) f.1 s.0
   answered held' counts' result (finding.Ended row d number) f s =
@@ -273,6 +275,6 @@ module _ {A : Type 0} (request : Request) (rows : List Row) (t t' : TracerHandle
   answered held' counts' result (finding.Shows row number status) f s =
       answers_row counts' result row number status f.1 s.0
   answered held' counts' result finding.NothingYet f s =
-      subst (IsAnswer request (handle_of t counts) (handle_of t' counts')) (sym s.0) (f, s.2)
+      subst (IsRowAnswer request (handle_of t counts) (handle_of t' counts')) (sym s.0) (f, s.2)
   answered held' counts' result finding.NoChild f s =
-      subst (IsAnswer request (handle_of t counts) (handle_of t' counts')) (sym s.0) (f, s.2)
+      subst (IsRowAnswer request (handle_of t counts) (handle_of t' counts')) (sym s.0) (f, s.2)

@@ -1,5 +1,6 @@
 pub mod Answer
 pub mod ByPid
+pub mod ByRow
 pub mod Handle
 pub mod Request
 pub mod Retry

@@ -7,9 +7,9 @@ use Rattle.trace_record.specs.Stop.{IsStop, stop_status}
 use Rattle.trace_record.specs.declared.death.Death.{Death}
 use Rattle.trace_record.specs.declared.stop.Stop.{Stop}
 use Rattle.trace_status.specs.declared.wait_status.WaitStatus.{WaitStatus}
-use Rattle.trace_status.specs.declared.wait_status.WaitStatus.TheVariants.{StillAlive}
 use Rattle.stop_history.specs.declared.roster.Row.{Row}
 use Rattle.stop_table.specs.declared.claim.Claim.{Claim}
+use Rattle.trace_calls.specs.declared.row_status.RowStatus.{RowStatus}
 use Rattle.trace_calls.specs.declared.scan.Finding.{Finding}
 use Rattle.trace_calls.specs.declared.scan.Finding.TheVariants as finding
 use Rattle.trace_calls.specs.Answer.{IsStatusOf}
@@ -30,13 +30,15 @@ IsPlaced rows held finding.NothingYet = Unit {0}
 IsPlaced rows held finding.NoChild = Unit {0}
 
 -- the status of a row is answered, and counted
-abbrev pub Answers : List Row → (counts counts' : List ℕ) → (row number raw : ℕ) → Result WaitStatus Errno → Type 0
+abbrev pub Answers : List Row → (counts counts' : List ℕ) → (row number raw : ℕ) → Result (Option RowStatus) Errno
+    → Type 0
 Answers rows counts counts' row number raw result =
-    ((status : WaitStatus) × (result ≡ Ok status) × IsStatusOf rows row raw status)
+    ((status : WaitStatus) × (result ≡ Ok (Some (record { row = row; number = number; status = status })))
+    × IsStatusOf rows row raw status)
     × (counts' ≡ slice_set counts row number)
 
 abbrev pub Settles : {A : Type 0} → List Row → (held held' : List (Option (Claim A))) → (counts counts' : List ℕ)
-    → Finding A → Result WaitStatus Errno → Type 0
+    → Finding A → Result (Option RowStatus) Errno → Type 0
 Settles rows held held' counts counts' (finding.Stop claim) result =
     Answers rows counts counts' claim.row claim.stop.number (stop_status claim.stop.stop) result
     × (held' ≡ slice_set held claim.row (Some claim))
@@ -45,6 +47,6 @@ Settles rows held held' counts counts' (finding.Ended row death number) result =
 Settles rows held held' counts counts' (finding.Shows row number status) result =
     Answers rows counts counts' row number status result × (held' ≡ held)
 Settles rows held held' counts counts' finding.NothingYet result =
-    (result ≡ Ok StillAlive) × (held' ≡ held) × (counts' ≡ counts)
+    (result ≡ Ok None) × (held' ≡ held) × (counts' ≡ counts)
 Settles rows held held' counts counts' finding.NoChild result =
     (result ≡ Err errno.ECHILD) × (held' ≡ held) × (counts' ≡ counts)

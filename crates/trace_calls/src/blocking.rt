@@ -1,30 +1,29 @@
 //! The waits that block.
 
-ghost use Rattle.std.specs.Prelude.{◌≡◌, ◌≢◌, ◌↔◌, IfSome, IsTrue, Ok, false, true};
+ghost use Rattle.std.specs.Prelude.{◌≡◌, ◌≢◌, ◌↔◌, IfSome, IsTrue, None, Ok, false, true};
 ghost use Rattle.trace_options.specs.declared.wait_flags.TheConstants.WaitFlags as flag;
 ghost use Rattle.trace_status.specs.declared.wait_status.WaitStatus.TheVariants.{StillAlive};
 ghost use Rattle.stop_table.specs.Entry.{AreLegal};
-ghost use Rattle.trace_calls.specs.Answer.{IsAnswer, IsWaitAnswer};
+ghost use Rattle.trace_calls.specs.Answer.{IsRowAnswer, IsWaitAnswer, IsWaitRowAnswer};
 ghost use Rattle.trace_calls.specs.Handle.{KeepsTable};
 ghost use Rattle.trace_calls.specs.Request.{has, waitid_request, waitpid_request};
 ghost use Rattle.trace_calls.specs.Waiting.{IsOneTry};
 
+use crate::by_row::without_row;
 use crate::calls::Calls;
 use crate::id::Id;
+use crate::patience::Patience;
 use crate::request::{Request, waitid_request, waitpid_request};
+use crate::row_status::RowStatus;
 use std::alloc::Allocator;
 use std::sync::Wait;
-use std::thread;
-use std::time::{Clock, Duration};
+use std::time::Clock;
 use trace_options::{Errno, WaitFlags};
 use trace_status::WaitStatus;
 
-/// How long a wait that found nothing sleeps before it tries again, in milliseconds.
-const PAUSE: u64 = 1;
-
 impl<A: Allocator> Calls<A> {
-    /// `waitid` that tries again while the answer is `StillAlive`; with WNOHANG it tries once. Between two tries it
-    /// sleeps for a millisecond. It may never return.
+    /// `waitid` that tries again while the answer is `StillAlive`; with WNOHANG it tries once. Between two tries it lets
+    /// other threads run, and sleeps a millisecond after each 256 tries. It may never return.
     pub fn waitid_blocking<R: Wait + Clock>(
         &mut self,
         rt: &R,
@@ -37,17 +36,11 @@ impl<A: Allocator> Calls<A> {
         ensures once { has flags flag.WNOHANG ≡ true →
             IfSome (waitid_request id flags) (λ request. IsOneTry request self.old.view self.new.view) }
     {
-        let Some(request) = waitid_request(id, flags) else {
-            return Err(Errno::EINVAL);
-        };
-        if flags.contains(WaitFlags::WNOHANG) {
-            return self.wait(request);
-        }
-        self.wait_until(rt, request)
+        without_row(self.wait_row_blocking(rt, id, flags))
     }
 
-    /// `waitpid` that tries again while the answer is `StillAlive`; with WNOHANG it tries once. Between two tries it
-    /// sleeps for a millisecond. It may never return.
+    /// `waitpid` that tries again while the answer is `StillAlive`; with WNOHANG it tries once. Between two tries it lets
+    /// other threads run, and sleeps a millisecond after each 256 tries. It may never return.
     pub fn waitpid_blocking<R: Wait + Clock>(
         &mut self,
         rt: &R,
@@ -63,6 +56,41 @@ impl<A: Allocator> Calls<A> {
         let Some(request) = waitpid_request(pid, flags) else {
             return Err(Errno::EINVAL);
         };
+        without_row(self.wait_by(rt, request, flags))
+    }
+
+    /// `wait_row` that tries again while the answer is None; with WNOHANG it tries once. Between two tries it lets other
+    /// threads run, and sleeps a millisecond after each 256 tries. It may never return.
+    pub fn wait_row_blocking<R: Wait + Clock>(
+        &mut self,
+        rt: &R,
+        id: Id,
+        flags: WaitFlags,
+    ) -> Result<Option<RowStatus>, Errno>
+        ensures table { KeepsTable self.old self.new }
+        ensures answer { IsWaitRowAnswer (waitid_request id flags) self.old self.new result }
+        ensures waits { has flags flag.WNOHANG ≡ false → result ≢ Ok None }
+        ensures once { has flags flag.WNOHANG ≡ true →
+            IfSome (waitid_request id flags) (λ request. IsOneTry request self.old.view self.new.view) }
+    {
+        let Some(request) = waitid_request(id, flags) else {
+            return Err(Errno::EINVAL);
+        };
+        self.wait_by(rt, request, flags)
+    }
+
+    /// Tries once with WNOHANG, and without it until there is something to report.
+    fn wait_by<R: Wait + Clock>(
+        &mut self,
+        rt: &R,
+        request: Request,
+        flags: WaitFlags,
+    ) -> Result<Option<RowStatus>, Errno>
+        ensures table { KeepsTable self.old self.new }
+        ensures answer { IsRowAnswer request self.old self.new result }
+        ensures waits { has flags flag.WNOHANG ≡ false → result ≢ Ok None }
+        ensures once { has flags flag.WNOHANG ≡ true → IsOneTry request self.old.view self.new.view }
+    {
         if flags.contains(WaitFlags::WNOHANG) {
             return self.wait(request);
         }
@@ -70,18 +98,23 @@ impl<A: Allocator> Calls<A> {
     }
 
     /// Tries until there is something to report.
-    fn wait_until<R: Wait + Clock>(&mut self, rt: &R, request: Request) -> Result<WaitStatus, Errno>
+    fn wait_until<R: Wait + Clock>(
+        &mut self,
+        rt: &R,
+        request: Request,
+    ) -> Result<Option<RowStatus>, Errno>
         ensures table { KeepsTable self.old self.new }
-        ensures answer { IsAnswer request self.old self.new result }
-        ensures waits { result ≢ Ok StillAlive }
+        ensures answer { IsRowAnswer request self.old self.new result }
+        ensures waits { result ≢ Ok None }
     {
         self.has_seen_legal();
+        let mut patience = Patience::new();
         for _ in rt.forever() {
             let answer = self.wait(request);
-            if !is_still_alive(answer) {
+            if !is_nothing_yet(answer) {
                 return answer;
             }
-            thread::sleep(rt, Duration::from_millis(PAUSE));
+            patience.wait(rt);
         }
         unreachable!()
     }
@@ -94,11 +127,11 @@ impl<A: Allocator> Calls<A> {
     }
 }
 
-fn is_still_alive(answer: Result<WaitStatus, Errno>) -> bool
-    ensures { IsTrue result ↔ (answer ≡ Ok StillAlive) }
+fn is_nothing_yet(answer: Result<Option<RowStatus>, Errno>) -> bool
+    ensures { IsTrue result ↔ (answer ≡ Ok None) }
 {
     match answer {
-        Ok(WaitStatus::StillAlive) => true,
+        Ok(None) => true,
         _ => false,
     }
 }

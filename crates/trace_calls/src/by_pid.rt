@@ -11,7 +11,7 @@ ghost use Rattle.trace_calls.specs.Handle.{KeepsTable};
 
 use crate::calls::Calls;
 use std::alloc::Allocator;
-use trace_options::{Errno, LAST_SIGNAL};
+use trace_options::Errno;
 use trace_pages::Memory;
 use trace_record::{Kind, Resume, StopRecord};
 use trace_regs::Regs;
@@ -23,10 +23,7 @@ impl<A: Allocator> Calls<A> {
         ensures some { IfSome result (λ r. (row : _) × HasClaimed self.now pid row × (r.now ≡ published self.now row)) }
     {
         let row = self.place(pid)?;
-        match &self.held[row] {
-            None => None,
-            Some(claim) => Some(claim.record()),
-        }
+        self.claimed_row(row)
     }
 
     /// The number of the stop in the last wait of this caller that answered this tracee, with WNOWAIT too; for a death
@@ -36,7 +33,7 @@ impl<A: Allocator> Calls<A> {
             (λ n. (row : _) × (row_of_pid self.now.view.roster pid ≡ Some row) × (slice_get self.now.counts row ≡ Some n)) }
     {
         let row = self.place(pid)?;
-        Some(self.counts[row])
+        Some(self.counts[row as usize])
     }
 
     /// The registers of a claimed tracee (ptrace(2), `PTRACE_GETREGS`). ESRCH: this caller has not claimed it.
@@ -112,42 +109,22 @@ impl<A: Allocator> Calls<A> {
         ensures table { KeepsTable self.old self.new }
         ensures answer { IsRestart self.old self.new pid kind signal result }
     {
-        let Some(row) = self.place_claimed(pid) else {
+        let Some(row) = self.place(pid) else {
             return Err(Errno::ESRCH);
         };
         let signal = signal.unwrap_or(0);
-        if signal > LAST_SIGNAL {
-            return Err(Errno::EIO);
-        }
-        let _number = self.tracer.number();
-        let Some(claim) = self.held[row].take() else {
-            unreachable!()
-        };
-        self.tracer.resume(claim, Resume { kind, signal });
-        Ok(())
-    }
-
-    /// The row of a pid that this caller has claimed.
-    fn place_claimed(&self, pid: i32) -> Option<usize>
-        ensures { MatchOption result (HasNotClaimed self.now pid)
-            (λ row. HasClaimed self.now pid row × (row < length self.now.view.roster)) }
-    {
-        let row = self.place(pid)?;
-        match &self.held[row] {
-            None => None,
-            Some(_) => Some(row),
-        }
+        self.restart_row(row, Resume { kind, signal })
     }
 
     /// The row of a pid.
-    fn place(&self, pid: i32) -> Option<usize>
+    fn place(&self, pid: i32) -> Option<u32>
         ensures place { result ≡ row_of_pid self.now.view.roster pid }
         ensures within { IfSome result (λ row. row < length self.now.view.roster) }
     {
         if pid < 0 {
             return None;
         }
-        Some(self.roster.row_of(pid.unsigned_abs())? as usize)
+        self.roster.row_of(pid.unsigned_abs())
     }
 }
 

@@ -3,13 +3,15 @@
 ghost use Rattle.std.specs.Prelude.{◌≡◌, ◌≢◌, [], IfOk, IfSome, MatchResult, None, false, is_some, length, replicate};
 ghost use Rattle.std.specs.List.{list_any};
 ghost use Rattle.stop_table.specs.Tracer.{IsTracerHandle, held_rows};
-ghost use Rattle.trace_calls.specs.Answer.{IsAnswer, IsWaitAnswer};
+ghost use Rattle.trace_calls.specs.Answer.{IsRowAnswer, IsWaitAnswer};
 ghost use Rattle.trace_calls.specs.Handle.{KeepsTable, handle_of, tracer_of};
 ghost use Rattle.trace_calls.specs.Request.{waitid_request, waitpid_request};
 ghost use Rattle.trace_calls.specs.Waiting.{IsOneTry};
 
+use crate::by_row::without_row;
 use crate::id::Id;
-use crate::request::{Request, waitid_request, waitpid_request};
+use crate::request::{Request, waitpid_request};
+use crate::row_status::RowStatus;
 use crate::scan::scan;
 use crate::settle::settle;
 use std::alloc::{AllocError, Allocator, Global};
@@ -114,10 +116,7 @@ impl<A: Allocator> Calls<A> {
         ensures answer { IsWaitAnswer (waitid_request id flags) self.old self.new result }
         ensures once { IfSome (waitid_request id flags) (λ request. IsOneTry request self.old.view self.new.view) }
     {
-        let Some(request) = waitid_request(id, flags) else {
-            return Err(Errno::EINVAL);
-        };
-        self.wait(request)
+        without_row(self.wait_row(id, flags))
     }
 
     /// Reports the first selected tracee that has a stop or a death, and claims it (waitpid(2)): above 0 the one of this
@@ -134,13 +133,13 @@ impl<A: Allocator> Calls<A> {
         let Some(request) = waitpid_request(pid, flags) else {
             return Err(Errno::EINVAL);
         };
-        self.wait(request)
+        without_row(self.wait(request))
     }
 
     /// One try of a wait.
-    pub(crate) fn wait(&mut self, request: Request) -> Result<WaitStatus, Errno>
+    pub(crate) fn wait(&mut self, request: Request) -> Result<Option<RowStatus>, Errno>
         ensures table { KeepsTable self.old self.new }
-        ensures answer { IsAnswer request self.old self.new result }
+        ensures answer { IsRowAnswer request self.old self.new result }
         ensures once { IsOneTry request self.old.view self.new.view }
     {
         let _number = self.tracer.number();

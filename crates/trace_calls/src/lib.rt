@@ -7,6 +7,7 @@
 //!
 //! - Under their plain names the waits do not block: they act as with WNOHANG. The `_blocking` ones try again.
 //! - "No child" for all tracees or for a process group is final: none of them will ever be reported again.
+//! - `wait_row`, `claimed_row` and `restart_row` name a tracee by its row of the roster, and search for no pid.
 //! - No call but `Calls::new` takes memory.
 //!
 //! Which of several tracees is answered when all of them stop at once, and when a blocking wait returns, is not said.
@@ -14,12 +15,17 @@
 
 mod blocking;
 mod by_pid;
+mod by_row;
 mod calls;
 mod id;
+mod patience;
 mod request;
+mod row_status;
 mod scan;
 mod selection;
 mod settle;
 
 pub use calls::Calls;
 pub use id::Id;
+pub use patience::Patience;
+pub use row_status::RowStatus;

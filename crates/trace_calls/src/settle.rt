@@ -4,6 +4,7 @@ ghost use Rattle.std.specs.Prelude.{◌≡◌, ◌<◌, None, Some, length, slic
 ghost use Rattle.trace_calls.specs.Answer.{IsStatusOf};
 ghost use Rattle.trace_calls.specs.Settling.{IsPlaced, IsReportable, Settles};
 
+use crate::row_status::RowStatus;
 use crate::scan::Finding;
 use std::alloc::Allocator;
 use stop_history::Roster;
@@ -18,7 +19,7 @@ pub(crate) fn settle<A: Allocator>(
     roster: &Roster<A>,
     held: &mut Vec<Option<Claim<A>>, A>,
     counts: &mut Vec<u32, A>,
-) -> Result<WaitStatus, Errno>
+) -> Result<Option<RowStatus>, Errno>
     requires placed { IsPlaced roster.now held.old.items found }
     requires held { length held.old.items ≡ length roster.now }
     requires counts { length counts.old.items ≡ length roster.now }
@@ -26,15 +27,24 @@ pub(crate) fn settle<A: Allocator>(
 {
     match found {
         Finding::Stop(claim) => {
-            let row = claim.row();
+            let (row, number) = (claim.row(), claim.record().number);
             let status = report(roster, row, claim.record().status());
-            counts[row as usize] = claim.record().number;
+            counts[row as usize] = number;
             put(held, claim);
-            Ok(status)
+            Ok(Some(RowStatus {
+                row,
+                number,
+                status,
+            }))
         }
         Finding::Ended { row, death, number } => {
             counts[row as usize] = number;
-            Ok(report(roster, row, death.status()))
+            let status = report(roster, row, death.status());
+            Ok(Some(RowStatus {
+                row,
+                number,
+                status,
+            }))
         }
         Finding::Shows {
             row,
@@ -42,9 +52,14 @@ pub(crate) fn settle<A: Allocator>(
             status,
         } => {
             counts[row as usize] = number;
-            Ok(report(roster, row, status))
+            let status = report(roster, row, status);
+            Ok(Some(RowStatus {
+                row,
+                number,
+                status,
+            }))
         }
-        Finding::NothingYet => Ok(WaitStatus::StillAlive),
+        Finding::NothingYet => Ok(None),
         Finding::NoChild => Err(Errno::ECHILD),
     }
 }

@@ -1,6 +1,6 @@
 -- What a scan found is kept and answered.
 use Rattle.std.proofs.Common.{subst}
-use Rattle.trace_calls.specs.Answer.{IsAnswer}
+use Rattle.trace_calls.specs.Answer.{IsRowAnswer}
 use Rattle.trace_calls.specs.Handle.{CallsHandle, handle_of}
 use Rattle.trace_calls.specs.Waiting.{IsOneTry}
 use Rattle.trace_calls.proofs.Settled.{answered, kept, placed}
@@ -22,7 +22,7 @@ invariant_of-self g c =
 pub returns-clause-answer : goal.returns-clause-answer
 returns-clause-answer g c =
     let x = c.self.inside in
-    subst (λ (h : CallsHandle). IsAnswer c.args.request h
+    subst (λ (h : CallsHandle). IsRowAnswer c.args.request h
     (handle_of c.scan-found.new.tracer c.settle.new.counts.items) c.settle.result) c.self.view_is
     (answered c.args.request x.roster x.tracer c.scan-found.new.tracer x.held.items x.counts.items
     c.number-number.ensures.handle c.self.invariant c.settle.new.held.items c.settle.new.counts.items c.settle.result

@@ -10,7 +10,8 @@ const LOOKS: u32 = 256;
 /// How long it sleeps, in milliseconds.
 const PAUSE: u64 = 1;
 
-/// How many looks in a row have found nothing.
+/// How many looks in a row have found nothing. It is for a loop that waits for other threads, as those of the waits that
+/// block: begin with `new`, and call `wait` after each look that found nothing.
 #[derive(Drop)]
 pub struct Patience {
     looks: u32,
@@ -22,7 +23,8 @@ impl Patience {
         Patience { looks: 1 }
     }
 
-    /// Waits after a look that found nothing: it lets other threads run, or sleeps where enough looks have found nothing.
+    /// Waits after a look that found nothing: it lets other threads run, or sleeps a millisecond where 256 looks have
+    /// found nothing since the last sleep. It takes no memory.
     pub fn wait<R: Clock>(&mut self, rt: &R) {
         if self.looks < LOOKS {
             self.looks += 1;

@@ -1,0 +1,65 @@
+-- A claimed row has its claim at its place, which is spent by the restart.
+use Rattle.std.proofs.Common.{◌≡◌, ◌∙◌, ap, false, subst, sym, true}
+use Rattle.trace_record.specs.Content.{Content}
+use Rattle.stop_history.specs.Event as event
+use Rattle.stop_table.specs.Entry.{bare}
+use Rattle.stop_table.specs.Handle.{EndsWith, IsHolding}
+use Rattle.trace_calls.specs.Handle.{CallsHandle}
+use Rattle.trace_calls.proofs.Keeping.{held_number, holding, made_restart, not_claimed, resumed_claims}
+use Rattle.trace_calls.proofs.Keeping.{was_published}
+use Rattle.trace_calls.proofs.calls.Calls.restart_row.Goals as goal
+
+pub unreachable-requires : goal.unreachable-requires
+unreachable-requires g c =
+    let x = c.self.inside in
+    let has = c.in-Some.ensures.some.0 in
+    let none = sym c.take.ensures.value ∙ c.in_default-take.is in
+    let free = not_claimed c.args.self.now x.tracer x.roster x.held.items x.counts.items c.self.view_is c.self.invariant
+    c.args.row c.index_mut.result.now has.0 c.index_mut.ensures.value none in
+    let clash : true ≡ false = sym has.1 ∙ free in cc
+
+pub resume-requires-clause-claim : goal.resume-requires-clause-claim
+resume-requires-clause-claim g c =
+    let x = c.self.inside in
+    let has = c.in-Some.ensures.some.0 in
+    let claim = c.in-Some-take.claim in
+    let holds = holding c.args.self.now x.tracer x.roster x.held.items x.counts.items c.self.view_is c.self.invariant
+    c.args.row c.index_mut.result.now has.0 c.index_mut.ensures.value claim
+    (sym c.take.ensures.value ∙ c.in-Some-take.is) in
+    subst (λ r. IsHolding x.tracer.view r claim.word claim.stop) (sym holds.0) holds.1
+
+pub invariant_of-self : goal.invariant_of-self
+invariant_of-self g c =
+    let x = c.self.inside in
+    let has = c.in-Some.ensures.some.0 in
+    let claim = c.in-Some-take.claim in
+    let holds = holding c.args.self.now x.tracer x.roster x.held.items x.counts.items c.self.view_is c.self.invariant
+    c.args.row c.index_mut.result.now has.0 c.index_mut.ensures.value claim
+    (sym c.take.ensures.value ∙ c.in-Some-take.is) in
+    let made = c.resume.ensures.made in
+    resumed_claims x.tracer c.resume.new.self x.roster x.held.items x.counts.items made.0 c.args.row claim.word.number
+    c.args.how c.take.new.self c.number-number.ensures.handle c.self.invariant
+    (subst (λ r. EndsWith x.tracer.view c.resume.new.self.view made.0
+    (bare (event.Resume r claim.word.number c.args.how x.tracer.view.number))) holds.0 made.1)
+    c.take.ensures.after
+
+pub returns-clause-answer : goal.returns-clause-answer
+returns-clause-answer g c =
+    let x = c.self.inside in
+    let a = c.args.self.now in
+    let has = c.in-Some.ensures.some.0 in
+    let claim = c.in-Some-take.claim in
+    let some = sym c.take.ensures.value ∙ c.in-Some-take.is in
+    let holds = holding a x.tracer x.roster x.held.items x.counts.items c.self.view_is c.self.invariant c.args.row
+    c.index_mut.result.now has.0 c.index_mut.ensures.value claim some in
+    let stop = was_published a x.tracer x.roster x.held.items x.counts.items c.self.view_is c.self.invariant c.args.row
+    c.index_mut.result.now has.0 c.index_mut.ensures.value claim some in (
+      has,
+      made_restart a x.tracer c.resume.new.self x.counts.items c.args.row claim.row claim.word.number c.args.how
+          c.self.view_is holds.0
+          (held_number x.tracer.view c.args.row claim.word claim.stop c.number-number.ensures.handle.legal holds.1
+          ∙ ap (λ (s : Content). s.number) stop)
+          c.resume.ensures.made,
+      c.if-how-gt-LAST_SIGNAL.false,
+      ap (λ (h : CallsHandle). h.counts) c.self.view_is,
+    )

@@ -2,6 +2,7 @@
 
 mod answers;
 mod by_pid;
+mod by_row;
 pub(crate) mod caller;
 mod growth;
 mod small_tracer;

@@ -1,27 +1,23 @@
 -- A worker's thread: what its waits claim, the pieces of it, and its restarts.
 use Rattle.std.proofs.Common.{refl, ◌≡◌, ◌≢◌, ◌+◌, ◌*◌, ◌<◌, ◌≤◌, ◌∷◌, ◌++◌, [], ℕ, zero, suc, Bool, true, false, List, Some}
-use Rattle.std.proofs.Common.{None, ℤ, pos, negsuc, Result, Ok, Err, slice_get, length, inl, inr, ◌∙◌, sym, ap, subst, arith, eq-eqb, ne_eqb, filter}
+use Rattle.std.proofs.Common.{None, Option, Result, Ok, Err, length, inl, inr, ◌∙◌, sym, ap, subst, arith, eq-eqb, ne_eqb, filter}
 use Rattle.std.specs.List.{range_with_len}
-use Rattle.std.specs.Int.{w32}
-use Rattle.std.proofs.Common.{of_z, to_z}
-use Rattle.std.proofs.lemmas.Int.{to_z-of_z}
 use Rattle.std.proofs.lemmas.Bool.{cases_eq}
 use Rattle.std.proofs.lemmas.List.{append_assoc, append-nil}
 use Rattle.record_printer.specs.Piece.{Died, Piece}
 use Rattle.record_printer.specs.declared.show.Show.{Show}
 use Rattle.stop_history.specs.declared.actor.Actor.{Actor}
 use Rattle.stop_history.specs.declared.actor.Actor.TheVariants.{Tracer}
-use Rattle.stop_history.specs.declared.limits.TheConstants.{LAST_ID, LAST_NUMBER}
+use Rattle.stop_history.specs.declared.limits.TheConstants.{LAST_NUMBER}
 use Rattle.stop_history.specs.declared.phase.Phase.TheVariants as phase
 use Rattle.stop_history.specs.declared.roster.Row.{Row}
 use Rattle.stop_history.specs.declared.state.State.TheVariants as state
 use Rattle.stop_history.specs.Actor.{IsQuiet, actor_of}
 use Rattle.stop_history.specs.Event as event
 use Rattle.stop_history.specs.Event.{Event, events_of, subject}
-use Rattle.stop_history.specs.Roster.{IsRoster, row_at, row_of}
+use Rattle.stop_history.specs.Roster.{IsRoster, row_at}
 use Rattle.stop_history.specs.State.{is_born, number_in, state_after, state_in}
 use Rattle.stop_history.specs.Word.{claimed_phase}
-use Rattle.stop_history.proofs.Rosters.{row_of-Some, row_of-tid, tid_in_range}
 use Rattle.stop_history.proofs.States.{state_within}
 use Rattle.stop_table.specs.Entry.{AreLegal, Cell, Entry, GoesOn, bare, cell_after, content_after, history_of}
 use Rattle.stop_table.specs.Handle.{EndsWith, Grows, IsSame, Looked}
@@ -29,14 +25,15 @@ use Rattle.stop_table.specs.Tracer.{IsTracerHandle, held_rows, is_claimed_by, is
 use Rattle.stop_table.specs.View.{View, actors_of, is_among}
 use Rattle.stop_table.proofs.Entries.{cell_from, content_number, own_cell, word_ranged}
 use Rattle.stop_table.proofs.Own.{same_actors}
-use Rattle.stop_table.proofs.Walking.{ends_from, itself, same_trans}
-use Rattle.trace_calls.specs.Answer.{IsStatusAnswer, IsStatusOf, IsWaitAnswer}
-use Rattle.trace_calls.specs.ByPid.{HasClaimed, IsRestart, published, row_of_pid}
+use Rattle.stop_table.proofs.Walking.{itself, same_trans}
+use Rattle.trace_calls.specs.declared.row_status.RowStatus.{RowStatus}
+use Rattle.trace_calls.specs.Answer.{IsWaitRowAnswer}
+use Rattle.trace_calls.specs.ByPid.{published}
+use Rattle.trace_calls.specs.ByRow.{HasClaimedRow, IsRowRestart}
 use Rattle.trace_calls.specs.Handle.{CallsHandle, tracer_of}
 use Rattle.trace_calls.specs.Request.{anyone}
 use Rattle.trace_options.specs.declared.errno.Errno.{Errno}
 use Rattle.trace_options.specs.declared.errno.Errno.TheVariants as errno
-use Rattle.trace_calls.specs.Waiting.{Reports}
 use Rattle.trace_calls.proofs.Keeping.{claim_at, free_row, keeps_beside, keeps_look}
 use Rattle.trace_record.specs.Content.{Content}
 use Rattle.trace_record.specs.Death.{IsDeath, death_status}
@@ -55,14 +52,13 @@ use Rattle.tracer_workers.specs.Config.{plan_of, policy_of, show_of}
 use Rattle.tracer_workers.specs.Driven.{IsRestarted, IsTraced}
 use Rattle.tracer_workers.specs.DrivenBy.{AreDrivenBy}
 use Rattle.tracer_workers.specs.HistoryPieces.{stop_piece}
-use Rattle.tracer_workers.specs.WorkerThread.{AreKept, AreOverForGood, AreServices, HasReaped, HasServed, HasWaited}
-use Rattle.tracer_workers.specs.WorkerThread.{Holds, IsOf, IsService, Restarts, RestartsByPolicy}
+use Rattle.tracer_workers.specs.WorkerThread.{AreKept, AreOverForGood, AreServices, HasServed, HasWaited}
+use Rattle.tracer_workers.specs.WorkerThread.{IsService, Restarts, RestartsByPolicy}
 use Rattle.tracer_workers.specs.WorkerThread.{claimed_piece, death_in, own_pieces, pieces_claimed, pieces_with}
 use Rattle.tracer_workers.specs.declared.config.Config.{Config}
 use Rattle.tracer_workers.proofs.AfterClaim.{not_by_claim}
 use Rattle.tracer_workers.proofs.Claims.{last_stop, mode_in_range}
 use Rattle.tracer_workers.proofs.Fitting.{IsNewestInRange, newest_in_range}
-use Rattle.tracer_workers.proofs.TurnEnds.{get_set_same}
 
 -- ---- the pieces of a tracer's claims
 
@@ -306,19 +302,22 @@ stays_driven config content v w rows same r driven =
 
 -- ---- what a wait has claimed
 
-module _ (v : View) (b : CallsHandle) (s : WaitStatus) (mine : is_among v.number v.tracers ≡ true)
-    (placed : IsRoster v.roster) (none : held_rows v ≡ []) (h : HasWaited v b s) where
+module _ (v : View) (b : CallsHandle) (found : RowStatus) (mine : is_among v.number v.tracers ≡ true)
+    (placed : IsRoster v.roster) (none : held_rows v ≡ []) (h : HasWaited v b.view found) where
   abbrev w : View
   w = b.view
+
+  abbrev s : WaitStatus
+  s = found.status
 
   abbrev before : List Entry
   before = h.claimed.0
 
   abbrev x : Entry
-  x = bare (event.Claim h.row h.number v.number)
+  x = bare (event.Claim found.row found.number v.number)
 
   abbrev es : List Event
-  es = events_of h.row (history_of before)
+  es = events_of found.row (history_of before)
 
   made : EndsWith v w before x
   made = h.claimed.1
@@ -329,20 +328,20 @@ module _ (v : View) (b : CallsHandle) (s : WaitStatus) (mine : is_among v.number
       subst (AreLegal v.roster) made.seen (subst (λ rows. AreLegal rows w.seen) made.same.roster made.legal) in now.1
 
   newest : IsNewestInRange es
-  newest = newest_in_range v.roster before legal h.row
+  newest = newest_in_range v.roster before legal found.row
 
-  state_is : state_after v.roster (history_of before) h.row ≡ state_in (is_born v.roster (history_of before) h.row) es
-  state_is = state_within v.roster (history_of before) h.row h.within
+  state_is : state_after v.roster (history_of before) found.row ≡ state_in (is_born v.roster (history_of before) found.row) es
+  state_is = state_within v.roster (history_of before) found.row h.within
 
   -- a stop is its row's last event
   stop_last : death_in s ≡ None → (row : ℕ) × (at : Stop) × (older : List Event)
-      × (es ≡ event.Publish row h.number at ∷ older) × (stop_status at ≡ h.raw)
+      × (es ≡ event.Publish row found.number at ∷ older) × (stop_status at ≡ h.raw)
   stop_last silent =
       elim h.claimed.2 [
         | inl stopped ↦
-            stopped_last (is_born v.roster (history_of before) h.row) es h.number h.raw (sym state_is ∙ stopped)
+            stopped_last (is_born v.roster (history_of before) found.row) es found.number h.raw (sym state_is ∙ stopped)
         | inr dead ↦
-            (let last = dead_last (is_born v.roster (history_of before) h.row) es h.number h.raw (sym state_is ∙ dead.1) in
+            (let last = dead_last (is_born v.roster (history_of before) found.row) es found.number h.raw (sym state_is ∙ dead.1) in
             let ranged : IsDeath last.1 = subst IsNewestInRange last.3 newest in
             let clash : Some last.1 ≡ None =
             sym (death_reports s last.1 ranged (subst (Encodes s) (sym last.4) h.is_status.1)) ∙ silent in cc)
@@ -350,16 +349,16 @@ module _ (v : View) (b : CallsHandle) (s : WaitStatus) (mine : is_among v.number
 
   -- and so is a death
   death_last : (d : Death) → death_in s ≡ Some d → (row : ℕ) × (older : List Event)
-      × (es ≡ event.Exit row d ∷ older) × (number_in older ≡ h.number)
+      × (es ≡ event.Exit row d ∷ older) × (number_in older ≡ found.number)
   death_last d says =
       elim h.claimed.2 [
         | inl stopped ↦
             (let last =
-            stopped_last (is_born v.roster (history_of before) h.row) es h.number h.raw (sym state_is ∙ stopped) in
+            stopped_last (is_born v.roster (history_of before) found.row) es found.number h.raw (sym state_is ∙ stopped) in
             let clash : Some d ≡ None = sym says ∙ stop_reports s last.1 (subst (Encodes s) (sym last.4) h.is_status.1) in
             cc)
         | inr dead ↦
-            (let last = dead_last (is_born v.roster (history_of before) h.row) es h.number h.raw (sym state_is ∙ dead.1) in
+            (let last = dead_last (is_born v.roster (history_of before) found.row) es found.number h.raw (sym state_is ∙ dead.1) in
             let ranged : IsDeath last.1 = subst IsNewestInRange last.3 newest in
             let is : Some last.1 ≡ Some d =
             sym (death_reports s last.1 ranged (subst (Encodes s) (sym last.4) h.is_status.1)) ∙ says in
@@ -367,63 +366,55 @@ module _ (v : View) (b : CallsHandle) (s : WaitStatus) (mine : is_among v.number
             (last.0, last.2, last.3 ∙ ap (λ y. event.Exit last.0 y ∷ last.2) same, last.5))
       ]
 
-  others : (other : ℕ) → other ≢ h.row → other < length w.roster → is_held w other ≡ false
+  others : (other : ℕ) → other ≢ found.row → other < length w.roster → is_held w other ≡ false
   others other apart within =
       let long = ap length made.same.roster in
       (keeps_beside v w before x mine made other apart).held ∙ free_row v none other (omega arith)
 
-  own : cell_after w.roster w.seen h.row
-      ≡ cell_from (x.event ∷ es) (content_after v.roster before h.row)
+  own : cell_after w.roster w.seen found.row
+      ≡ cell_from (x.event ∷ es) (content_after v.roster before found.row)
   own =
-      (λ i. cell_after (made.same.roster i) (made.seen i) h.row) ∙ own_cell v.roster x before h.row refl
+      (λ i. cell_after (made.same.roster i) (made.seen i) found.row) ∙ own_cell v.roster x before found.row refl
 
-  is_of : (tid : ℕ) → pid_of s ≡ Some tid → IsOf w tid h.row
-  is_of tid says =
-      let is : Some tid ≡ Some (row_at v.roster h.row).tid = sym says ∙ h.is_status.0 in
-      let same : tid ≡ (row_at v.roster h.row).tid = cc in
-      let range = (tid_in_range v.roster placed h.row h.within).1 in
-      record {
-        found = (λ i. row_of (made.same.roster i) (same i)) ∙ row_of-tid v.roster placed h.row h.within;
-        low = omega (arith, same, range);
-      }
-
-  pub holds : (tid : ℕ) → pid_of s ≡ Some tid → death_in s ≡ None → Holds w tid h.row
-  holds tid says silent =
+  pub holds : death_in s ≡ None → HasClaimedRow b found.row
+  holds silent =
       let last = stop_last silent in
-      let claimed : claimed_phase v.number es ≡ phase.Claimed v.number = ap (claimed_phase v.number) last.3 in (
-        is_of tid says,
+      let claimed : claimed_phase v.number es ≡ phase.Claimed v.number = ap (claimed_phase v.number) last.3 in
+      let long = ap length made.same.roster in
+      let there = h.within in (
+        omega (arith, there, long),
         ap (λ (c : Cell). is_claimed_by w.number c.phase) own ∙ ap (is_claimed_by w.number) claimed
             ∙ eq-eqb v.number w.number (sym made.same.number),
       )
 
-  pub has_reaped : (tid : ℕ) → pid_of s ≡ Some tid → (d : Death) → death_in s ≡ Some d → HasReaped b tid h.row h.number
-  has_reaped tid says d dies =
+  pub few : (d : Death) → death_in s ≡ Some d → found.number ≤ LAST_NUMBER
+  few d dies =
       let last = death_last d dies in
-      let word = word_ranged v.roster before placed legal false h.row h.within in
-      let number : number_in es ≡ h.number = ap number_in last.2 ∙ last.3 in
-      let few = word.last in
-      (is_of tid says, h.counted, omega (arith, number, few))
+      let word = word_ranged v.roster before placed legal false found.row h.within in
+      let number : number_in es ≡ found.number = ap number_in last.2 ∙ last.3 in
+      let most = word.last in
+      omega (arith, number, most)
 
   -- the pieces with that of the stop, and with that of the death
   pub stop_kept : (show : Show) → death_in s ≡ None
-      → own_pieces show w ≡ own_pieces show v ++ stop_piece show (published b h.row) ∷ []
+      → own_pieces show w ≡ own_pieces show v ++ stop_piece show (published b found.row) ∷ []
   stop_kept show silent =
       let last = stop_last silent in
-      let content : content_after v.roster before h.row ≡ published b h.row = sym (ap (λ (c : Cell). c.content) own) in
-      pieces_claim show v w before h.row h.number mine made
+      let content : content_after v.roster before found.row ≡ published b found.row = sym (ap (λ (c : Cell). c.content) own) in
+      pieces_claim show v w before found.row found.number mine made
       ∙ ap (λ es. own_pieces show v
-      ++ claimed_piece show (row_at v.roster h.row).tid (content_after v.roster before h.row) es ∷ []) last.3
+      ++ claimed_piece show (row_at v.roster found.row).tid (content_after v.roster before found.row) es ∷ []) last.3
       ∙ ap (λ c. own_pieces show v ++ stop_piece show c ∷ []) content
 
   pub death_kept : (show : Show) (tid : ℕ) → pid_of s ≡ Some tid → (d : Death) → death_in s ≡ Some d
-      → own_pieces show w ≡ own_pieces show v ++ Died tid h.number d ∷ []
+      → own_pieces show w ≡ own_pieces show v ++ Died tid found.number d ∷ []
   death_kept show tid says d dies =
       let last = death_last d dies in
-      let is : Some (row_at v.roster h.row).tid ≡ Some tid = sym h.is_status.0 ∙ says in
-      let same : (row_at v.roster h.row).tid ≡ tid = cc in
-      pieces_claim show v w before h.row h.number mine made
+      let is : Some (row_at v.roster found.row).tid ≡ Some tid = sym h.is_status.0 ∙ says in
+      let same : (row_at v.roster found.row).tid ≡ tid = cc in
+      pieces_claim show v w before found.row found.number mine made
       ∙ ap (λ es. own_pieces show v
-      ++ claimed_piece show (row_at v.roster h.row).tid (content_after v.roster before h.row) es ∷ []) last.2
+      ++ claimed_piece show (row_at v.roster found.row).tid (content_after v.roster before found.row) es ∷ []) last.2
       ∙ (λ i. own_pieces show v ++ Died (same i) (last.3 i) d ∷ [])
 
   -- after the claim of a death no row is held
@@ -431,9 +422,9 @@ module _ (v : View) (b : CallsHandle) (s : WaitStatus) (mine : is_among v.number
   death_free d dies =
       let last = death_last d dies in
       let reaped : claimed_phase v.number es ≡ phase.Reaped = ap (claimed_phase v.number) last.2 in
-      let here : is_held w h.row ≡ false =
+      let here : is_held w found.row ≡ false =
       ap (λ (c : Cell). is_claimed_by w.number c.phase) own ∙ ap (is_claimed_by w.number) reaped in
-      all_free w (λ row within. elim (cases_eq row h.row) [
+      all_free w (λ row within. elim (cases_eq row found.row) [
         | inl same ↦ ap (is_held w) same ∙ here
         | inr apart ↦ others row apart within
       ])
@@ -442,39 +433,39 @@ module _ (v : View) (b : CallsHandle) (s : WaitStatus) (mine : is_among v.number
   claim_restarts config u same r = restarts_end config u v w before x same made tt r
 
   -- nor is one after the restart
-  pub restart_free : (config : Config) (z : View) → Restarts config w z h.row → held_rows z ≡ []
+  pub restart_free : (config : Config) (z : View) → Restarts config w z found.row → held_rows z ≡ []
   restart_free config z r =
-      let y = bare (event.Resume h.row r.1 (policy_of config (content_after w.roster w.seen h.row)) w.number) in
-      let here : is_held z h.row ≡ false =
-      (λ i. is_claimed_by z.number (cell_after (r.2.same.roster i) (r.2.seen i) h.row).phase)
-      ∙ ap (λ (c : Cell). is_claimed_by z.number c.phase) (own_cell w.roster y r.0 h.row refl) in
+      let y = bare (event.Resume found.row r.1 (policy_of config (content_after w.roster w.seen found.row)) w.number) in
+      let here : is_held z found.row ≡ false =
+      (λ i. is_claimed_by z.number (cell_after (r.2.same.roster i) (r.2.seen i) found.row).phase)
+      ∙ ap (λ (c : Cell). is_claimed_by z.number c.phase) (own_cell w.roster y r.0 found.row refl) in
       let mine_now : is_among w.number w.tracers ≡ true =
       (λ i. is_among (made.same.number i) (made.same.tracers i)) ∙ mine in
-      all_free z (λ row within. elim (cases_eq row h.row) [
+      all_free z (λ row within. elim (cases_eq row found.row) [
         | inl same ↦ ap (is_held z) same ∙ here
         | inr apart ↦
             (let long = ap length r.2.same.roster in
             (keeps_beside w z r.0 y mine_now r.2 row apart).held ∙ others row apart (omega arith))
       ])
 
-  restart_restarts : (config : Config) (u z : View) → IsSame u w → is_held w h.row ≡ true → Restarts config w z h.row
+  restart_restarts : (config : Config) (u z : View) → IsSame u w → is_held w found.row ≡ true → Restarts config w z found.row
       → RestartsByPolicy config u w → RestartsByPolicy config u z
   restart_restarts config u z same held r before =
-      let y = bare (event.Resume h.row r.1 (policy_of config (content_after w.roster w.seen h.row)) w.number) in
+      let y = bare (event.Resume found.row r.1 (policy_of config (content_after w.roster w.seen found.row)) w.number) in
       let mine_now : is_among w.number w.tracers ≡ true =
       (λ i. is_among (made.same.number i) (made.same.tracers i)) ∙ mine in
       let now : AreLegal w.roster (y ∷ r.0) =
       subst (AreLegal w.roster) r.2.seen (subst (λ roster. AreLegal roster z.seen) r.2.same.roster r.2.legal) in
-      let cell = (claim_at w r.0 mine_now now.1 r.2.goes_on h.row).1 held in
-      let stays : content_after w.roster w.seen h.row ≡ content_after u.roster r.0 h.row =
-      sym (ap (λ (c : Cell). c.content) cell) ∙ ap (λ roster. content_after roster r.0 h.row) same.roster in
+      let cell = (claim_at w r.0 mine_now now.1 r.2.goes_on found.row).1 held in
+      let stays : content_after w.roster w.seen found.row ≡ content_after u.roster r.0 found.row =
+      sym (ap (λ (c : Cell). c.content) cell) ∙ ap (λ roster. content_after roster r.0 found.row) same.roster in
       restarts_end config u w z r.0 y same r.2 (ap (policy_of config) stays) before
 
   -- what was served is more
   module _ (config : Config) (u : View) (kept more : List Piece) (short later : Bool)
       (served : HasServed config u v kept short) where
     pub served_death : (tid : ℕ) → pid_of s ≡ Some tid → (d : Death) → death_in s ≡ Some d
-        → AreKept (own_pieces (show_of config) u) (own_pieces (show_of config) v ++ Died tid h.number d ∷ []) more later
+        → AreKept (own_pieces (show_of config) u) (own_pieces (show_of config) v ++ Died tid found.number d ∷ []) more later
         → HasServed config u w more later
     served_death tid says d dies k = record {
       same = same_trans u v w served.same made.same;
@@ -484,22 +475,22 @@ module _ (v : View) (b : CallsHandle) (s : WaitStatus) (mine : is_among v.number
       restarts = claim_restarts config u served.same served.restarts;
     }
 
-    pub served_stop : (tid : ℕ) → pid_of s ≡ Some tid → death_in s ≡ None → (z : View) → Restarts config w z h.row
+    pub served_stop : death_in s ≡ None → (z : View) → Restarts config w z found.row
         → AreKept (own_pieces (show_of config) u)
-        (own_pieces (show_of config) v ++ stop_piece (show_of config) (published b h.row) ∷ []) more later
+        (own_pieces (show_of config) v ++ stop_piece (show_of config) (published b found.row) ∷ []) more later
         → HasServed config u z more later
-    served_stop tid says silent z r k =
+    served_stop silent z r k =
         let mine_now : is_among w.number w.tracers ≡ true =
         (λ i. is_among (made.same.number i) (made.same.tracers i)) ∙ mine in
         let all =
-        pieces_resume (show_of config) w z r.0 h.row r.1
-        (policy_of config (content_after w.roster w.seen h.row)) mine_now r.2
+        pieces_resume (show_of config) w z r.0 found.row r.1
+        (policy_of config (content_after w.roster w.seen found.row)) mine_now r.2
         ∙ stop_kept (show_of config) silent in
         record {
           same = same_trans u w z (same_trans u v w served.same made.same) r.2.same;
           free = restart_free config z r;
           pieces = subst (λ all. AreKept (own_pieces (show_of config) u) all more later) (sym all) k;
-          restarts = restart_restarts config u z (same_trans u v w served.same made.same) (holds tid says silent).1 r
+          restarts = restart_restarts config u z (same_trans u v w served.same made.same) (holds silent).1 r
               (claim_restarts config u served.same served.restarts);
         }
 
@@ -517,32 +508,13 @@ tracer_on a b is same legal =
       legal = legal;
     }
 
--- the row of a pid that is claimed
-claimed_within : (rows : List Row) (pid : ℤ) (row : ℕ) → row_of_pid rows pid ≡ Some row → row < length rows
-claimed_within rows (pos tid) row is = (row_of-Some rows tid row is).0
-claimed_within rows (negsuc n) row is = cc
-
-pub claimed_few : (a : CallsHandle) → IsTracerHandle (tracer_of a) → (pid : ℤ) (row : ℕ) → HasClaimed a pid row
+pub claimed_few : (a : CallsHandle) → IsTracerHandle (tracer_of a) → (row : ℕ) → HasClaimedRow a row
     → (published a row).number ≤ LAST_NUMBER
-claimed_few a is pid row has =
-    let word =
-    word_ranged a.view.roster a.view.seen is.placed is.legal false row (claimed_within a.view.roster pid row has.0) in
+claimed_few a is row has =
+    let word = word_ranged a.view.roster a.view.seen is.placed is.legal false row has.0 in
     let number = (content_number a.view.roster a.view.seen is.legal row).0 in
     let few = word.last in
     omega (arith, number, few)
-
--- a thread id is passed on as a pid
-pub passed_on : (z : ℤ) (tid : ℕ) → z ≡ pos tid → tid ≤ LAST_ID → to_z w32 (of_z w32 z) ≡ pos tid
-passed_on z tid is low =
-    ap (λ y. to_z w32 (of_z w32 y)) is ∙ to_z-of_z w32 (pos tid) (omega (arith, low))
-
--- there is one row of a pid
-pub same_row : (a : CallsHandle) (tid row other : ℕ) → HasClaimed a (pos tid) other → Holds a.view tid row → other ≡ row
-same_row a tid row other has holds =
-    let is : Some other ≡ Some row = sym has.0 ∙ holds.0.found in cc
-
-pub is_claimed : (a : CallsHandle) (tid row : ℕ) → Holds a.view tid row → HasClaimed a (pos tid) row
-is_claimed a tid row holds = (holds.0.found, holds.1)
 
 -- ---- restarts
 
@@ -551,20 +523,20 @@ pub restart_ranged : (config : Config) (a : CallsHandle) → IsTracerHandle (tra
 restart_ranged config a is row =
     mode_in_range config.seccomp config.shown (published a row) (last_stop a.view.roster a.view.seen is.legal row)
 
-pub not_refused : (a z : CallsHandle) (pid : ℤ) (row : ℕ) (how : Restart) (e : Errno) → HasClaimed a pid row → IsResume how
-    → IsRestart a z pid how.kind (Some how.signal) (Err e) → ⊥
-not_refused a z pid row how errno.ESRCH has ranged is =
-    let clash : true ≡ false = sym has.1 ∙ is.0 row has.0 in cc
-not_refused a z pid row how errno.EIO has ranged is = let big = is.1 in omega (arith, ranged, big)
-not_refused a z pid row how errno.EINVAL has ranged is = is
-not_refused a z pid row how errno.ECHILD has ranged is = is
+pub not_refused : (a z : CallsHandle) (row : ℕ) (how : Restart) (e : Errno) → HasClaimedRow a row → IsResume how
+    → IsRowRestart a z row how (Err e) → ⊥
+not_refused a z row how errno.ESRCH has ranged is =
+    let clash : true ≡ false = sym has.1 ∙ is.0 has.0 in cc
+not_refused a z row how errno.EIO has ranged is = let big = is.1 in omega (arith, ranged, big)
+not_refused a z row how errno.EINVAL has ranged is = is
+not_refused a z row how errno.ECHILD has ranged is = is
 
 -- ---- waits
 
-pub no_child : (a b : CallsHandle) (r : Result WaitStatus Errno) → ((s : WaitStatus) → r ≡ Ok s → ⊥)
-    → IsWaitAnswer (Some anyone) a b r
+pub no_child : (a b : CallsHandle) (r : Result (Option RowStatus) Errno) → ((found : Option RowStatus) → r ≡ Ok found → ⊥)
+    → IsWaitRowAnswer (Some anyone) a b r
     → Looked a.view b.view × AreOverForGood b.view.roster b.view.seen
-no_child a b (Ok s) other is = absurd (other s refl)
+no_child a b (Ok found) other is = absurd (other found refl)
 no_child a b (Err errno.ECHILD) other is = (
   is.0.looked,
   subst (λ rows. AreOverForGood rows b.view.seen) (sym is.0.looked.grows.same.roster)
@@ -574,44 +546,15 @@ no_child a b (Err errno.EINVAL) other is = absurd is
 no_child a b (Err errno.ESRCH) other is = absurd is
 no_child a b (Err errno.EIO) other is = absurd is
 
-pub waited : (a b : CallsHandle) (s : WaitStatus) (tid : ℕ) → pid_of s ≡ Some tid
-    → IsWaitAnswer (Some anyone) a b (Ok s) → HasWaited a.view b s
-waited a b s tid says is =
-    let row = subst (λ p. IsStatusAnswer anyone a b s p) says is in
+pub waited : (a b : CallsHandle) (r : Result (Option RowStatus) Errno) (o : Option RowStatus) (found : RowStatus)
+    → r ≡ Ok o → o ≡ Some found → IsWaitRowAnswer (Some anyone) a b r → HasWaited a.view b.view found
+waited a b r o found ok some answer =
+    let is = subst (IsWaitRowAnswer (Some anyone) a b) (ok ∙ ap Ok some) answer in
     record {
-      row = row.row;
-      number = row.number;
-      raw = row.raw;
-      within = row.found.0.selected.0;
-      claimed = row.found.1;
-      is_status = row.is_status;
-      counted = λ n there.
-          get_set_same a.counts row.row row.number n (subst (λ counts. slice_get counts row.row ≡ Some n) row.counts there);
-    }
-
--- a wait that only looked
-pub still_waits : (a b : CallsHandle) (s : WaitStatus) → pid_of s ≡ None
-    → IsWaitAnswer (Some anyone) a b (Ok s) → Looked a.view b.view
-still_waits a b s says is = (subst (λ p. IsStatusAnswer anyone a b s p) says is).0.looked
-
--- the looks before belong to the wait
-pub waited_from : (u v : View) (b : CallsHandle) (s : WaitStatus) → Looked u v → HasWaited v b s → HasWaited u b s
-waited_from u v b s looked h =
-    let same = looked.grows.same in
-    let before = h.claimed.0 in
-    record {
-      row = h.row;
-      number = h.number;
-      raw = h.raw;
-      within = subst (λ rows. h.row < length rows) same.roster h.within;
-      claimed = (
-        before,
-        subst (λ n. EndsWith u b.view before (bare (event.Claim h.row h.number n))) same.number
-            (ends_from u v b.view before (bare (event.Claim h.row h.number v.number)) looked h.claimed.1),
-        subst (λ rows. Reports true h.number h.raw (state_after rows (history_of before) h.row)) same.roster h.claimed.2,
-      );
-      is_status = subst (λ rows. IsStatusOf rows h.row h.raw s) same.roster h.is_status;
-      counted = h.counted;
+      raw = is.raw;
+      within = is.is_found.0.selected.0;
+      claimed = is.is_found.1;
+      is_status = is.is_status;
     }
 
 -- ---- a worker's loop

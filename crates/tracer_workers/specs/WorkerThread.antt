@@ -1,24 +1,23 @@
 -- A worker's thread: it waits for stops and deaths, keeps the piece of each, and restarts by the policy what it has claimed
 -- (waitid(2); ptrace(2), "Restarting"; strace(1)).
-use Rattle.std.specs.Prelude.{◌≡◌, ◌==◌, ◌<◌, ◌≤◌, ◌∷◌, ◌++◌, [], ℕ, Bool, true, false, List, Option, Some, None, length}
-use Rattle.std.specs.Prelude.{if◌then◌else◌, slice_get}
+use Rattle.std.specs.Prelude.{◌≡◌, ◌==◌, ◌<◌, ◌∷◌, ◌++◌, [], ℕ, Bool, true, false, List, Option, Some, None, length}
+use Rattle.std.specs.Prelude.{if◌then◌else◌}
 use Rattle.record_printer.specs.Piece.{Died, Piece}
 use Rattle.record_printer.specs.declared.show.Show.{Show}
 use Rattle.stop_history.specs.Actor.{actor_of}
 use Rattle.stop_history.specs.declared.actor.Actor.{Actor}
-use Rattle.stop_history.specs.declared.limits.TheConstants.{LAST_ID, LAST_NUMBER}
 use Rattle.stop_history.specs.declared.roster.Row.{Row}
 use Rattle.stop_history.specs.Event as event
 use Rattle.stop_history.specs.Event.{Event, events_of}
-use Rattle.stop_history.specs.Roster.{row_at, row_of}
+use Rattle.stop_history.specs.Roster.{row_at}
 use Rattle.stop_history.specs.State.{number_in, state_after}
 use Rattle.stop_history.specs.Over.{is_gone}
 use Rattle.stop_table.specs.Entry.{AreLegal, Entry, bare, content_after, history_of}
 use Rattle.stop_table.specs.Handle.{EndsWith, IsSame}
-use Rattle.stop_table.specs.Tracer.{held_rows, is_held}
+use Rattle.stop_table.specs.Tracer.{held_rows}
 use Rattle.stop_table.specs.View.{View, actors_of}
 use Rattle.trace_calls.specs.Answer.{IsStatusOf}
-use Rattle.trace_calls.specs.Handle.{CallsHandle}
+use Rattle.trace_calls.specs.declared.row_status.RowStatus.{RowStatus}
 use Rattle.trace_calls.specs.Waiting.{Claimed}
 use Rattle.trace_record.specs.Content.{Content}
 use Rattle.trace_record.specs.declared.death.Death.{Death}
@@ -96,34 +95,17 @@ pub record HasServed (config : Config) (v w : View) (kept : List Piece) (short :
   pub restarts : RestartsByPolicy config v w
 
 -- a wait for any tracee has claimed a row's stop, or its death
-pub record HasWaited (v : View) (b : CallsHandle) (status : WaitStatus) : Type 0 where
-  pub row : ℕ
-  pub number : ℕ
+pub record HasWaited (v w : View) (found : RowStatus) : Type 0 where
   pub raw : ℕ
-  pub within : row < length v.roster
-  pub claimed : Claimed true v b.view row number raw
-  pub is_status : IsStatusOf v.roster row raw status
-  pub counted : (n : ℕ) → slice_get b.counts row ≡ Some n → n ≡ number
+  pub within : found.row < length v.roster
+  pub claimed : Claimed true v w found.row found.number raw
+  pub is_status : IsStatusOf v.roster found.row raw found.status
 
 -- the death that a status reports, if it reports one
 abbrev pub death_in : WaitStatus → Option Death
 death_in (status.Exited pid code) = Some (death.Exited code)
 death_in (status.Signaled pid signal core) = Some (death.Signaled signal core)
 death_in other = None
-
--- the tracee of this thread id is the row's
-pub record IsOf (v : View) (tid row : ℕ) : Type 0 where
-  pub found : row_of v.roster tid ≡ Some row
-  pub low : tid ≤ LAST_ID
-
--- its stop is claimed
-abbrev pub Holds : View → (tid row : ℕ) → Type 0
-Holds v tid row = IsOf v tid row × (is_held v row ≡ true)
-
--- its death was claimed; `number` is that of its last stop
-abbrev pub HasReaped : CallsHandle → (tid row number : ℕ) → Type 0
-HasReaped a tid row number =
-    IsOf a.view tid row × ((n : ℕ) → slice_get a.counts row ≡ Some n → n ≡ number) × (number ≤ LAST_NUMBER)
 
 -- the row was restarted by the policy
 abbrev pub Restarts : Config → View → View → ℕ → Type 0

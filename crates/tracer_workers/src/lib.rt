@@ -8,7 +8,6 @@ mod gathering;
 mod laws;
 mod machine;
 mod one_thread;
-mod patience;
 mod run_error;
 mod scheduled;
 mod thread_laws;

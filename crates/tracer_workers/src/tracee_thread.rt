@@ -15,11 +15,11 @@ ghost use Rattle.tracer_workers.specs.TraceeThread.{HasLooked, HasTaken, IsDue, 
 ghost use Rattle.tracer_workers.specs.TraceeThread.{IsToStart};
 
 use crate::fault::FAULT_DEATH;
-use crate::patience::Patience;
 use std::alloc::Allocator;
 use std::sync::Wait;
 use std::time::Clock;
 use stop_table::{GroupAlive, Start, Tracee};
+use trace_calls::Patience;
 use trace_record::{Death, Resume, StopRecord};
 use trace_script::{Machine, Next};
 

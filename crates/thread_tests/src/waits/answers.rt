@@ -140,7 +140,7 @@ fn fork<A: Allocator + Copy>(cast: &mut Cast<A>, alloc: A) -> Result<(), Fail> {
 }
 
 /// The calls over a parent at its fork and its child at `Stop::Start`.
-fn over_a_fork<A: Allocator + Copy>(alloc: A) -> Result<Calls<A>, Fail> {
+pub(crate) fn over_a_fork<A: Allocator + Copy>(alloc: A) -> Result<Calls<A>, Fail> {
     let rows = [row(100, 100, 77, 0), row(101, 101, 77, 100)];
     let mut cast = open_for(alloc, &rows, 1)?;
     fork(&mut cast, alloc)?;
@@ -160,7 +160,7 @@ fn a_parent_comes_before_its_child(rt: HostRuntime) -> Result<(), Fail> {
 }
 
 /// The calls over a root that exited with code 3.
-fn over_a_death<A: Allocator + Copy>(alloc: A) -> Result<Calls<A>, Fail> {
+pub(crate) fn over_a_death<A: Allocator + Copy>(alloc: A) -> Result<Calls<A>, Fail> {
     let (root, waiter) = root_and_waiter(alloc)?;
     if !root.ends(3) {
         return Err(Fail::new("a root that is alone in its group ends"));

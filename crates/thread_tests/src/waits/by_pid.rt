@@ -79,7 +79,7 @@ fn what_is_claimed_is_resumed(rt: HostRuntime) -> Result<(), Fail> {
 }
 
 /// The restart by which a row runs on.
-fn restart_of<A: Allocator>(tracee: AtRest<A>) -> Option<(Kind, u8)> {
+pub(crate) fn restart_of<A: Allocator>(tracee: AtRest<A>) -> Option<(Kind, u8)> {
     let running = tracee.take_up().ok()?;
     Some((running.how.kind, running.how.signal))
 }

@@ -23,7 +23,7 @@ const TRACEES: usize = 20;
 /// How many threads wait for them.
 const WAITERS: usize = 8;
 
-fn publish_start(tracee: AtRest) -> bool {
+pub(crate) fn publish_start(tracee: AtRest) -> bool {
     match tracee.take_up() {
         Ok(running) => running.publish(Stop::Start, 0).is_some(),
         Err(_) => false,

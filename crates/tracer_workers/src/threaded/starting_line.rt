@@ -1,9 +1,9 @@
 //! What the threads of a run wait behind: none begins before all are started and have what they need.
 
-use crate::patience::Patience;
 use std::sync::Wait;
 use std::sync::atomic::{AtomicU64, Ordering};
 use std::time::Clock;
+use trace_calls::Patience;
 
 /// What the threads are told. It is told once, by the starter alone.
 const NOTHING: u64 = 0;

@@ -8,5 +8,5 @@ use Rattle.tracer_workers.proofs.worker_thread.Worked.keep_stop.Goals as goal
 pub piece_of-requires : goal.piece_of-requires
 piece_of-requires g c =
     let s = c.in-Some.ensures.some in
-    subst (λ (x : Content). x.number ≤ LAST_NUMBER) (sym s.2)
-    (claimed_few c.args.calls.now c.number-number.ensures.handle _ s.0 s.1)
+    subst (λ (x : Content). x.number ≤ LAST_NUMBER) (sym s.1)
+    (claimed_few c.args.calls.now c.number-number.ensures.handle c.args.row s.0)

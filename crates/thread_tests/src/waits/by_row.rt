@@ -1,0 +1,154 @@
+//! Waits and calls by row.
+
+use crate::waits::answers::{over_a_death, over_a_fork, started};
+use crate::waits::by_pid::restart_of;
+use crate::waits::caller::{
+    Waiter, both, end, over_running_root, root_and_waiter, with_stopped_root,
+};
+use crate::waits::threads::publish_start;
+use std::alloc::{Allocator, Global};
+use std::sync::Wait;
+use std::test::Fail;
+use std::thread;
+use std::time::Clock;
+use trace_calls::{Calls, Id, RowStatus};
+use trace_options::{Errno, WaitFlags};
+use trace_record::{Kind, Resume, Stop};
+use trace_status::WaitStatus;
+
+/// The report of this row at `Stop::Start`, which is its first stop.
+fn start_of(row: u32, pid: u32) -> Result<Option<RowStatus>, Errno> {
+    started(pid).map(|status| {
+        Some(RowStatus {
+            row,
+            number: 1,
+            status,
+        })
+    })
+}
+
+/// The restart by `PTRACE_CONT` with this signal.
+fn cont(signal: u8) -> Resume {
+    Resume {
+        kind: Kind::Cont,
+        signal,
+    }
+}
+
+/// The thread id and the number of the stop that is claimed, for each of three rows.
+fn claims<A: Allocator>(calls: &Calls<A>) -> [Option<(u32, u32)>; 3] {
+    [0, 1, 2].map(|row| {
+        calls
+            .claimed_row(row)
+            .map(|record| (record.tid, record.number))
+    })
+}
+
+/// What restarts of rows answer, one after the other.
+fn restarts<A: Allocator>(calls: &mut Calls<A>, rows: [(u32, u8); 5]) -> [Result<(), Errno>; 5] {
+    rows.map(|(row, signal)| calls.restart_row(row, cont(signal)))
+}
+
+#[test]
+fn a_wait_by_row_reports_the_row_and_claims_it(rt: HostRuntime) -> Result<(), Fail> {
+    // Row 0 is the parent, 100, at its fork; row 1 its child, 101, at its start.
+    let mut calls = over_a_fork(rt.alloc())?;
+    let stops = WaitFlags::WSTOPPED;
+    assert_eq!(rt; calls.wait_row(Id::Pid(101), stops), start_of(1, 101));
+    assert_eq!(rt; calls.count(101), Some(1));
+    let held = claims(&calls);
+    assert_eq!(rt; held, [None, Some((101, 1)), None]);
+    assert_eq!(rt; calls.wait_row(Id::Pid(101), stops), Ok(None));
+    let _tracer = end(&rt, calls, &[101]);
+    Ok(())
+}
+
+#[test]
+fn a_row_that_is_not_claimed_is_not_restarted(rt: HostRuntime) -> Result<(), Fail> {
+    let mut calls = over_a_fork(rt.alloc())?;
+    let found = calls.wait_row(Id::Pid(101), WaitFlags::WSTOPPED);
+    assert_eq!(rt; found, start_of(1, 101));
+    // Row 0 is not claimed, there is no row 2, and a signal of 65 is none.
+    let answers = restarts(&mut calls, [(0, 0), (2, 65), (1, 65), (1, 64), (1, 0)]);
+    let (esrch, eio) = (Err(Errno::ESRCH), Err(Errno::EIO));
+    assert_eq!(rt; answers, [esrch, esrch, eio, Ok(()), esrch]);
+    let _tracer = end(&rt, calls, &[]);
+    Ok(())
+}
+
+#[test]
+fn a_row_runs_on_by_the_restart_that_was_asked_for(rt: HostRuntime) -> Result<(), Fail> {
+    let (root, mut calls) = with_stopped_root(rt.alloc(), Stop::Start)?;
+    let found = calls.wait_row(Id::All, WaitFlags::WSTOPPED);
+    assert_eq!(rt; found, start_of(0, 100));
+    let how = Resume {
+        kind: Kind::Syscall,
+        signal: 10,
+    };
+    assert_eq!(rt; calls.restart_row(0, how), Ok(()));
+    assert_eq!(rt; restart_of(root), Some((Kind::Syscall, 10)));
+    let _tracer = end(&rt, calls, &[]);
+    Ok(())
+}
+
+#[test]
+fn a_death_is_reported_with_its_row(rt: HostRuntime) -> Result<(), Fail> {
+    let mut calls = over_a_death(rt.alloc())?;
+    // The root has made no stop.
+    let died = Ok(Some(RowStatus {
+        row: 0,
+        number: 0,
+        status: WaitStatus::Exited(100, 3),
+    }));
+    let peek = both(WaitFlags::WEXITED, WaitFlags::WNOWAIT);
+    assert_eq!(rt;
+        calls.wait_row(Id::All, WaitFlags::WNOHANG),
+        Err(Errno::EINVAL)
+    );
+    assert_eq!(rt; calls.wait_row(Id::All, peek), died);
+    assert_eq!(rt; calls.wait_row(Id::All, WaitFlags::WEXITED), died);
+    let held = claims(&calls);
+    assert_eq!(rt; held, [None; 3]);
+    assert_eq!(rt;
+        calls.wait_row(Id::All, WaitFlags::WEXITED),
+        Err(Errno::ECHILD)
+    );
+    let _tracer = end(&rt, calls, &[]);
+    Ok(())
+}
+
+#[test]
+fn with_wnohang_a_blocking_wait_by_row_answers_at_once(rt: HostRuntime) -> Result<(), Fail> {
+    let mut calls = over_running_root(rt.alloc())?;
+    let flags = both(WaitFlags::WEXITED, WaitFlags::WNOHANG);
+    // The root runs, and nothing will ever be reported of it.
+    assert_eq!(rt; calls.wait_row_blocking(&rt, Id::All, flags), Ok(None));
+    let _tracer = end(&rt, calls, &[]);
+    Ok(())
+}
+
+/// What a blocking wait by row answers; None where there was no memory.
+fn wait_for_a_row<R: Wait + Clock>(
+    rt: &R,
+    waiter: Waiter,
+    alloc: Global,
+) -> Option<Result<Option<RowStatus>, Errno>> {
+    let mut calls = waiter.calls(alloc)?;
+    let answer = calls.wait_row_blocking(rt, Id::All, WaitFlags::WSTOPPED);
+    let _tracer = end(rt, calls, &[100]);
+    Some(answer)
+}
+
+#[test]
+fn a_blocking_wait_by_row_sees_a_stop_that_comes_later(rt: HostRuntime) -> Result<(), Fail> {
+    let alloc = rt.alloc();
+    let (root, waiter) = root_and_waiter(alloc)?;
+    let (answer, published) = thread::join(
+        &rt,
+        || wait_for_a_row(&rt, waiter, alloc),
+        || publish_start(root),
+    );
+    assert!(rt; published, "a root runs");
+    assert_eq!(rt; answer, Some(start_of(0, 100)));
+    Ok(())
+}

@@ -1,6 +1,6 @@
 -- The claims that are kept, as the history goes on.
 use Rattle.std.proofs.Common.{refl, ◌≡◌, ◌≢◌, ◌<◌, ◌++◌, [], ℕ, Bool, true, false, List, length}
-use Rattle.std.proofs.Common.{get_or, set, IfNone}
+use Rattle.std.proofs.Common.{get_or, set}
 use Rattle.std.proofs.Common.{Option, Some, None, replicate, ◌∙◌, sym, ap, inl, inr, arith, subst, eq-eqb, is_some}
 use Rattle.std.specs.List.{list_any}
 use Rattle.std.proofs.lemmas.Bool.{cases_Bool}
@@ -242,7 +242,3 @@ made_restart a t t' counts row at number how same here is made = (
       (subst (λ (h : CallsHandle). EndsWith h.view t'.view made.0 (bare (event.Resume at number how h.view.number))) same
       made.1)),
 )
-
-pub if_none : {T : Type 0} (r : Option T) (P : Type 0) → P → IfNone r P
-if_none None P p = p
-if_none (Some x) P p = tt

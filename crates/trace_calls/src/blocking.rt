@@ -22,8 +22,8 @@ use trace_options::{Errno, WaitFlags};
 use trace_status::WaitStatus;
 
 impl<A: Allocator> Calls<A> {
-    /// `waitid` that tries again while the answer is `StillAlive`; with WNOHANG it tries once. Between two tries it lets
-    /// other threads run, and sleeps a millisecond after each 256 tries. It may never return.
+    /// `waitid` that tries again while the answer is `StillAlive`; with WNOHANG it tries once. Between two tries it
+    /// lets other threads run, and after each 256 tries it sleeps a millisecond. It may never return.
     pub fn waitid_blocking<R: Wait + Clock>(
         &mut self,
         rt: &R,
@@ -39,8 +39,8 @@ impl<A: Allocator> Calls<A> {
         without_row(self.wait_row_blocking(rt, id, flags))
     }
 
-    /// `waitpid` that tries again while the answer is `StillAlive`; with WNOHANG it tries once. Between two tries it lets
-    /// other threads run, and sleeps a millisecond after each 256 tries. It may never return.
+    /// `waitpid` that tries again while the answer is `StillAlive`; with WNOHANG it tries once. Between two tries it
+    /// lets other threads run, and after each 256 tries it sleeps a millisecond. It may never return.
     pub fn waitpid_blocking<R: Wait + Clock>(
         &mut self,
         rt: &R,
@@ -59,8 +59,8 @@ impl<A: Allocator> Calls<A> {
         without_row(self.wait_by(rt, request, flags))
     }
 
-    /// `wait_row` that tries again while the answer is None; with WNOHANG it tries once. Between two tries it lets other
-    /// threads run, and sleeps a millisecond after each 256 tries. It may never return.
+    /// `wait_row` that tries again while the answer is None; with WNOHANG it tries once. Between two tries it lets
+    /// other threads run, and after each 256 tries it sleeps a millisecond. It may never return.
     pub fn wait_row_blocking<R: Wait + Clock>(
         &mut self,
         rt: &R,

@@ -30,7 +30,8 @@ impl<A: Allocator> Calls<A> {
         self.wait(request)
     }
 
-    /// `claimed` by row: the record of the stop that this caller has claimed of a row, until it resumes it.
+    /// `claimed` by row: the record of the stop that this caller has claimed of a row, until it resumes it. None also
+    /// where there is no such row.
     pub fn claimed_row(&self, row: u32) -> Option<&StopRecord<A>>
         ensures none { IfNone result (HasNotClaimedRow self.now row) }
         ensures some { IfSome result (λ r. HasClaimedRow self.now row × (r.now ≡ published self.now row)) }
@@ -44,8 +45,8 @@ impl<A: Allocator> Calls<A> {
         }
     }
 
-    /// `syscall` or `cont` by row: lets a claimed row run on. ESRCH: this caller has not claimed it. EIO: a signal above
-    /// 64.
+    /// `syscall` or `cont` by row: lets a claimed row run on. ESRCH: this caller has not claimed it, or there is no
+    /// such row. EIO: a signal above 64.
     pub fn restart_row(&mut self, row: u32, how: Resume) -> Result<(), Errno>
         ensures table { KeepsTable self.old self.new }
         ensures answer { IsRowRestart self.old self.new row how result }

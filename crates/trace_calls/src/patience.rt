@@ -3,14 +3,14 @@
 use std::thread;
 use std::time::{Clock, Duration};
 
-/// How many looks find nothing before a thread sleeps. With 64 a lone tracee and its worker sleep at one stop in 20, with
-/// this number at one in 200; more looks cost processor time where a thread waits for long.
+/// How many looks find nothing before a thread sleeps. With 64 a lone tracee and its worker sleep at one stop in 20,
+/// with this number at one in 200; more looks cost processor time where a thread waits for long.
 const LOOKS: u32 = 256;
 
 /// How long it sleeps, in milliseconds.
 const PAUSE: u64 = 1;
 
-/// How many looks in a row have found nothing. It is for a loop that waits for other threads, as those of the waits that
+/// How many looks in a row have found nothing. It is for a loop that waits for other threads, as that of the waits that
 /// block: begin with `new`, and call `wait` after each look that found nothing.
 #[derive(Drop)]
 pub struct Patience {

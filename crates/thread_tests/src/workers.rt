@@ -2,6 +2,8 @@
 
 mod cases;
 mod config;
+mod counting;
+mod family;
 mod gate;
 mod gathering;
 mod growth;
@@ -10,6 +12,7 @@ mod overlap;
 mod party;
 mod run_error;
 mod scheduled;
+mod start_word;
 mod starting_line;
 mod stress;
 mod threaded;

@@ -5,14 +5,14 @@ ghost use Rattle.std.specs.Prelude.{◌≤◌};
 ghost use Rattle.stop_history.specs.declared.limits.TheConstants.{TRACERS};
 
 use crate::workers::cases::all;
+use crate::workers::counting::Counting;
 use refusing_allocator::RefusingAllocator;
 use std::sync::Wait;
-use std::sync::atomic::{AtomicU32, Ordering};
 use std::test::Fail;
 use std::thread::Threads;
 use std::time::Clock;
 use trace_script::Case;
-use tracer_workers::{Config, Gate, run_case};
+use tracer_workers::{Config, run_case};
 
 /// A root that exits at once.
 const ROOT: &str = "tracee 100 100 77 0\nexit 0\nend\n";
@@ -28,18 +28,6 @@ const OTHER_GROWTHS: u64 = 15 * 3;
 /// How often each growth is refused. What a starter hears of its workers depends on how the threads take turns.
 const RUNS: u32 = 4;
 
-/// A gate that counts its calls: it has none where no tracee runs.
-#[derive(Drop)]
-struct Counting {
-    calls: AtomicU32,
-}
-
-impl Gate for Counting {
-    fn between(&self, _worker: u32, _tid: u32, _number: u32) {
-        self.calls.fetch_add(1, Ordering::SeqCst);
-    }
-}
-
 /// Whether a tracee runs where these growths are granted and the next one is refused. None where that one is refused
 /// before the run.
 fn has_run<R: Threads + Wait + Clock + AllocGlobal + Sync>(
@@ -54,11 +42,9 @@ fn has_run<R: Threads + Wait + Clock + AllocGlobal + Sync>(
         return None;
     };
     let config = Config { workers, ..all() };
-    let gate = Counting {
-        calls: AtomicU32::new(0),
-    };
+    let gate = Counting::new();
     let _ = run_case(rt, &heap, &case, &config, &gate);
-    Some(gate.calls.load(Ordering::SeqCst) != 0)
+    Some(gate.stops() != 0)
 }
 
 /// The growths before the tracee runs, with one worker.

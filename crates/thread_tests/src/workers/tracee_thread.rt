@@ -6,17 +6,17 @@ ghost use Rattle.trace_record.specs.Resume.{IsResume};
 ghost use Rattle.tracer_workers.specs.Threaded.{CanRun};
 
 use crate::workers::cases::EXEC;
-use crate::workers::party::new_party;
+use crate::workers::party::{Scripted, new_party};
 use std::alloc::Allocator;
 use std::sync::Wait;
 use std::test::Fail;
 use std::thread;
 use std::thread::Threads;
 use std::time::Clock;
-use stop_table::{Taken, Tracee, Tracer};
+use stop_table::{Taken, Tracer};
 use trace_options::{CallSet, Filter, Options};
 use trace_record::{Death, Kind, Resume, Stop, StopRecord};
-use trace_script::{Case, Machine};
+use trace_script::Case;
 use tracer_workers::run_tracee;
 
 /// A root that writes, asks for its id, handles a signal and exits.
@@ -116,9 +116,13 @@ fn serve<A: Allocator, R: Wait>(
 }
 
 /// What the tracee's thread does.
-fn run<A: Allocator, R: Wait + Clock>(rt: &R, mut tracee: Tracee<A>, machine: Machine<A>)
-    requires { CanRun tracee machine }
+fn run<A: Allocator, R: Wait + Clock>(rt: &R, scripted: Scripted<A>)
+    requires { CanRun scripted.tracee scripted.machine }
 {
+    let Scripted {
+        mut tracee,
+        machine,
+    } = scripted;
     run_tracee(rt, &mut tracee, machine);
 }
 
@@ -132,14 +136,14 @@ fn makes<R: Threads + Wait + Clock + AllocGlobal + Sync>(
     death: Death,
 ) -> Result<bool, Fail> {
     let case = Case::read(rt.alloc(), file.as_bytes())?;
-    let Some((tracee, machine, tracer)) = new_party(rt.alloc(), &case, options, filter) else {
+    let Some((scripted, tracer)) = new_party(rt.alloc(), &case, options, filter) else {
         return Ok(false);
     };
     let ((), is_right) = thread::join(
         rt,
         move ||
-            requires { CanRun tracee machine }
-        { run(rt, tracee, machine) },
+            requires { CanRun scripted.tracee scripted.machine }
+        { run(rt, scripted) },
         move || -> bool
             requires { 0 < length tracer.view.roster }
         { serve(rt, tracer, expected, death) },

@@ -1,24 +1,12 @@
 -- The handles are of one table and have seen nothing, so no row is claimed.
-use Rattle.std.proofs.Common.{refl, ◌≡◌, ◌∷◌, ◌++◌, [], ℕ, zero, suc, List, Some, length, ◌∙◌, sym, ap}
+use Rattle.std.proofs.Common.{refl, ◌≡◌, ◌∷◌, [], ℕ, List, length, ◌∙◌, sym, ap}
 use Rattle.std.specs.List.{filter, range_with_len, slice_get}
 use Rattle.stop_history.specs.declared.roster.Row.{Row}
 use Rattle.stop_table.specs.Opening.{new_tracee, new_tracer, new_view}
 use Rattle.stop_table.specs.Tracee.{TraceeHandle}
 use Rattle.stop_table.specs.Tracer.{TracerHandle, held_rows, is_held}
+use Rattle.thread_tests.proofs.Handles.{found_last, in_front}
 use Rattle.thread_tests.proofs.workers.gathering.new_party.Goals as goal
-
-at_end : {A : Type 0} (xs : List A) (x : A) → slice_get (xs ++ x ∷ []) (length xs) ≡ Some x
-at_end [] x = refl
-at_end (y ∷ xs) x = at_end xs x
-
-in_front : {A : Type 0} (xs ys : List A) (k : ℕ) (x : A) → slice_get xs k ≡ Some x → slice_get (xs ++ ys) k ≡ Some x
-in_front [] ys k x at = cc
-in_front (y ∷ xs) ys zero x at = at
-in_front (y ∷ xs) ys (suc k) x at = in_front xs ys k x at
-
--- the last of a list is found at the end
-found_last : {A : Type 0} (xs left : List A) (x : A) → xs ≡ left ++ x ∷ [] → slice_get xs (length left) ≡ Some x
-found_last xs left x is = ap (λ list. slice_get list (length left)) is ∙ at_end left x
 
 -- no row is claimed by a tracer before any step
 nothing_held : (rows : List Row) (number : ℕ) (numbers : List ℕ)

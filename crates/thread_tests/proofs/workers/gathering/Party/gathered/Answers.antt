@@ -1,15 +1,11 @@
 -- The handles of a party are those of one table, with nothing claimed and nothing taken up.
-use Rattle.std.proofs.Common.{refl, ◌≡◌, ◌∷◌, ◌++◌, [], List}
-use Rattle.std.specs.List.{All}
-use Rattle.std.proofs.lemmas.List.Elements.{All-nil, All-push, All-same}
+use Rattle.std.proofs.Common.{refl, []}
+use Rattle.std.proofs.lemmas.List.Elements.{All-nil, All-same}
 use Rattle.stop_table.specs.Tracee.{TraceeHandle}
 use Rattle.stop_table.specs.Tracer.{TracerHandle}
 use Rattle.tracer_workers.specs.Gathering.{IsFreeTracee, IsFreeTracer}
+use Rattle.thread_tests.proofs.Handles.{pushed}
 use Rattle.thread_tests.proofs.workers.gathering.Party.gathered.Goals as goal
-
--- a list with one more, which is so too
-pushed : {X : Type 0} (P : X → Type 0) (xs ys : List X) (x : X) → ys ≡ xs ++ x ∷ [] → All P xs → P x → All P ys
-pushed P xs ys x is all here = All-same P ys (xs ++ x ∷ []) is (All-push P xs x all here)
 
 pub gather-requires-clause-handles : goal.gather-requires-clause-handles
 gather-requires-clause-handles g c =

@@ -240,9 +240,8 @@ fn refused_in<R: Threads + Wait + Clock + AllocGlobal + Sync>(
             .then_some(Refused::Before)
             .ok_or("a case was not read");
     };
-    // Reading went on with a list that could not be shrunk, and the run would be refused none.
     if heap.has_refused() {
-        return Ok(Refused::Before);
+        return Err("a case was read though a growth was refused");
     }
     let gate = Counting::new();
     let Some(back) = served(rt, &heap, &case, &gate) else {

@@ -87,15 +87,19 @@ fn run_both<A: Allocator + Send + Sync, R: Threads + Wait + Clock + Sync>(
     child: Scripted<A>,
 ) -> (Tracee<A>, Tracee<A>)
     requires { CanRun root.tracee root.machine × CanRun child.tracee child.machine }
-    ensures root { (id : _) (rows : List Row) → IsFreeTracee id rows root.tracee →
-        IsFreeTracee id rows result.0 }
-    ensures child { (id : _) (rows : List Row) → IsFreeTracee id rows child.tracee →
-        IsFreeTracee id rows result.1 }
+    ensures root { (id : _) (rows : List Row) → IsFreeTracee id rows root.tracee → IsFreeTracee id rows result.0 }
+    ensures child { (id : _) (rows : List Row) → IsFreeTracee id rows child.tracee → IsFreeTracee id rows result.1 }
 {
     thread::join(
         rt,
-        move || run_when_told(rt, word, root),
-        move || run_when_told(rt, word, child),
+        move || -> Tracee<A>
+            requires { CanRun root.tracee root.machine }
+            ensures { (id : _) (rows : List Row) → IsFreeTracee id rows root.tracee → IsFreeTracee id rows result }
+        { run_when_told(rt, word, root) },
+        move || -> Tracee<A>
+            requires { CanRun child.tracee child.machine }
+            ensures { (id : _) (rows : List Row) → IsFreeTracee id rows child.tracee → IsFreeTracee id rows result }
+        { run_when_told(rt, word, child) },
     )
 }
 
@@ -123,8 +127,19 @@ fn run_family<A: Allocator + Copy + Send + Sync, R: Threads + Wait + Clock + Syn
     let word = &word;
     let ((root, child), served) = thread::join(
         rt,
-        move || run_both(rt, word, root, child),
-        move || serve(rt, alloc, word, tracer, roster, gate),
+        move || -> (Tracee<A>, Tracee<A>)
+            requires shared { IsSend A.row × IsSync A.row × IsSync R.row × Frees A.Allocator A.dealloc_token }
+            requires runs { CanRun root.tracee root.machine × CanRun child.tracee child.machine }
+            ensures root { (id : _) (rows : List Row) → IsFreeTracee id rows root.tracee →
+                IsFreeTracee id rows result.0 }
+            ensures child { (id : _) (rows : List Row) → IsFreeTracee id rows child.tracee →
+                IsFreeTracee id rows result.1 }
+        { run_both(rt, word, root, child) },
+        move || -> Option<(Tracer<A>, Worked<A>)>
+            requires { (roster.now ≡ tracer.view.roster) × (held_rows tracer.view ≡ []) }
+            ensures { (id : _) (rows : List Row) → IsFreeTracer id rows tracer →
+                IfSome result (λ s. IsFreeTracer id rows s.0) }
+        { serve(rt, alloc, word, tracer, roster, gate) },
     );
     let (tracer, worked) = served?;
     Some(Back {

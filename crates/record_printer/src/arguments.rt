@@ -10,8 +10,7 @@ use crate::iovecs::{write_array, write_separator, write_whole_array};
 use crate::numbers::{write_address, write_decimal, write_hexadecimal, write_int, write_mode};
 use mem_views::Views;
 use std::alloc::Allocator;
-use trace_options::ArgumentKind;
-use trace_pages::NoMemory;
+use trace_options::{ArgumentKind, NoMemory};
 use trace_record::StopRecord;
 
 /// Writes `count` arguments from the one at `start` on, each but the first argument of the call after a comma.

@@ -8,7 +8,7 @@ use crate::numbers::write_address;
 use crate::quote::{write_quoted, write_shortened};
 use mem_views::{End, Views};
 use std::alloc::Allocator;
-use trace_pages::NoMemory;
+use trace_options::NoMemory;
 
 /// Writes the first bytes of a buffer in quotes, with dots after them where it has more, or its address where one of
 /// them is absent.

@@ -12,8 +12,7 @@ use crate::numbers::write_result;
 use crate::room::{LINE_ROOM, REST_ROOM};
 use crate::show::Show;
 use std::alloc::Allocator;
-use trace_options::ArgumentKind;
-use trace_pages::NoMemory;
+use trace_options::{ArgumentKind, NoMemory};
 use trace_record::StopRecord;
 
 /// The end of a call: the bytes that came out of it, and its result.

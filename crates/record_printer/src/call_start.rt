@@ -13,8 +13,7 @@ use crate::numbers::{write_address, write_decimal};
 use crate::room::LINE_ROOM;
 use crate::show::Show;
 use std::alloc::Allocator;
-use trace_options::ArgumentKind;
-use trace_pages::NoMemory;
+use trace_options::{ArgumentKind, NoMemory};
 use trace_record::StopRecord;
 
 /// The start of a call: its line up to the result, where it is printed.

@@ -6,8 +6,7 @@ ghost use Rattle.record_printer.specs.StopNote.{call_name, kinds_of, out_place};
 
 use crate::numbers::write_hexadecimal;
 use std::alloc::Allocator;
-use trace_options::{ArgumentKind, Syscall};
-use trace_pages::NoMemory;
+use trace_options::{ArgumentKind, NoMemory, Syscall};
 
 /// The arguments of a call that is not known by name.
 const UNKNOWN: [ArgumentKind; 6] = [ArgumentKind::Hexadecimal; 6];

@@ -6,7 +6,7 @@ ghost use Rattle.record_printer.specs.DeathLine.{core_text, death_text, end_text
 use crate::signal::write_signal;
 use itoa::Buffer;
 use std::alloc::Allocator;
-use trace_pages::NoMemory;
+use trace_options::NoMemory;
 use trace_record::Death;
 
 /// Writes the line of the death of a thread, with its line feed.

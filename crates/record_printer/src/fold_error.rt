@@ -3,7 +3,7 @@
 ghost use Rattle.std.specs.Prelude.{◌≡◌};
 
 use std::alloc::{AllocError, AllocFailed};
-use trace_pages::NoMemory;
+use trace_options::NoMemory;
 
 /// Why a folder refuses a piece, or has no text.
 #[derive(Clone, Copy, Debug, PartialEq, Eq, Hash)]

@@ -27,7 +27,7 @@ use std::alloc::{Allocator, Global};
 use std::marker::Model;
 use std::mem;
 use stop_history::{Roster, Row, place_of};
-use trace_pages::NoMemory;
+use trace_options::NoMemory;
 
 /// The pieces of the stops and deaths of a roster's rows.
 #[derive(Drop)]

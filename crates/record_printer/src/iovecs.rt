@@ -10,7 +10,7 @@ use crate::buffers::write_buffer;
 use crate::numbers::{write_address, write_decimal};
 use mem_views::{IOV_MAX, Iovecs, Item, Views};
 use std::alloc::Allocator;
-use trace_pages::NoMemory;
+use trace_options::NoMemory;
 
 /// Writes the first entries of an array whose bytes go into a call, with dots after them where it has more, or its
 /// address where the array cannot be shown.

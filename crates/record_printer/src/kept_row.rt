@@ -20,7 +20,7 @@ use crate::row_fold::RowFold;
 use std::alloc::{Allocator, Global};
 use std::collections::BTreeMap;
 use std::marker::Model;
-use trace_pages::NoMemory;
+use trace_options::NoMemory;
 use trace_record::Death;
 
 /// A row: its stops up to a number are folded, and those that came before their turn wait.

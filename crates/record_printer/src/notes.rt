@@ -11,7 +11,7 @@ use crate::numbers::write_decimal;
 use crate::show::Show;
 use crate::signal::write_signal;
 use std::alloc::Allocator;
-use trace_pages::NoMemory;
+use trace_options::NoMemory;
 use trace_record::{Stop, StopRecord};
 
 /// What is noted of a stop.

@@ -9,8 +9,7 @@ ghost use Rattle.record_printer.specs.Numbers.{result_text};
 use itoa::Buffer;
 use std::alloc::Allocator;
 use std::io::Write;
-use trace_options::error_name;
-use trace_pages::NoMemory;
+use trace_options::{NoMemory, error_name};
 use trace_regs::{Outcome, Regs};
 
 /// Writes a number in decimal.

@@ -6,7 +6,7 @@ ghost use Rattle.record_printer.specs.Quote.{escaped, octal, quoted, shortened};
 
 use mem_views::Cut;
 use std::alloc::Allocator;
-use trace_pages::NoMemory;
+use trace_options::NoMemory;
 
 /// Writes the bytes that are left of a view in quotes, and dots after them where there are more bytes than the view
 /// has.

@@ -15,7 +15,7 @@ use crate::death::write_death;
 use crate::note::Note;
 use crate::room::{LINE_ROOM, Room, with_start};
 use std::alloc::{Allocator, Global};
-use trace_pages::NoMemory;
+use trace_options::NoMemory;
 use trace_record::Death;
 
 /// The lines of the stops so far: the text that is fixed, the call that is pending, the lines that follow that call's

@@ -5,8 +5,7 @@ ghost use Rattle.record_printer.specs.SignalText.{signal_text};
 
 use itoa::Buffer;
 use std::alloc::Allocator;
-use trace_options::signal_name;
-use trace_pages::NoMemory;
+use trace_options::{NoMemory, signal_name};
 
 /// Writes a signal by its name, or as `SIG_` and its number where it has none.
 pub fn write_signal<A: Allocator>(text: &mut Vec<u8, A>, signal: u8) -> Result<(), NoMemory>

@@ -9,7 +9,7 @@ use crate::notes::stop_note;
 use crate::piece::Piece;
 use crate::show::Show;
 use std::alloc::Allocator;
-use trace_pages::NoMemory;
+use trace_options::NoMemory;
 use trace_record::StopRecord;
 
 /// The piece of a stop: the thread id and the number of its record, and what is printed of it. It fails where memory

@@ -5,8 +5,8 @@ use crate::call_parts::{CallEnd, CallStart};
 use crate::note::Note;
 use crate::notes::stop_note;
 use std::alloc::Global;
-use trace_options::CallSet;
-use trace_pages::{Memory, NoMemory};
+use trace_options::{CallSet, NoMemory};
+use trace_pages::Memory;
 use trace_record::{Stop, StopRecord};
 
 mod arrays;

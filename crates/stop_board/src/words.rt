@@ -16,8 +16,8 @@ ghost use Rattle.trace_record.specs.Resume.{IsResume};
 
 use std::alloc::Allocator;
 use stop_history::{
-    Got, LAST_NUMBER, NoMemory, Phase, Refused, Row, State, TRACERS, Word, claimed, died,
-    is_leader, is_next_child, parent_place, place_of, published, rank, restarted,
+    Got, LAST_NUMBER, NoMemory, Phase, Refused, Roster, State, TRACERS, Word, claimed, died,
+    is_leader, place_of, published, restarted,
 };
 use trace_record::{Death, Resume, Stop};
 
@@ -35,33 +35,33 @@ pub(crate) fn opening_words<A: Allocator>(alloc: A, count: usize) -> Result<Vec<
 }
 
 /// Whether a row is a root, or its parent has created it.
-fn was_created(rows: &[Row], words: &[Word], at: usize) -> bool
-    requires row { at < length rows.now }
-    requires words { length words.now ≡ length rows.now }
-    ensures { result ≡ shows_created rows.now words.now at (parent_of rows.now at) }
+fn was_created<A: Allocator>(roster: &Roster<A>, words: &[Word], at: usize) -> bool
+    requires row { at < length roster.now }
+    requires words { length words.now ≡ length roster.now }
+    ensures { result ≡ shows_created roster.now words.now at (parent_of roster.now at) }
 {
-    match parent_place(rows, at) {
+    match roster.parent_place(at) {
         None => true,
         Some(parent) => {
             let parent = words[parent];
-            rank(rows, at) < usize::from(parent.births)
+            roster.rank(at) < usize::from(parent.births)
         }
     }
 }
 
 /// The state that a row's word shows, among the words of all rows.
-pub(crate) fn state_of(rows: &[Row], words: &[Word], row: u32) -> State
-    requires { length words.now ≡ length rows.now }
-    ensures { result ≡ state_by rows.now words.now row }
+pub(crate) fn state_of<A: Allocator>(roster: &Roster<A>, words: &[Word], row: u32) -> State
+    requires { length words.now ≡ length roster.now }
+    ensures { result ≡ state_by roster.now words.now row }
 {
-    let at = row as usize;
-    if at >= rows.len() {
+    if row >= roster.len() {
         return State::Absent;
     }
+    let at = row as usize;
     let word = words[at];
     let number = word.number;
     match word.phase {
-        Phase::Fresh if was_created(rows, words, at) => State::Running,
+        Phase::Fresh if was_created(roster, words, at) => State::Running,
         Phase::Fresh => State::Unborn,
         Phase::Resumed(_) | Phase::Active => State::Running,
         Phase::Stopped { status } => State::Stopped(number, status),
@@ -72,31 +72,34 @@ pub(crate) fn state_of(rows: &[Row], words: &[Word], row: u32) -> State
 }
 
 /// Whether a stop creates no child, or the next one of a parent that has this many.
-fn creates_next(rows: &[Row], at: usize, births: u8, stop: Stop) -> bool
-    requires row { at < length rows.now }
-    requires roster { IsRoster rows.now }
-    ensures next { result ≡ creates_next rows.now at births stop }
+fn creates_next<A: Allocator>(roster: &Roster<A>, at: usize, births: u8, stop: Stop) -> bool
+    requires row { at < length roster.now }
+    ensures next { result ≡ creates_next roster.now at births stop }
     ensures few { result ≡ true → IsSome (child_of stop) → births + 1 < MOST_ROWS }
 {
     match stop.child() {
         None => true,
-        Some(tid) => is_next_child(rows, at, usize::from(births), place_of(rows, tid)),
+        Some(tid) => {
+            let child = place_of(roster.rows(), tid);
+            roster.is_next_child(at, usize::from(births), child)
+        }
     }
 }
 
 /// The first other row of a leader's thread group that is alive.
 #[tactic(auto, using(crate::proofs::Search::search_steps))]
-fn holding_back(rows: &[Row], words: &[Word], at: usize) -> Option<u32>
-    requires row { at < length rows.now }
-    requires words { length words.now ≡ length rows.now }
-    requires few { length rows.now ≤ MOST_ROWS }
-    ensures { result ≡ holding_back rows.now (state_by rows.now words.now) at }
+fn holding_back<A: Allocator>(roster: &Roster<A>, words: &[Word], at: usize) -> Option<u32>
+    requires row { at < length roster.now }
+    requires words { length words.now ≡ length roster.now }
+    requires few { length roster.now ≤ MOST_ROWS }
+    ensures { result ≡ holding_back roster.now (state_by roster.now words.now) at }
 {
+    let rows = roster.rows();
     if !is_leader(rows[at]) {
         return None;
     }
     for other in 0..rows.len() {
-        if holds_back(rows, words, at, other) {
+        if holds_back(roster, words, at, other) {
             return Some(other as u32);
         }
     }
@@ -104,16 +107,17 @@ fn holding_back(rows: &[Row], words: &[Word], at: usize) -> Option<u32>
 }
 
 /// Whether a row is an alive one of another's thread group, and not that row itself.
-fn holds_back(rows: &[Row], words: &[Word], at: usize, other: usize) -> bool
-    requires row { at < length rows.now }
-    requires other { other < length rows.now }
-    requires words { length words.now ≡ length rows.now }
-    requires few { length rows.now ≤ MOST_ROWS }
-    ensures { result ≡ holds_back rows.now (state_by rows.now words.now) at other }
+fn holds_back<A: Allocator>(roster: &Roster<A>, words: &[Word], at: usize, other: usize) -> bool
+    requires row { at < length roster.now }
+    requires other { other < length roster.now }
+    requires words { length words.now ≡ length roster.now }
+    requires few { length roster.now ≤ MOST_ROWS }
+    ensures { result ≡ holds_back roster.now (state_by roster.now words.now) at other }
 {
+    let rows = roster.rows();
     other != at
         && rows[other].tgid == rows[at].tgid
-        && is_alive(state_of(rows, words, other as u32))
+        && is_alive(state_of(roster, words, other as u32))
 }
 
 /// Whether a row of this state may still act.
@@ -127,42 +131,40 @@ fn is_alive(state: State) -> bool
 }
 
 /// Publishes a row's next stop: its number, or why not.
-pub(crate) fn publish_at(
-    rows: &[Row],
+pub(crate) fn publish_at<A: Allocator>(
+    roster: &Roster<A>,
     words: &mut [Word],
     row: u32,
     stop: Stop,
 ) -> Result<u32, Refused>
-    requires words { length words.old ≡ length rows.now }
+    requires words { length words.old ≡ length roster.now }
     requires stop { IsStop stop }
-    requires roster { IsRoster rows.now }
     ensures answer { result
-        ≡ publish_by (state_by rows.now words.old row) (creates_next rows.now row (word_at words.old row).births stop)
+        ≡ publish_by (state_by roster.now words.old row) (creates_next roster.now row (word_at words.old row).births stop)
         (word_at words.old row).number }
     ensures words { words.new ≡ with_word result words.old row (published (word_at words.old row) stop) }
 {
-    running(state_of(rows, words, row))?;
-    publish_running(rows, words, row, stop)
+    running(state_of(roster, words, row))?;
+    publish_running(roster, words, row, stop)
 }
 
 /// Publishes the next stop of a row that runs: its number, or why not.
-pub(crate) fn publish_running(
-    rows: &[Row],
+pub(crate) fn publish_running<A: Allocator>(
+    roster: &Roster<A>,
     words: &mut [Word],
     row: u32,
     stop: Stop,
 ) -> Result<u32, Refused>
-    requires row { row < length rows.now }
-    requires words { length words.old ≡ length rows.now }
+    requires row { row < length roster.now }
+    requires words { length words.old ≡ length roster.now }
     requires stop { IsStop stop }
-    requires roster { IsRoster rows.now }
     ensures answer { result
-        ≡ next_number (creates_next rows.now row (word_at words.old row).births stop) (word_at words.old row).number }
+        ≡ next_number (creates_next roster.now row (word_at words.old row).births stop) (word_at words.old row).number }
     ensures words { words.new ≡ with_word result words.old row (published (word_at words.old row) stop) }
 {
     let at = row as usize;
     let word = words[at];
-    if !creates_next(rows, at, word.births, stop) {
+    if !creates_next(roster, at, word.births, stop) {
         return Err(Refused::NotNext);
     }
     if word.number >= LAST_NUMBER {
@@ -174,20 +176,20 @@ pub(crate) fn publish_running(
 }
 
 /// Claims a row's stop or its death for a tracer: its number and status, or why not.
-pub(crate) fn claim_at(
-    rows: &[Row],
+pub(crate) fn claim_at<A: Allocator>(
+    roster: &Roster<A>,
     words: &mut [Word],
     row: u32,
     tracer: u32,
 ) -> Result<Got, Refused>
-    requires { length words.old ≡ length rows.now }
-    ensures answer { result ≡ claim_by tracer (state_by rows.now words.old row) }
+    requires { length words.old ≡ length roster.now }
+    ensures answer { result ≡ claim_by tracer (state_by roster.now words.old row) }
     ensures words { words.new ≡ with_word result words.old row (claimed (word_at words.old row) tracer) }
 {
     if tracer >= TRACERS {
         return Err(Refused::NoRow);
     }
-    let got = waitable(state_of(rows, words, row))?;
+    let got = waitable(state_of(roster, words, row))?;
     let at = row as usize;
     // The claim happens here.
     words[at] = claimed(words[at], tracer as u8);
@@ -208,22 +210,22 @@ fn waitable(state: State) -> Result<Got, Refused>
 }
 
 /// Resumes a row that the tracer has claimed, or says why not.
-pub(crate) fn resume_at(
-    rows: &[Row],
+pub(crate) fn resume_at<A: Allocator>(
+    roster: &Roster<A>,
     words: &mut [Word],
     row: u32,
     tracer: u32,
     how: Resume,
 ) -> Result<(), Refused>
-    requires words { length words.old ≡ length rows.now }
+    requires words { length words.old ≡ length roster.now }
     requires how { IsResume how }
-    ensures answer { result ≡ resume_by tracer (state_by rows.now words.old row) }
+    ensures answer { result ≡ resume_by tracer (state_by roster.now words.old row) }
     ensures words { words.new ≡ with_word result words.old row (restarted (word_at words.old row) how) }
 {
     if tracer >= TRACERS {
         return Err(Refused::NoRow);
     }
-    held_by(tracer, state_of(rows, words, row))?;
+    held_by(tracer, state_of(roster, words, row))?;
     let at = row as usize;
     // The resume happens here: the word keeps the restart.
     words[at] = restarted(words[at], how);
@@ -246,39 +248,37 @@ fn held_by(tracer: u32, state: State) -> Result<(), Refused>
 }
 
 /// Lets a running row exit, or says why not: a leader waits for the other rows of its thread group.
-pub(crate) fn exit_at(
-    rows: &[Row],
+pub(crate) fn exit_at<A: Allocator>(
+    roster: &Roster<A>,
     words: &mut [Word],
     row: u32,
     death: Death,
 ) -> Result<(), Refused>
-    requires words { length words.old ≡ length rows.now }
-    requires roster { IsRoster rows.now }
+    requires words { length words.old ≡ length roster.now }
     requires death { IsDeath death }
     ensures answer { result
-        ≡ exit_by (holding_back rows.now (state_by rows.now words.old) row) (state_by rows.now words.old row) }
+        ≡ exit_by (holding_back roster.now (state_by roster.now words.old) row) (state_by roster.now words.old row) }
     ensures words { words.new ≡ with_word result words.old row (died (word_at words.old row) death) }
 {
-    running(state_of(rows, words, row))?;
-    exit_running(rows, words, row, death)
+    running(state_of(roster, words, row))?;
+    exit_running(roster, words, row, death)
 }
 
 /// Lets a row that runs exit, or says which row holds it back.
-pub(crate) fn exit_running(
-    rows: &[Row],
+pub(crate) fn exit_running<A: Allocator>(
+    roster: &Roster<A>,
     words: &mut [Word],
     row: u32,
     death: Death,
 ) -> Result<(), Refused>
-    requires row { row < length rows.now }
-    requires words { length words.old ≡ length rows.now }
-    requires roster { IsRoster rows.now }
+    requires row { row < length roster.now }
+    requires words { length words.old ≡ length roster.now }
     requires death { IsDeath death }
-    ensures answer { result ≡ unless_held (holding_back rows.now (state_by rows.now words.old) row) }
+    ensures answer { result ≡ unless_held (holding_back roster.now (state_by roster.now words.old) row) }
     ensures words { words.new ≡ with_word result words.old row (died (word_at words.old row) death) }
 {
     let at = row as usize;
-    if let Some(other) = holding_back(rows, words, at) {
+    if let Some(other) = holding_back(roster, words, at) {
         return Err(Refused::GroupAlive(other));
     }
     // The exit happens here.

@@ -28,7 +28,7 @@ use crate::words::{opening_words, state_of};
 pub use action::{Action, Reply};
 use std::alloc::{Allocator, Global};
 use std::marker::Model;
-use stop_history::{Actor, NoMemory, Refused, Roster, Row, State, Word};
+use stop_history::{Actor, NoMemory, Refused, Roster, State, Word};
 use tracee::tracee_step;
 use tracer::{row_seen, seen_place, tracer_step};
 
@@ -39,7 +39,7 @@ use tracer::{row_seen, seen_place, tracer_step};
 /// The actors are the tracees, by their rows, and then the tracers 0, 1, ..
 #[derive(Drop)]
 pub struct World<A: Allocator = Global> {
-    rows: Vec<Row, A>,
+    roster: Roster<A>,
     tracers: u32,
     words: Vec<Word, A>,
     seen: Vec<Word, A>,
@@ -51,13 +51,13 @@ impl<A: Allocator> Model for World<A> {
     ghost Value = { Contents };
 
     ghost view = { λ w. record {
-      rows = w.rows.items;
+      rows = w.roster;
       tracers = w.tracers;
       words = w.words.items;
       seen = w.seen.items;
     } };
 
-    ghost invariant = { λ w. IsContents w.rows.items w.tracers w.words.items w.seen.items };
+    ghost invariant = { λ w. IsContents w.roster w.tracers w.words.items w.seen.items };
 }
 
 impl<A: Allocator + Copy> World<A> {
@@ -75,11 +75,12 @@ impl<A: Allocator + Copy> World<A> {
         ensures tracers { IfOk result (λ world. world.tracers ≡ tracers) }
         ensures stands { IfOk result (λ world. StandsAt world first_moment) }
     {
-        let rows = Vec::from_slice(alloc, roster.rows())?;
-        let words = opening_words(alloc, rows.len())?;
-        let seen = opening_words(alloc, tracers as usize * rows.len())?;
+        let roster = Roster::copy(alloc, roster)?;
+        let rows = roster.rows().len();
+        let words = opening_words(alloc, rows)?;
+        let seen = opening_words(alloc, tracers as usize * rows)?;
         Ok(World {
-            rows,
+            roster,
             tracers,
             words,
             seen,
@@ -97,7 +98,7 @@ impl<A: Allocator> World<A> {
     pub fn state(&self, row: u32) -> State
         ensures { (m : Moment) → StandsAt self.now m → result ≡ state_after self.now.rows m.history row }
     {
-        state_of(self.rows.as_slice(), self.words.as_slice(), row)
+        state_of(&self.roster, self.words.as_slice(), row)
     }
 
     /// One atomic step of an actor, by its number. Refusals are those of `Action`; `NoRow` too where no actor has the
@@ -118,10 +119,9 @@ impl<A: Allocator> World<A> {
         ensures rows { self.new.rows ≡ self.old.rows }
         ensures tracers { self.new.tracers ≡ self.old.tracers }
     {
-        let rows = self.rows.as_slice();
-        let actor = actor_of(rows, self.tracers, actor);
+        let actor = actor_of(&self.roster, self.tracers, actor);
         step_of(
-            rows,
+            &self.roster,
             self.words.as_mut_slice(),
             self.seen.as_mut_slice(),
             actor,
@@ -146,7 +146,7 @@ impl<A: Allocator + Copy> World<A> {
         ensures rows { self.new.rows ≡ self.old.rows }
         ensures tracers { self.new.tracers ≡ self.old.tracers }
     {
-        let mut replies = Vec::with_capacity(*self.rows.allocator(), turns.len())?;
+        let mut replies = Vec::with_capacity(*self.words.allocator(), turns.len())?;
         for turn in turns {
             if replies.push(self.step(turn.0, turn.1)).is_err() {
                 unreachable!();
@@ -158,12 +158,12 @@ impl<A: Allocator + Copy> World<A> {
 
 /// The actor of a number, if there is one.
 #[inline(always)]
-fn actor_of(rows: &[Row], tracers: u32, number: u32) -> Option<Actor>
-    requires few { length rows.now ≤ MOST_ROWS }
+fn actor_of<A: Allocator>(roster: &Roster<A>, tracers: u32, number: u32) -> Option<Actor>
+    requires few { length roster.now ≤ MOST_ROWS }
     requires tracers { tracers ≤ TRACERS }
-    ensures { result ≡ numbered_actor (length rows.now) tracers number }
+    ensures { result ≡ numbered_actor (length roster.now) tracers number }
 {
-    let rows = rows.len() as u32;
+    let rows = roster.len();
     if number < rows {
         Some(Actor::Tracee(number))
     } else if number < rows + tracers {
@@ -175,29 +175,28 @@ fn actor_of(rows: &[Row], tracers: u32, number: u32) -> Option<Actor>
 
 /// A step of an actor, if there is one of its number.
 #[inline(always)]
-fn step_of(
-    rows: &[Row],
+fn step_of<A: Allocator>(
+    roster: &Roster<A>,
     words: &mut [Word],
     seen: &mut [Word],
     actor: Option<Actor>,
     action: Action,
 ) -> Reply
-    requires words { length words.old ≡ length rows.now }
-    requires roster { IsRoster rows.now }
-    requires actor { IsActor (length rows.now) (length seen.old) actor }
+    requires words { length words.old ≡ length roster.now }
+    requires actor { IsActor (length roster.now) (length seen.old) actor }
     requires action { IsAction action }
-    ensures reply { ActorReplies rows.now (sight_by rows.now words.old)
-        (last_seen rows.now seen.old) actor action result }
-    ensures row { ForSome (row_seen action result) (λ row. row < length rows.now) }
+    ensures reply { ActorReplies roster.now (sight_by roster.now words.old)
+        (last_seen roster.now seen.old) actor action result }
+    ensures row { ForSome (row_seen action result) (λ row. row < length roster.now) }
     ensures words { words.new ≡ words_with (actor_change (word_at words.old) actor action result) words.old }
-    ensures seen { seen.new ≡ words_seen_by rows.now (word_at words.new) actor action result seen.old }
+    ensures seen { seen.new ≡ words_seen_by roster.now (word_at words.new) actor action result seen.old }
 {
     match actor {
         None => Reply::Refused(Refused::NoRow),
-        Some(Actor::Tracee(row)) => tracee_step(rows, words, row, action),
+        Some(Actor::Tracee(row)) => tracee_step(roster, words, row, action),
         Some(Actor::Tracer(tracer)) => {
-            let reply = tracer_step(rows, words, seen, tracer, action);
-            note(rows, words, seen, tracer, row_seen(action, &reply));
+            let reply = tracer_step(roster, words, seen, tracer, action);
+            note(roster, words, seen, tracer, row_seen(action, &reply));
             reply
         }
     }
@@ -205,23 +204,23 @@ fn step_of(
 
 /// Notes that a tracer has seen the word that a row has now.
 #[inline(always)]
-fn note(rows: &[Row], words: &[Word], seen: &mut [Word], tracer: u32, row: Option<u32>)
-    requires words { length words.now ≡ length rows.now }
-    requires few { length rows.now ≤ MOST_ROWS }
+fn note<A: Allocator>(roster: &Roster<A>, words: &[Word], seen: &mut [Word], tracer: u32, row: Option<u32>)
+    requires words { length words.now ≡ length roster.now }
+    requires few { length roster.now ≤ MOST_ROWS }
     requires tracer { tracer < TRACERS }
-    requires row { ForSome row (λ at. at < length rows.now) }
-    requires seen { tracer * length rows.now + length rows.now ≤ length seen.old }
-    ensures { seen.new ≡ words_seen rows.now (word_at words.now) tracer row seen.old }
+    requires row { ForSome row (λ at. at < length roster.now) }
+    requires seen { tracer * length roster.now + length roster.now ≤ length seen.old }
+    ensures { seen.new ≡ words_seen roster.now (word_at words.now) tracer row seen.old }
 {
     if let Some(row) = row {
-        seen[seen_place(rows, tracer, row)] = words[row as usize];
+        seen[seen_place(roster, tracer, row)] = words[row as usize];
     }
 }
 
 /// Reads a row's word.
-fn look_at(rows: &[Row], words: &[Word], row: u32) -> Reply
-    requires { length words.now ≡ length rows.now }
-    ensures { result ≡ look_reply rows.now (sight_by rows.now words.now) row }
+fn look_at<A: Allocator>(roster: &Roster<A>, words: &[Word], row: u32) -> Reply
+    requires { length words.now ≡ length roster.now }
+    ensures { result ≡ look_reply roster.now (sight_by roster.now words.now) row }
 {
     match words.get(row as usize) {
         Some(word) => Reply::Word(*word),

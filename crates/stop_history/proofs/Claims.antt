@@ -1,5 +1,5 @@
 -- A legal history has at most one claim of the stop of each number.
-use Rattle.std.proofs.Common.{refl, ◌≡◌, ◌+◌, ◌<◌, ◌≤◌, ◌≢◌, ◌&&◌, ◌∷◌, ◌++◌, [], ℕ, Bool, true, false, not, List}
+use Rattle.std.proofs.Common.{refl, ◌≡◌, ◌+◌, ◌<◌, ◌≤◌, ◌≢◌, ◌∷◌, ◌++◌, [], ℕ, Bool, true, false, List}
 use Rattle.std.proofs.Common.{arith, ◌∙◌, sym}
 use Rattle.std.proofs.Common.{ap, inl, inr, cond, eqb, eqb-true}
 use Rattle.std.proofs.lemmas.Bool.{cases_Bool}
@@ -7,7 +7,7 @@ use Rattle.stop_history.specs.declared.roster.Row.{Row}
 use Rattle.stop_history.specs.Event as event
 use Rattle.stop_history.specs.Event.{Event, History, events_of, subject}
 use Rattle.stop_history.specs.State.{is_born, is_waitable, last_number, number_in, state_in}
-use Rattle.stop_history.specs.History.{Fits, IsLegal, is_death_newest, stop_claims_in}
+use Rattle.stop_history.specs.History.{Fits, IsLegal, stop_claims_in}
 use Rattle.stop_history.proofs.States.{claim_is_none, fits_within, state_within}
 
 -- a legal history stays legal when its newest events are dropped

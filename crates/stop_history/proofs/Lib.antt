@@ -4,6 +4,7 @@ pub mod Births
 pub mod Children
 mod Claims
 pub mod Events
+mod Families
 pub mod Going
 pub mod LegalWords
 pub mod Longer

@@ -1,7 +1,7 @@
 -- Rows that are over stay so, on which "no child is left to wait for" rests. A settled row makes no event but the claim
 -- of its own death, so it never dies again; a row that is gone is settled where its parent is.
-use Rattle.std.proofs.Common.{refl, ◌≡◌, ◌≢◌, ◌<◌, ◌∷◌, ◌++◌, [], ℕ, Bool, true, false, not, List, Option, Some, None}
-use Rattle.std.proofs.Common.{length, ◌∙◌, sym, ap, subst, eqb, arith, inl, inr}
+use Rattle.std.proofs.Common.{refl, ◌≡◌, ◌≢◌, ◌<◌, ◌∷◌, ◌++◌, [], ℕ, Bool, true, false, List, Option, Some, None}
+use Rattle.std.proofs.Common.{length, ◌∙◌, sym, ap, eqb, inl, inr}
 use Rattle.std.proofs.lemmas.Bool.{cases_eq}
 use Rattle.stop_history.specs.Event as event
 use Rattle.stop_history.specs.Event.{Event, History, events_of, subject}
@@ -15,7 +15,7 @@ use Rattle.stop_history.specs.declared.state.State.TheVariants as state
 use Rattle.stop_history.proofs.Events.{own_events, other_events}
 use Rattle.stop_history.proofs.Rosters.{placed}
 use Rattle.stop_history.proofs.Settled.{settled_rests, settled_stays, unborn_is}
-use Rattle.stop_history.proofs.States.{by_own_events, fits_within, past_or_within, state_within}
+use Rattle.stop_history.proofs.States.{by_own_events, past_or_within, state_within}
 
 -- ---- process groups
 

@@ -1,5 +1,5 @@
 -- Rows that are over: they can act no more, and no wait will ever report them (waitid(2), ECHILD).
-use Rattle.std.specs.Prelude.{◌≡◌, ◌<◌, ℕ, Bool, true, false, not, List, length, Option, Some, None}
+use Rattle.std.specs.Prelude.{◌≡◌, ◌<◌, ℕ, Bool, true, false, not, List, length, Some, None}
 use Rattle.stop_history.specs.Event.{History}
 use Rattle.stop_history.specs.History.{IsSettled}
 use Rattle.stop_history.specs.Roster.{parent_of}

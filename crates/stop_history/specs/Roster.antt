@@ -2,11 +2,12 @@
 -- getpgid(2)) and its parent's tid, or 0 for a root. Each parent comes before its children.
 use Rattle.std.specs.Prelude.{◌≡◌, ◌⊎◌, ◌<◌, ◌≤◌, ◌==◌, ◌&&◌, ◌||◌, ◌++◌, ◌∷◌, [], ℕ, Bool, not, nat_le, nat_lt, List}
 use Rattle.std.specs.Prelude.{length, take, Option, Some, None, is_some, if◌then◌else◌, find, position, count_by}
-use Rattle.std.specs.Prelude.{slice_index_or}
+use Rattle.std.specs.Prelude.{slice_get, slice_index_or}
 use Rattle.stop_history.specs.declared.limits.TheConstants.{LAST_ID, MOST_ROWS}
 use Rattle.stop_history.specs.declared.roster.Row.{Row}
 use Rattle.stop_history.specs.declared.roster.RosterError.{RosterError}
 use Rattle.stop_history.specs.declared.roster.RosterError.TheVariants as fault
+use Rattle.stop_history.specs.declared.roster.families.Family.{Family}
 
 -- an id: 1 to the greatest
 abbrev pub is_id : ℕ → Bool
@@ -86,6 +87,14 @@ parent_of rows row = if is_root (row_at rows row) then None else row_of rows (ro
 -- how many rows before it have the same parent
 abbrev pub rank_of : List Row → ℕ → ℕ
 rank_of rows row = count_by (λ q. q.parent == (row_at rows row).parent) (take row rows)
+
+-- what a row is to the rows before it
+abbrev pub family_of : List Row → ℕ → Family
+family_of rows row = record { parent = parent_of rows row; rank = rank_of rows row }
+
+-- what each row is to those before it stands at the row's place
+abbrev pub HasFamilies : List Row → List Family → Type 0
+HasFamilies rows families = (row : ℕ) → row < length rows → slice_get families row ≡ Some (family_of rows row)
 
 -- what a row with a parent has in common with it
 pub record IsChild (parent row : Row) : Type 0 where

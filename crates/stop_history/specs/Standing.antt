@@ -7,7 +7,6 @@ use Rattle.stop_history.specs.declared.state.State.TheVariants as state
 use Rattle.stop_history.specs.Change.{Change, Happened, Nothing, TakenUp, taken_up, word_after_event}
 use Rattle.stop_history.specs.Event.{History, subject}
 use Rattle.stop_history.specs.Layout.{raw_of}
-use Rattle.stop_history.specs.Roster.{IsRoster}
 use Rattle.stop_history.specs.State.{state_after}
 use Rattle.stop_history.specs.History.{IsLegal}
 use Rattle.stop_history.specs.Word.{word_after}

@@ -27,9 +27,7 @@ pub use laws::{
 pub use limits::{LAST_ID, LAST_NUMBER, MOST_ROWS, TRACERS};
 pub use phase::{Phase, restart_in};
 pub use refused::Refused;
-pub use roster::{
-    Roster, RosterError, Row, fault_after, is_leader, is_next_child, parent_place, place_of, rank,
-};
+pub use roster::{Roster, RosterError, Row, fault_after, is_leader, place_of};
 pub use state::State;
-pub use trace_pages::NoMemory;
+pub use trace_options::NoMemory;
 pub use word::{Word, claimed, died, published, restarted, taken_up};

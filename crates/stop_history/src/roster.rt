@@ -9,12 +9,14 @@ ghost use Rattle.std.specs.Prelude.{◌≡◌, ◌<◌, ◌++◌, ◌∷◌, [],
 mod families;
 mod faults;
 
-pub use families::{is_leader, is_next_child, parent_place, place_of, rank};
+use crate::limits::MOST_ROWS;
+pub use families::{is_leader, place_of};
+use families::{Family, NO_FAMILIES, families_of, family_of};
 pub use faults::fault_after;
 use faults::{fault_of, push_fault};
 use std::alloc::{AllocError, AllocFailed, Allocator, Global};
 use std::marker::Model;
-use trace_pages::NoMemory;
+use trace_options::NoMemory;
 
 /// A tracee: its thread id, thread-group id and process-group id, each 1 to 4,194,303, and its parent's thread
 /// id, or 0 for a root.
@@ -79,6 +81,8 @@ impl From<NoMemory> for RosterError {
 #[derive(Drop)]
 pub struct Roster<A: Allocator = Global> {
     rows: Vec<Row, A>,
+    /// What each row is to the others, looked up once, when it is added. Nothing is asked for behind the last row.
+    families: [Family; MOST_ROWS],
 }
 
 impl<A: Allocator> Model for Roster<A> {
@@ -87,11 +91,11 @@ impl<A: Allocator> Model for Roster<A> {
 
     ghost Value = { List Row };
 
-    ghost use Rattle.stop_history.specs.Roster.{IsRoster};
+    ghost use Rattle.stop_history.specs.Roster.{HasFamilies, IsRoster};
 
     ghost view = { λ r. r.rows.items };
 
-    ghost invariant = { λ r. IsRoster r.rows.items };
+    ghost invariant = { λ r. IsRoster r.rows.items × HasFamilies r.rows.items r.families };
 }
 
 impl<A: Allocator + Copy> Roster<A> {
@@ -107,13 +111,25 @@ impl<A: Allocator + Copy> Roster<A> {
         if let Some(fault) = fault_of(rows) {
             return Err(fault);
         }
+        let families = families_of(rows);
         let rows = Vec::from_slice(alloc, rows)?;
-        Ok(Roster { rows })
+        Ok(Roster { rows, families })
+    }
+
+    /// The same roster, in memory of this allocator.
+    pub fn copy<B: Allocator>(alloc: A, roster: &Roster<B>) -> Result<Roster<A>, NoMemory>
+        ensures { IfOk result (λ roster'. roster' ≡ roster.now) }
+    {
+        let rows = Vec::from_slice(alloc, roster.rows())?;
+        let families = roster.families;
+        Ok(Roster { rows, families })
     }
 }
 
 impl<A: Allocator> Roster<A> {
-    ghost use Rattle.stop_history.specs.Roster.{IsRoster, push_fault, row_of};
+    ghost use Rattle.std.specs.Option.{ForSome};
+    ghost use Rattle.stop_history.specs.History.{is_next_child};
+    ghost use Rattle.stop_history.specs.Roster.{IsRoster, parent_of, push_fault, rank_of, row_of};
     ghost use Rattle.stop_history.specs.declared.roster.RosterError.{RosterError};
 
     /// A roster of no rows. It takes no memory.
@@ -122,6 +138,7 @@ impl<A: Allocator> Roster<A> {
     {
         Roster {
             rows: Vec::new(alloc),
+            families: NO_FAMILIES,
         }
     }
 
@@ -137,6 +154,8 @@ impl<A: Allocator> Roster<A> {
             return Err(fault);
         }
         self.rows.push(row)?;
+        let at = self.rows.len() - 1;
+        self.families[at] = family_of(self.rows.as_slice(), at);
         Ok(())
     }
 
@@ -160,6 +179,40 @@ impl<A: Allocator> Roster<A> {
         ensures { result ≡ row_of self.now tid }
     {
         Some(place_of(self.rows(), tid)? as u32)
+    }
+
+    /// The place of a row's parent; a root has none.
+    #[inline(always)]
+    pub fn parent_place(&self, row: usize) -> Option<usize>
+        requires { row < length self.now }
+        ensures { result ≡ parent_of self.now row }
+    {
+        let families = &self.families;
+        Some(usize::from(families[row].parent?))
+    }
+
+    /// A row's place among the rows of its parent, from 0.
+    #[inline(always)]
+    pub fn rank(&self, row: usize) -> usize
+        requires { row < length self.now }
+        ensures { result ≡ rank_of self.now row }
+    {
+        let families = &self.families;
+        usize::from(families[row].rank)
+    }
+
+    /// Whether the row at a place, if there is one, is the next child of a parent that has this many.
+    pub fn is_next_child(&self, parent: usize, births: usize, child: Option<usize>) -> bool
+        requires parent { parent < length self.now }
+        requires child { ForSome child (λ i. i < length self.now) }
+        ensures { result ≡ is_next_child self.now parent births child }
+    {
+        match child {
+            None => false,
+            Some(child) => {
+                self.rows[child].parent == self.rows[parent].tid && self.rank(child) == births
+            }
+        }
     }
 
     /// All rows.

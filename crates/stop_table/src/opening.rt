@@ -69,19 +69,6 @@ pub fn open<A: Allocator + Copy, B: Allocator>(
     Ok(Ends { tracees, tracers })
 }
 
-/// A roster of the same rows.
-fn copy_of<A: Allocator + Copy, B: Allocator>(
-    alloc: A,
-    roster: &Roster<B>,
-) -> Result<Roster<A>, AllocError>
-    ensures { IfOk result (λ copy. copy ≡ roster.now) }
-{
-    match Roster::new(alloc, roster.rows()) {
-        Ok(copy) => Ok(copy),
-        Err(_) => Err(AllocError),
-    }
-}
-
 /// The slots of the rows: the empty record of each at its place.
 fn empty_slots<A: Allocator + Copy>(
     alloc: A,
@@ -118,7 +105,9 @@ fn share<A: Allocator + Copy, B: Allocator>(
     ensures { IfOk result (λ s. DealsRows (arc_value s.0) s.1 0
         × ((arc_value s.0).table.shared.key ≡ roster.now)) }
 {
-    let roster = copy_of(alloc, roster)?;
+    let Ok(roster) = Roster::copy(alloc, roster) else {
+        return Err(AllocError);
+    };
     let words = vec![in alloc; 0_u64; roster.rows().len() * PLACES + 1]?;
     let slots = empty_slots(alloc, &roster)?;
     let Ok((table, seat)) = Table::new(alloc, words.as_slice(), slots, &roster) else {

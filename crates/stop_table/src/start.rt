@@ -10,7 +10,6 @@ ghost use Rattle.stop_table.specs.Start.{IsFinal, StartsAt};
 use crate::cells::{Cells, Seat};
 use crate::group::is_alive;
 use std::alloc::Allocator;
-use stop_history::{parent_place, rank};
 
 /// Whether a row's tracee may begin to run.
 #[derive(Clone, Copy, Debug, PartialEq, Eq, Hash)]
@@ -33,8 +32,7 @@ impl<A: Allocator> Cells<A> {
         ensures answer { StartsAt seat.old.me.0 seat.new.me.0 row result }
         ensures for_good { IsFinal seat.old.me.0.roster seat.new.me.0.seen row result }
     {
-        let rows = self.roster.rows();
-        let Some(parent) = parent_place(rows, row) else {
+        let Some(parent) = self.roster.parent_place(row) else {
             return Start::Born;
         };
         match self.start_of(seat, parent) {
@@ -43,7 +41,7 @@ impl<A: Allocator> Cells<A> {
             Start::Born => {}
         }
         let word = self.see(seat, parent);
-        if rank(rows, row) < usize::from(word.births) {
+        if self.roster.rank(row) < usize::from(word.births) {
             Start::Born
         } else if is_alive(word) {
             Start::NotYet

@@ -28,7 +28,7 @@ use crate::cells::{Cells, Seat};
 use crate::rule::{Claims, Compares, Exits, Looks, Meets, Publishes, Reaps, Resumes, TakesUp};
 use std::alloc::Allocator;
 use std::marker::Model;
-use stop_history::{Phase, Word, claimed, died, parent_place, rank, restarted, taken_up};
+use stop_history::{Phase, Word, claimed, died, restarted, taken_up};
 use trace_record::{Death, Resume};
 
 /// A word that a look found in a row, with its bits, so that an exchange that looks for them need not pack them again.
@@ -83,12 +83,11 @@ impl<A: Allocator> Cells<A> {
             (SawUnborn seat.old.me.0 seat.new.me.0 row) }
         ensures steps { LookedAtParent seat.old.me.0 seat.new.me.0 row }
     {
-        let rows = self.roster.rows();
-        let Some(parent) = parent_place(rows, row) else {
+        let Some(parent) = self.roster.parent_place(row) else {
             return true;
         };
         let births = self.see(seat, parent).births;
-        rank(rows, row) < usize::from(births)
+        self.roster.rank(row) < usize::from(births)
     }
 
     /// Whether a row is born, whose word was seen: a row that is not fresh is, and of a fresh one its parent tells.

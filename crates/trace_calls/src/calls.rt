@@ -57,7 +57,7 @@ impl<A: Allocator + Copy> Calls<A> {
         requires idle { held_rows tracer.view ≡ [] }
         ensures { MatchResult result (λ c. c ≡ handle_of tracer (replicate (length roster.now) 0)) (λ t. t ≡ tracer) }
     {
-        let Ok(copy) = Roster::new(alloc, roster.rows()) else {
+        let Ok(copy) = Roster::copy(alloc, roster) else {
             return Err(tracer);
         };
         let count = roster.len() as usize;

@@ -5,7 +5,6 @@ mod fault;
 mod laws;
 mod map_error;
 mod memory;
-mod no_memory;
 mod pages;
 
 pub use fault::Fault;
@@ -15,7 +14,6 @@ pub use laws::{
 };
 pub use map_error::MapError;
 pub use memory::Memory;
-pub use no_memory::NoMemory;
 pub use pages::{MOST_PAGES, PAGE_SIZE};
 
 #[cfg(test)]

@@ -2,7 +2,7 @@
 
 ghost use Rattle.std.specs.Prelude.{◌≡◌};
 
-use crate::no_memory::NoMemory;
+use trace_options::NoMemory;
 
 /// Why a page was not mapped.
 #[derive(Clone, Copy, Debug, PartialEq, Eq, Hash)]

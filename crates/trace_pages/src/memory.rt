@@ -11,7 +11,7 @@ ghost use Rattle.trace_pages.specs.FlatMemory.{IsPiece, MapsPage, StoresBytes, b
 
 use crate::fault::Fault;
 use crate::map_error::MapError;
-use crate::no_memory::NoMemory;
+use trace_options::NoMemory;
 use crate::pages::{MOST_PAGES, PAGE_SIZE, Page, insert_page, place_of, rest_of_page};
 use std::alloc::{Allocator, Global};
 use std::marker::Model;

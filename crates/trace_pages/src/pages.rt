@@ -7,7 +7,7 @@ ghost use Rattle.std.specs.List.{insert};
 ghost use Rattle.trace_pages.specs.FlatMemory.{IsPiece, StoresBytes, byte_at, zeros};
 ghost use Rattle.trace_pages.specs.Pages.{ArePages, AreRising, HasNoPage, IsPlace, base_of, flat_of, overwritten};
 
-use crate::no_memory::NoMemory;
+use trace_options::NoMemory;
 use std::alloc::Allocator;
 use std::marker::Model;
 

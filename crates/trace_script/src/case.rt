@@ -129,5 +129,5 @@ fn closing_fault<A: Allocator>(draft: &Draft<A>, text: &[u8]) -> Option<CaseErro
             cause: Cause::NoEnd,
         });
     }
-    late_fault(draft.rows.rows(), draft.late.as_slice())
+    late_fault(&draft.rows, draft.late.as_slice())
 }

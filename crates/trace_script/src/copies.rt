@@ -6,7 +6,7 @@ ghost use Rattle.trace_script.specs.Kept.{image_of, step_of, steps_of};
 
 use crate::script::{Image, Step};
 use std::alloc::Allocator;
-use trace_pages::NoMemory;
+use trace_options::NoMemory;
 
 /// A copy of steps.
 pub fn copy_steps<A: Allocator + Copy>(

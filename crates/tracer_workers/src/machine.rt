@@ -6,7 +6,7 @@ ghost use Rattle.tracer_workers.specs.Plan.{opening_of};
 
 use crate::config::Config;
 use std::alloc::Allocator;
-use trace_pages::NoMemory;
+use trace_options::NoMemory;
 use trace_script::{Case, Machine};
 
 /// The machine of a row of a case, before its first stop.

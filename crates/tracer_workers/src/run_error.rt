@@ -1,7 +1,7 @@
 //! Why a run has no text.
 
 use thiserror::Error;
-use trace_pages::NoMemory;
+use trace_options::NoMemory;
 
 /// Why a run of a case has no text. It is displayed as the program says it on standard error.
 #[derive(Clone, Copy, Debug, Drop, Error, PartialEq, Eq)]

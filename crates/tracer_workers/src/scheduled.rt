@@ -41,7 +41,7 @@ use std::alloc::{Allocator, Global};
 use std::marker::Model;
 use stop_board::World;
 use stop_history::{Got, State, TRACERS};
-use trace_pages::NoMemory;
+use trace_options::NoMemory;
 use trace_record::{Death, Kind, Resume, StopRecord};
 use trace_script::{Case, Next};
 

@@ -40,7 +40,7 @@ use std::thread::{Scope, Threads};
 use std::time::Clock;
 use stop_history::{Roster, TRACERS};
 use stop_table::{Tracee, Tracer, open};
-use trace_pages::NoMemory;
+use trace_options::NoMemory;
 use trace_script::Case;
 
 /// The tracees of a case, each with its machine.

@@ -8,8 +8,8 @@ use crate::{Show, piece_of};
 use std::alloc::Global;
 use std::test::Fail;
 use stop_history::LAST_NUMBER;
-use trace_options::CallSet;
-use trace_pages::{Memory, NoMemory};
+use trace_options::{CallSet, NoMemory};
+use trace_pages::Memory;
 use trace_record::Stop;
 
 /// The note of a stop of thread 100 with no memory.

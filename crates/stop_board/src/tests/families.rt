@@ -2,7 +2,7 @@
 
 use crate::tests::rows::{ROOT, THREAD, roots, row};
 use std::test::Fail;
-use stop_history::{Roster, RosterError, Row, is_leader, parent_place, rank};
+use stop_history::{Roster, RosterError, Row, is_leader};
 
 /// A root with two threads, a forked child of the first of them, and another root.
 fn family() -> [Row; 5] {
@@ -16,8 +16,14 @@ fn family() -> [Row; 5] {
 }
 
 #[test]
-fn each_row_has_its_parent_its_rank_and_its_leader(rt: HostRuntime) {
-    let rows = family();
+fn each_row_has_its_parent_its_rank_and_its_leader(rt: HostRuntime) -> Result<(), Fail> {
+    let made = Roster::new(rt.alloc(), &family())?;
+    let mut grown = Roster::empty(rt.alloc());
+    for row in family() {
+        grown.push(row)?;
+    }
+    let copied = Roster::copy(rt.alloc(), &grown)?;
+    assert_eq!(rt; copied.rows(), family().as_slice());
     for (at, parent, place, leads) in [
         (0usize, None, 0usize, true),
         (1, Some(0usize), 0, false),
@@ -25,12 +31,15 @@ fn each_row_has_its_parent_its_rank_and_its_leader(rt: HostRuntime) {
         (3, None, 1, true),
         (4, Some(0), 1, false),
     ] {
-        if at < rows.len() {
-            assert_eq!(rt; parent_place(&rows, at), parent, "{at}");
-            assert_eq!(rt; rank(&rows, at), place, "{at}");
-            assert_eq!(rt; is_leader(rows[at]), leads, "{at}");
+        for roster in [&made, &grown, &copied] {
+            if at < roster.rows().len() {
+                assert_eq!(rt; roster.parent_place(at), parent, "{at}");
+                assert_eq!(rt; roster.rank(at), place, "{at}");
+                assert_eq!(rt; is_leader(roster.rows()[at]), leads, "{at}");
+            }
         }
     }
+    Ok(())
 }
 
 #[test]

@@ -85,7 +85,7 @@ impl<A: Allocator> World<A> {
     fn actor_of_tracer(&self, tracer: u8) -> u32
         ensures { result ≡ length self.now.rows + tracer }
     {
-        self.rows.len() as u32 + u32::from(tracer)
+        self.roster.len() + u32::from(tracer)
     }
 }
 

@@ -16,29 +16,28 @@ ghost use Rattle.trace_record.specs.Stop.{IsStop};
 use super::action::{Action, Reply};
 use super::look_at;
 use crate::words::{exit_running, publish_running, running, state_of};
-use stop_history::{Phase, Refused, Row, Word, restart_in, taken_up};
+use stop_history::{Phase, Refused, Roster, Word, restart_in, taken_up};
 use trace_record::{Death, Resume, Stop};
 
 /// A step of the tracee of a row.
 #[inline(always)]
-pub(crate) fn tracee_step(rows: &[Row], words: &mut [Word], row: u32, action: Action) -> Reply
-    requires words { length words.old ≡ length rows.now }
-    requires roster { IsRoster rows.now }
+pub(crate) fn tracee_step<A: Allocator>(roster: &Roster<A>, words: &mut [Word], row: u32, action: Action) -> Reply
+    requires words { length words.old ≡ length roster.now }
     requires action { IsAction action }
-    ensures reply { TraceeReplies rows.now (sight_by rows.now words.old) row action result }
+    ensures reply { TraceeReplies roster.now (sight_by roster.now words.old) row action result }
     ensures words { words.new ≡ words_with (tracee_change row action result) words.old }
 {
     match action {
-        Action::Look(other) => look_at(rows, words, other),
-        Action::TakeUp => match take_up_at(rows, words, row) {
+        Action::Look(other) => look_at(roster, words, other),
+        Action::TakeUp => match take_up_at(roster, words, row) {
             Ok(how) => Reply::Took(how),
             Err(refusal) => Reply::Refused(refusal),
         },
-        Action::Publish(stop) => match publish_taken(rows, words, row, stop) {
+        Action::Publish(stop) => match publish_taken(roster, words, row, stop) {
             Ok(number) => Reply::Number(number),
             Err(refusal) => Reply::Refused(refusal),
         },
-        Action::Exit(death) => match exit_taken(rows, words, row, death) {
+        Action::Exit(death) => match exit_taken(roster, words, row, death) {
             Ok(()) => Reply::Done,
             Err(refusal) => Reply::Refused(refusal),
         },
@@ -47,13 +46,13 @@ pub(crate) fn tracee_step(rows: &[Row], words: &mut [Word], row: u32, action: Ac
 }
 
 /// Takes a running row up: its tracee runs on by the restart that it is given.
-fn take_up_at(rows: &[Row], words: &mut [Word], row: u32) -> Result<Resume, Refused>
-    requires { length words.old ≡ length rows.now }
+fn take_up_at<A: Allocator>(roster: &Roster<A>, words: &mut [Word], row: u32) -> Result<Resume, Refused>
+    requires { length words.old ≡ length roster.now }
     ensures answer { result
-        ≡ and_then (running_by (state_by rows.now words.old row)) (restart_in (word_at words.old row).phase) }
+        ≡ and_then (running_by (state_by roster.now words.old row)) (restart_in (word_at words.old row).phase) }
     ensures words { words.new ≡ with_word result words.old row (taken_up (word_at words.old row)) }
 {
-    running(state_of(rows, words, row))?;
+    running(state_of(roster, words, row))?;
     let at = row as usize;
     let word = words[at];
     let how = restart_in(word.phase)?;
@@ -63,39 +62,37 @@ fn take_up_at(rows: &[Row], words: &mut [Word], row: u32) -> Result<Resume, Refu
 }
 
 /// Publishes the next stop of a row that its tracee has taken up.
-fn publish_taken(rows: &[Row], words: &mut [Word], row: u32, stop: Stop) -> Result<u32, Refused>
-    requires words { length words.old ≡ length rows.now }
+fn publish_taken<A: Allocator>(roster: &Roster<A>, words: &mut [Word], row: u32, stop: Stop) -> Result<u32, Refused>
+    requires words { length words.old ≡ length roster.now }
     requires stop { IsStop stop }
-    requires roster { IsRoster rows.now }
     ensures answer { result
-        ≡ and_then (taken_by (state_by rows.now words.old row) (is_active (word_at words.old row).phase))
-        (next_number (creates_next rows.now row (word_at words.old row).births stop) (word_at words.old row).number) }
+        ≡ and_then (taken_by (state_by roster.now words.old row) (is_active (word_at words.old row).phase))
+        (next_number (creates_next roster.now row (word_at words.old row).births stop) (word_at words.old row).number) }
     ensures words { words.new ≡ with_word result words.old row (published (word_at words.old row) stop) }
 {
-    taken(rows, words, row)?;
-    publish_running(rows, words, row, stop)
+    taken(roster, words, row)?;
+    publish_running(roster, words, row, stop)
 }
 
 /// Lets a row exit that its tracee has taken up.
-fn exit_taken(rows: &[Row], words: &mut [Word], row: u32, death: Death) -> Result<(), Refused>
-    requires words { length words.old ≡ length rows.now }
-    requires roster { IsRoster rows.now }
+fn exit_taken<A: Allocator>(roster: &Roster<A>, words: &mut [Word], row: u32, death: Death) -> Result<(), Refused>
+    requires words { length words.old ≡ length roster.now }
     requires death { IsDeath death }
     ensures answer { result
-        ≡ and_then (taken_by (state_by rows.now words.old row) (is_active (word_at words.old row).phase))
-        (unless_held (holding_back rows.now (state_by rows.now words.old) row)) }
+        ≡ and_then (taken_by (state_by roster.now words.old row) (is_active (word_at words.old row).phase))
+        (unless_held (holding_back roster.now (state_by roster.now words.old) row)) }
     ensures words { words.new ≡ with_word result words.old row (died (word_at words.old row) death) }
 {
-    taken(rows, words, row)?;
-    exit_running(rows, words, row, death)
+    taken(roster, words, row)?;
+    exit_running(roster, words, row, death)
 }
 
 /// Whether a row runs and its tracee has taken it up, or why not.
-fn taken(rows: &[Row], words: &[Word], row: u32) -> Result<(), Refused>
-    requires { length words.now ≡ length rows.now }
-    ensures { result ≡ taken_by (state_by rows.now words.now row) (is_active (word_at words.now row).phase) }
+fn taken<A: Allocator>(roster: &Roster<A>, words: &[Word], row: u32) -> Result<(), Refused>
+    requires { length words.now ≡ length roster.now }
+    ensures { result ≡ taken_by (state_by roster.now words.now row) (is_active (word_at words.now row).phase) }
 {
-    running(state_of(rows, words, row))?;
+    running(state_of(roster, words, row))?;
     let word = words[row as usize];
     match word.phase {
         Phase::Active => Ok(()),

@@ -14,31 +14,31 @@ ghost use Rattle.stop_board.specs.World.{last_seen, seen_place, sight_by};
 use super::action::{Action, Reply};
 use super::look_at;
 use crate::words::{resume_at, state_of};
-use stop_history::{Phase, Refused, Row, State, Word, claimed};
+use stop_history::{Phase, Refused, Roster, State, Word, claimed};
 
 /// A step of a tracer, by the words that each tracer last saw in each row.
 #[inline(always)]
-pub(crate) fn tracer_step(
-    rows: &[Row],
+pub(crate) fn tracer_step<A: Allocator>(
+    roster: &Roster<A>,
     words: &mut [Word],
     seen: &[Word],
     tracer: u32,
     action: Action,
 ) -> Reply
-    requires words { length words.old ≡ length rows.now }
-    requires few { length rows.now ≤ MOST_ROWS }
+    requires words { length words.old ≡ length roster.now }
+    requires few { length roster.now ≤ MOST_ROWS }
     requires tracer { tracer < TRACERS }
-    requires seen { tracer * length rows.now + length rows.now ≤ length seen.now }
+    requires seen { tracer * length roster.now + length roster.now ≤ length seen.now }
     requires action { IsAction action }
-    ensures reply { TracerReplies rows.now (sight_by rows.now words.old)
-        (last_seen rows.now seen.now tracer) tracer action result }
+    ensures reply { TracerReplies roster.now (sight_by roster.now words.old)
+        (last_seen roster.now seen.now tracer) tracer action result }
     ensures words { words.new ≡ words_with (tracer_change (word_at words.old) tracer action result) words.old }
-    ensures row { ForSome (row_seen action result) (λ row. row < length rows.now) }
+    ensures row { ForSome (row_seen action result) (λ row. row < length roster.now) }
 {
     match action {
-        Action::Look(row) => look_at(rows, words, row),
-        Action::Claim(row) => claim_seen(rows, words, seen, row, tracer),
-        Action::Resume(row, how) => match resume_at(rows, words, row, tracer, how) {
+        Action::Look(row) => look_at(roster, words, row),
+        Action::Claim(row) => claim_seen(roster, words, seen, row, tracer),
+        Action::Resume(row, how) => match resume_at(roster, words, row, tracer, how) {
             Ok(()) => Reply::Done,
             Err(refusal) => Reply::Refused(refusal),
         },
@@ -47,25 +47,25 @@ pub(crate) fn tracer_step(
 }
 
 /// Claims a row for a tracer, if its word is still the one that the tracer last saw there.
-fn claim_seen(rows: &[Row], words: &mut [Word], seen: &[Word], row: u32, tracer: u32) -> Reply
-    requires words { length words.old ≡ length rows.now }
-    requires few { length rows.now ≤ MOST_ROWS }
+fn claim_seen<A: Allocator>(roster: &Roster<A>, words: &mut [Word], seen: &[Word], row: u32, tracer: u32) -> Reply
+    requires words { length words.old ≡ length roster.now }
+    requires few { length roster.now ≤ MOST_ROWS }
     requires tracer { tracer < TRACERS }
-    requires seen { tracer * length rows.now + length rows.now ≤ length seen.now }
-    ensures reply { ClaimReplies (state_by rows.now words.old row) (last_seen rows.now seen.now tracer row)
+    requires seen { tracer * length roster.now + length roster.now ≤ length seen.now }
+    ensures reply { ClaimReplies (state_by roster.now words.old row) (last_seen roster.now seen.now tracer row)
         (word_at words.old row) result }
     ensures words { words.new
         ≡ words_with (tracer_change (word_at words.old) tracer (action.Claim row) result) words.old }
 {
-    let at = row as usize;
-    if at >= rows.len() {
+    if row >= roster.len() {
         return Reply::Refused(Refused::NoRow);
     }
-    if state_of(rows, words, row) == State::Unborn {
+    if state_of(roster, words, row) == State::Unborn {
         return Reply::Refused(Refused::Unborn);
     }
+    let at = row as usize;
     let now = words[at];
-    let reply = exchange(seen[seen_place(rows, tracer, row)], now);
+    let reply = exchange(seen[seen_place(roster, tracer, row)], now);
     if let Reply::Got(_) = reply {
         // The claim happens here: the word is the one that the tracer saw, so nobody has claimed it since.
         words[at] = claimed(now, tracer as u8);
@@ -74,12 +74,12 @@ fn claim_seen(rows: &[Row], words: &mut [Word], seen: &[Word], row: u32, tracer:
 }
 
 /// The place of the word that a tracer last saw in a row: tracer by tracer, and row by row.
-pub(crate) fn seen_place(rows: &[Row], tracer: u32, row: u32) -> usize
-    requires few { length rows.now ≤ MOST_ROWS }
+pub(crate) fn seen_place<A: Allocator>(roster: &Roster<A>, tracer: u32, row: u32) -> usize
+    requires few { length roster.now ≤ MOST_ROWS }
     requires tracer { tracer < TRACERS }
-    ensures { result ≡ seen_place rows.now tracer row }
+    ensures { result ≡ seen_place roster.now tracer row }
 {
-    tracer as usize * rows.len() + row as usize
+    tracer as usize * roster.rows().len() + row as usize
 }
 
 /// What a claim that expects the word last seen says where it finds another one, or the same.

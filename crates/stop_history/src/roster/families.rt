@@ -1,11 +1,26 @@
 //! What the rows of a roster are to each other: a row's parent, its rank among its parent's rows, its group's leader.
 
-ghost use Rattle.std.specs.Option.{ForSome};
-ghost use Rattle.std.specs.Prelude.{◌≡◌, ◌<◌, IfSome, length};
-ghost use Rattle.stop_history.specs.History.{is_next_child};
-ghost use Rattle.stop_history.specs.Roster.{is_leader, is_root, parent_of, rank_of, row_of};
+ghost use Rattle.std.specs.Prelude.{◌≡◌, ◌<◌, ◌≤◌, IfSome, length};
+ghost use Rattle.stop_history.specs.declared.limits.TheConstants.{MOST_ROWS};
+ghost use Rattle.stop_history.specs.Roster.{HasFamilies, family_of, is_leader, is_root, parent_of, rank_of, row_of};
 
 use super::Row;
+use crate::limits::MOST_ROWS;
+
+/// What a row is to the rows before it.
+#[derive(Clone, Copy)]
+pub(super) struct Family {
+    /// The place of its parent; a root has none.
+    pub(super) parent: Option<u8>,
+    /// How many rows before it have the same parent.
+    pub(super) rank: u8,
+}
+
+/// The families of no rows.
+pub(super) const NO_FAMILIES: [Family; MOST_ROWS] = [Family {
+    parent: None,
+    rank: 0,
+}; MOST_ROWS];
 
 /// Whether a row has no parent.
 pub(super) fn is_root(row: Row) -> bool
@@ -29,36 +44,49 @@ pub fn place_of(rows: &[Row], tid: u32) -> Option<usize>
     rows.iter().position(|q| q.tid == tid)
 }
 
+/// What each of these rows is to the others.
+pub(super) fn families_of(rows: &[Row]) -> [Family; MOST_ROWS]
+    requires { length rows.now ≤ MOST_ROWS }
+    ensures { HasFamilies rows.now result }
+{
+    let mut families = NO_FAMILIES;
+    for at in 0..rows.len() {
+        families[at] = family_of(rows, at);
+    }
+    families
+}
+
+/// What a row is to the rows before it.
+pub(super) fn family_of(rows: &[Row], at: usize) -> Family
+    requires few { length rows.now ≤ MOST_ROWS }
+    requires row { at < length rows.now }
+    ensures { result ≡ family_of rows.now at }
+{
+    Family {
+        parent: parent_of(rows, at),
+        rank: rank_of(rows, at) as u8,
+    }
+}
+
 /// The place of a row's parent.
-pub fn parent_place(rows: &[Row], at: usize) -> Option<usize>
-    requires { at < length rows.now }
+fn parent_of(rows: &[Row], at: usize) -> Option<u8>
+    requires few { length rows.now ≤ MOST_ROWS }
+    requires row { at < length rows.now }
     ensures { result ≡ parent_of rows.now at }
 {
     let row = rows[at];
     if is_root(row) {
-        None
-    } else {
-        place_of(rows, row.parent)
+        return None;
     }
+    Some(place_of(rows, row.parent)? as u8)
 }
 
 /// A row's place among the rows of its parent.
-pub fn rank(rows: &[Row], at: usize) -> usize
-    requires { at < length rows.now }
-    ensures { result ≡ rank_of rows.now at }
+fn rank_of(rows: &[Row], at: usize) -> usize
+    requires row { at < length rows.now }
+    ensures rank { result ≡ rank_of rows.now at }
+    ensures few { result ≤ at }
 {
     let parent = rows[at].parent;
     rows[..at].iter().filter(|q| q.parent == parent).count()
-}
-
-/// Whether the row at a place, if there is one, is the next child of a parent that has this many.
-pub fn is_next_child(rows: &[Row], parent: usize, births: usize, child: Option<usize>) -> bool
-    requires parent { parent < length rows.now }
-    requires child { ForSome child (λ i. i < length rows.now) }
-    ensures { result ≡ is_next_child rows.now parent births child }
-{
-    match child {
-        None => false,
-        Some(child) => { rows[child].parent == rows[parent].tid && rank(rows, child) == births }
-    }
 }

@@ -7,7 +7,8 @@ use mem_views::{Cut, End, Views};
 use refusing_allocator::RefusingAllocator;
 use std::alloc::{Allocator, Global};
 use std::test::Fail;
-use trace_pages::{MapError, Memory, NoMemory};
+use trace_options::NoMemory;
+use trace_pages::{MapError, Memory};
 use trace_record::StopRecord;
 
 /// Maps the pages 0 to 63, and answers the first that was refused for lack of memory, or 64.

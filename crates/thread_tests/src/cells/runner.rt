@@ -9,7 +9,7 @@ ghost use Rattle.stop_table.specs.Entry.{cell_after};
 
 use std::alloc::{Allocator, Global};
 use std::test::Fail;
-use stop_history::{LAST_NUMBER, Roster, is_next_child, place_of};
+use stop_history::{LAST_NUMBER, Roster, place_of};
 use stop_table::{
     GroupAlive, Start, Tracee, a_record_is_its_rows, stops_are_counted_by_their_tracee,
 };
@@ -117,13 +117,15 @@ fn may_make<A: Allocator>(roster: &Roster<A>, row: u32, births: usize, stop: Sto
     requires { row < length roster.now }
     ensures { result ≡ true → IsStop stop × (creates_next roster.now row births stop ≡ true) }
 {
-    let rows = roster.rows();
     if let Stop::Signal(_) = stop {
         return false;
     }
     match stop.child() {
         None => true,
-        Some(tid) => is_next_child(rows, row as usize, births, place_of(rows, tid)),
+        Some(tid) => {
+            let child = place_of(roster.rows(), tid);
+            roster.is_next_child(row as usize, births, child)
+        }
     }
 }
 

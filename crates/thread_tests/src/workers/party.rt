@@ -12,8 +12,7 @@ ghost use Rattle.tracer_workers.specs.Threaded.{CanRun};
 
 use std::alloc::Allocator;
 use stop_table::{Tracee, Tracer, open};
-use trace_options::{Filter, Options, check};
-use trace_pages::NoMemory;
+use trace_options::{Filter, NoMemory, Options, check};
 use trace_script::{Case, Machine};
 
 /// A tracee, and the machine of its row before its first stop.

@@ -19,7 +19,7 @@ use crate::limits::MOST_STEPS;
 use crate::script::{Call, Fill, Image, Script, Step};
 use crate::signals::can_arrive;
 use std::alloc::Allocator;
-use trace_pages::NoMemory;
+use trace_options::NoMemory;
 
 /// A script so far.
 #[derive(Drop)]

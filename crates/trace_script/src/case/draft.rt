@@ -20,7 +20,7 @@ use crate::script::Script;
 use std::alloc::Allocator;
 use std::mem;
 use stop_history::{Roster, Row};
-use trace_pages::NoMemory;
+use trace_options::NoMemory;
 
 /// What was read so far.
 #[derive(Drop)]

@@ -14,7 +14,8 @@ use crate::case::raw_line::RawPart;
 use crate::cause::Cause;
 use crate::script::{Image, Script, Step};
 use std::alloc::Allocator;
-use trace_pages::{MapError, Memory, NoMemory, PAGE_SIZE};
+use trace_options::NoMemory;
+use trace_pages::{MapError, Memory, PAGE_SIZE};
 
 /// A program of no page, whose registers are 0.
 pub fn no_image<A: Allocator + Copy>(alloc: A) -> Image<A>

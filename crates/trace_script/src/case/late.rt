@@ -8,7 +8,8 @@ ghost use Rattle.trace_script.specs.CaseFile.{unless};
 ghost use Rattle.trace_script.specs.declared.cause.Cause.TheVariants as cause;
 
 use crate::cause::{CaseError, Cause};
-use stop_history::{Row, is_leader, is_next_child, place_of};
+use std::alloc::Allocator;
+use stop_history::{Roster, is_leader, place_of};
 
 /// What a late step does.
 #[derive(Clone, Copy, Debug, PartialEq, Eq)]
@@ -32,12 +33,12 @@ pub struct Late {
 }
 
 /// The first fault of the late steps, with its line.
-pub fn late_fault(rows: &[Row], late: &[Late]) -> Option<CaseError>
-    requires { All (λ l. l.row < length rows.now) late.now }
-    ensures { result ≡ late_fault rows.now late.now }
+pub fn late_fault<A: Allocator>(roster: &Roster<A>, late: &[Late]) -> Option<CaseError>
+    requires { All (λ l. l.row < length roster.now) late.now }
+    ensures { result ≡ late_fault roster.now late.now }
 {
     for step in late {
-        if let Some(cause) = late_cause(rows, *step) {
+        if let Some(cause) = late_cause(roster, *step) {
             return Some(CaseError {
                 line: step.line,
                 cause,
@@ -48,17 +49,17 @@ pub fn late_fault(rows: &[Row], late: &[Late]) -> Option<CaseError>
 }
 
 /// Why a late step cannot be.
-fn late_cause(rows: &[Row], late: Late) -> Option<Cause>
-    requires { late.row < length rows.now }
-    ensures { result ≡ late_cause rows.now late }
+fn late_cause<A: Allocator>(roster: &Roster<A>, late: Late) -> Option<Cause>
+    requires { late.row < length roster.now }
+    ensures { result ≡ late_cause roster.now late }
 {
     let row = late.row as usize;
     let births = late.births as usize;
     match late.step {
-        LateStep::Fork(child) => fork_fault(rows, row, births, place_of(rows, child)),
-        LateStep::Thread(child) => thread_fault(rows, row, births, place_of(rows, child)),
+        LateStep::Fork(child) => fork_fault(roster, row, births, place_of(roster.rows(), child)),
+        LateStep::Thread(child) => thread_fault(roster, row, births, place_of(roster.rows(), child)),
         LateStep::Exec => {
-            if is_alone(rows, row) {
+            if is_alone(roster, row) {
                 None
             } else {
                 Some(Cause::SharedExec)
@@ -68,42 +69,42 @@ fn late_cause(rows: &[Row], late: Late) -> Option<Cause>
 }
 
 /// Why a fork cannot create the row at a place, as the next child of a parent that has this many.
-fn fork_fault(rows: &[Row], parent: usize, births: usize, child: Option<usize>) -> Option<Cause>
-    requires parent { parent < length rows.now }
-    requires child { ForSome child (λ i. i < length rows.now) }
-    ensures { result ≡ fork_fault rows.now parent births child }
+fn fork_fault<A: Allocator>(roster: &Roster<A>, parent: usize, births: usize, child: Option<usize>) -> Option<Cause>
+    requires parent { parent < length roster.now }
+    requires child { ForSome child (λ i. i < length roster.now) }
+    ensures { result ≡ fork_fault roster.now parent births child }
 {
     let Some(at) = child else {
         return Some(Cause::NoSuchTracee);
     };
-    if !is_leader(rows[at]) {
+    if !is_leader(roster.rows()[at]) {
         return Some(Cause::GroupMismatch);
     }
-    order_fault(rows, parent, births, at)
+    order_fault(roster, parent, births, at)
 }
 
 /// Why the clone of a thread cannot create the row at a place.
-fn thread_fault(rows: &[Row], parent: usize, births: usize, child: Option<usize>) -> Option<Cause>
-    requires parent { parent < length rows.now }
-    requires child { ForSome child (λ i. i < length rows.now) }
-    ensures { result ≡ thread_fault rows.now parent births child }
+fn thread_fault<A: Allocator>(roster: &Roster<A>, parent: usize, births: usize, child: Option<usize>) -> Option<Cause>
+    requires parent { parent < length roster.now }
+    requires child { ForSome child (λ i. i < length roster.now) }
+    ensures { result ≡ thread_fault roster.now parent births child }
 {
     let Some(at) = child else {
         return Some(Cause::NoSuchTracee);
     };
-    if is_leader(rows[at]) {
+    if is_leader(roster.rows()[at]) {
         return Some(Cause::GroupMismatch);
     }
-    order_fault(rows, parent, births, at)
+    order_fault(roster, parent, births, at)
 }
 
 /// The row at a place has to be the next child.
-fn order_fault(rows: &[Row], parent: usize, births: usize, child: usize) -> Option<Cause>
-    requires parent { parent < length rows.now }
-    requires child { child < length rows.now }
-    ensures { result ≡ unless (is_next_child rows.now parent births (Some child)) cause.ChildOrder }
+fn order_fault<A: Allocator>(roster: &Roster<A>, parent: usize, births: usize, child: usize) -> Option<Cause>
+    requires parent { parent < length roster.now }
+    requires child { child < length roster.now }
+    ensures { result ≡ unless (is_next_child roster.now parent births (Some child)) cause.ChildOrder }
 {
-    if is_next_child(rows, parent, births, Some(child)) {
+    if roster.is_next_child(parent, births, Some(child)) {
         None
     } else {
         Some(Cause::ChildOrder)
@@ -111,10 +112,11 @@ fn order_fault(rows: &[Row], parent: usize, births: usize, child: usize) -> Opti
 }
 
 /// Whether a row's thread group has no other row.
-fn is_alone(rows: &[Row], row: usize) -> bool
-    requires { row < length rows.now }
-    ensures { result ≡ is_alone rows.now row }
+fn is_alone<A: Allocator>(roster: &Roster<A>, row: usize) -> bool
+    requires { row < length roster.now }
+    ensures { result ≡ is_alone roster.now row }
 {
+    let rows = roster.rows();
     let tgid = rows[row].tgid;
     rows.iter().filter(|q| q.tgid == tgid).count() <= 1
 }

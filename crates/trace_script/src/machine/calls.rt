@@ -27,8 +27,7 @@ use crate::script::{Image, Script, Step};
 use crate::setting::Setting;
 use crate::steps_run::run_steps;
 use std::alloc::Allocator;
-use trace_options::{Filter, Options};
-use trace_pages::NoMemory;
+use trace_options::{Filter, NoMemory, Options};
 use trace_record::{Death, Resume, Stop, StopRecord};
 
 impl<A: Allocator + Copy> Machine<A> {

@@ -12,7 +12,7 @@ use crate::config::Config;
 use crate::machine::new_machine;
 use std::alloc::{Allocator, Global};
 use std::marker::Model;
-use trace_pages::NoMemory;
+use trace_options::NoMemory;
 use trace_record::{Resume, StopRecord};
 use trace_script::{Case, Machine, Next};
 

@@ -6,7 +6,7 @@ use Rattle.stop_board.proofs.words.creates_next.Goals as goal
 
 pub returns-in-Some-clause-few : goal.returns-in-Some-clause-few
 returns-in-Some-clause-few c = λ next child.
-    next_is_few c.args.rows.now c.requires.roster c.args.at c.args.births c.requires.row c.in-Some.tid
-    (ap (is_next_child c.args.rows.now c.args.at c.args.births) (sym c.place_of.ensures.place)
-    ∙ ap (λ births. is_next_child c.args.rows.now c.args.at births c.place_of.result) (sym c.from.ensures)
+    next_is_few c.args.roster.now c.requires.roster c.args.at c.args.births c.requires.row c.in-Some.tid
+    (ap (is_next_child c.args.roster.now c.args.at c.args.births) (sym c.place_of.ensures.place)
+    ∙ ap (λ births. is_next_child c.args.roster.now c.args.at births c.place_of.result) (sym c.from.ensures)
     ∙ sym c.is_next_child.ensures ∙ next)

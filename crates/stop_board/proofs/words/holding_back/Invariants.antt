@@ -8,5 +8,5 @@ use Rattle.stop_board.proofs.words.holding_back.Given as goal
 -- no row so far holds the leader back
 abbrev pub invariant-loop-other : goal.invariant-loop-other
 invariant-loop-other l =
-    let test = holds_back l.rows (state_by l.rows l.words) l.at in
-    find test (range_with_len 0 (length l.rows)) ≡ find test (range_with_len l.other (length l.rows - l.other))
+    let test = holds_back l.roster (state_by l.roster l.words) l.at in
+    find test (range_with_len 0 (length l.roster)) ≡ find test (range_with_len l.other (length l.roster - l.other))

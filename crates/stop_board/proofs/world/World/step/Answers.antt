@@ -8,21 +8,20 @@ use Rattle.stop_board.proofs.world.World.step.Goals as goal
 
 pub step_of-requires-clause-actor : goal.step_of-requires-clause-actor
 step_of-requires-clause-actor g c =
-    rw (c.actor_of-actor.ensures, c.as_slice-rows.ensures.value, c.as_mut_slice-2.ensures.value) (
-    has_place (length c.self.inside.rows.items) c.self.inside.tracers c.args.actor
+    rw (c.actor_of-actor.ensures, c.as_mut_slice-2.ensures.value) (
+    has_place (length c.self.inside.roster) c.self.inside.tracers c.args.actor
     (length c.self.inside.seen.items) c.self.invariant.few c.self.invariant.each)
 
 pub returns-clause-reply : goal.returns-clause-reply
 returns-clause-reply g c = λ m s.
     let at = rw (← c.self.view_is) at s in
     rw (← c.self.view_is) (
-    replies_at c.self.inside.rows.items c.self.inside.words.items c.self.inside.seen.items c.self.inside.tracers m
+    replies_at c.self.inside.roster c.self.inside.words.items c.self.inside.seen.items c.self.inside.tracers m
     at.0 c.self.invariant.held.each c.self.invariant.held.roster at.1
-    (numbered_actor (length c.self.inside.rows.items) c.self.inside.tracers c.args.actor)
-    (among_tracers (length c.self.inside.rows.items) c.self.inside.tracers c.args.actor) c.args.action c.step_of.result
+    (numbered_actor (length c.self.inside.roster) c.self.inside.tracers c.args.actor)
+    (among_tracers (length c.self.inside.roster) c.self.inside.tracers c.args.actor) c.args.action c.step_of.result
     (rw (
       c.actor_of-actor.ensures,
-      c.as_slice-rows.ensures.value,
       c.as_mut_slice.ensures.value,
       c.as_mut_slice-2.ensures.value,
     ) at c.step_of.ensures.reply))
@@ -33,20 +32,20 @@ returns-clause-stands g c = λ m s.
     let long : length c.step_of.new.words
     ≡ c.self.inside.words.len = omega (arith, c.step_of.auto.words, c.as_mut_slice.ensures.len) in
     rw (← c.self.view_is) (
-    stands_after_step c.self.inside.rows.items c.self.inside.words.items _ m at.0 c.self.invariant.held.each
-    (numbered_actor (length c.self.inside.rows.items) c.self.inside.tracers c.args.actor) c.args.action c.step_of.result
+    stands_after_step c.self.inside.roster c.self.inside.words.items _ m at.0 c.self.invariant.held.each
+    (numbered_actor (length c.self.inside.roster) c.self.inside.tracers c.args.actor) c.args.action c.step_of.result
     (rw (← c.self.view_is) at (returns-clause-reply g c m s))
     (with_items_is c.self.inside.words c.step_of.new.words long
-    ∙ rw (c.actor_of-actor.ensures, c.as_slice-rows.ensures.value, c.as_mut_slice.ensures.value) at
+    ∙ rw (c.actor_of-actor.ensures, c.as_mut_slice.ensures.value) at
     c.step_of.ensures.words))
 
 pub returns-clause-seen : goal.returns-clause-seen
 returns-clause-seen g c = λ m s.
     let at = rw (← c.self.view_is) at s in
-    let who = numbered_actor (length c.self.inside.rows.items) c.self.inside.tracers c.args.actor in
+    let who = numbered_actor (length c.self.inside.roster) c.self.inside.tracers c.args.actor in
     let long : length c.step_of.new.seen
     ≡ c.self.inside.seen.len = omega (arith, c.step_of.auto.seen, c.as_mut_slice-2.ensures.len) in
-    let each : length c.step_of.new.words ≡ length c.self.inside.rows.items =
+    let each : length c.step_of.new.words ≡ length c.self.inside.roster =
     omega (
       arith,
       c.step_of.auto.words,
@@ -54,15 +53,15 @@ returns-clause-seen g c = λ m s.
       c.self.invariant.held.each,
       c.self.inside.words.ok.0,
     ) in
-    let new = stands_after_step c.self.inside.rows.items c.self.inside.words.items c.step_of.new.words m at.0
+    let new = stands_after_step c.self.inside.roster c.self.inside.words.items c.step_of.new.words m at.0
     c.self.invariant.held.each who c.args.action c.step_of.result
     (rw (← c.self.view_is) at (returns-clause-reply g c m s))
-    (rw (c.actor_of-actor.ensures, c.as_slice-rows.ensures.value, c.as_mut_slice.ensures.value) at
+    (rw (c.actor_of-actor.ensures, c.as_mut_slice.ensures.value) at
     c.step_of.ensures.words) in
     rw (← c.self.view_is, with_items_is c.self.inside.seen c.step_of.new.seen long) (
-    seen_after_step c.self.inside.rows.items c.self.inside.tracers c.step_of.new.words c.self.inside.seen.items
+    seen_after_step c.self.inside.roster c.self.inside.tracers c.step_of.new.words c.self.inside.seen.items
     c.step_of.new.seen _ _ new each m.seen c.self.invariant.each at.1 who
-    (among_tracers (length c.self.inside.rows.items) c.self.inside.tracers c.args.actor) c.args.action c.step_of.result
+    (among_tracers (length c.self.inside.roster) c.self.inside.tracers c.args.actor) c.args.action c.step_of.result
     (rw c.as_slice-rows.ensures.value at c.step_of.ensures.row)
-    (rw (c.actor_of-actor.ensures, c.as_slice-rows.ensures.value, c.as_mut_slice-2.ensures.value) at
+    (rw (c.actor_of-actor.ensures, c.as_mut_slice-2.ensures.value) at
     c.step_of.ensures.seen))

@@ -13,14 +13,14 @@ use Rattle.stop_table.proofs.cells.Cells.+start_of.Goals as goal
 pub returns-in_default-clause-answer : goal.returns-in_default-clause-answer
 returns-in_default-clause-answer g t c =
     let r = c.requires in
-    let rows = c.rows-rows.ensures.rows ∙ sym c.args.self.now.same ∙ sym r.0.1 in
+    let rows = sym c.args.self.now.same ∙ sym r.0.1 in
     root_starts c.args.seat.now.me.0 c.args.row
     (ap (λ rs. parent_of rs c.args.row) (sym rows) ∙ sym c.parent_place.ensures ∙ c.in_default.is)
 
 pub start_of-requires : goal.start_of-requires
 start_of-requires g t c κs within =
     let r = c.requires in
-    let rows = c.rows-rows.ensures.rows ∙ sym c.args.self.now.same ∙ sym r.0.1 in
+    let rows = sym c.args.self.now.same ∙ sym r.0.1 in
     let of_parent = ap (λ rs. parent_of rs c.args.row) (sym rows) ∙ sym c.parent_place.ensures ∙ c.in-Some.is in
     let before = ((placed c.args.seat.now.me.0.roster r.3 c.args.row r.1).child c.in-Some.parent of_parent).0 in (
       omega (arith, before, c.decreases),
@@ -33,7 +33,7 @@ start_of-requires g t c κs within =
 pub returns-in-NotYet-clause-answer : goal.returns-in-NotYet-clause-answer
 returns-in-NotYet-clause-answer g t c =
     let r = c.requires in
-    let rows = c.rows-rows.ensures.rows ∙ sym c.args.self.now.same ∙ sym r.0.1 in
+    let rows = sym c.args.self.now.same ∙ sym r.0.1 in
     let of_parent = ap (λ rs. parent_of rs c.args.row) (sym rows) ∙ sym c.parent_place.ensures ∙ c.in-Some.is in
     starts_below c.args.seat.now.me.0 c.start_of.new.seat.me.0 c.args.row c.in-Some.parent start.NotYet r.3
     (legal_after c.args.seat.now.me.0 c.start_of.new.seat.me.0 c.start_of.ensures.seat.2) r.1 of_parent (λ e. cc)
@@ -43,7 +43,7 @@ returns-in-NotYet-clause-answer g t c =
 pub returns-in-Never-clause-answer : goal.returns-in-Never-clause-answer
 returns-in-Never-clause-answer g t c =
     let r = c.requires in
-    let rows = c.rows-rows.ensures.rows ∙ sym c.args.self.now.same ∙ sym r.0.1 in
+    let rows = sym c.args.self.now.same ∙ sym r.0.1 in
     let of_parent = ap (λ rs. parent_of rs c.args.row) (sym rows) ∙ sym c.parent_place.ensures ∙ c.in-Some.is in
     starts_below c.args.seat.now.me.0 c.start_of.new.seat.me.0 c.args.row c.in-Some.parent start.Never r.3
     (legal_after c.args.seat.now.me.0 c.start_of.new.seat.me.0 c.start_of.ensures.seat.2) r.1 of_parent (λ e. cc)
@@ -53,7 +53,7 @@ returns-in-Never-clause-answer g t c =
 pub returns-in-Never-clause-for_good : goal.returns-in-Never-clause-for_good
 returns-in-Never-clause-for_good g t c =
     let r = c.requires in
-    let rows = c.rows-rows.ensures.rows ∙ sym c.args.self.now.same ∙ sym r.0.1 in
+    let rows = sym c.args.self.now.same ∙ sym r.0.1 in
     let of_parent = ap (λ rs. parent_of rs c.args.row) (sym rows) ∙ sym c.parent_place.ensures ∙ c.in-Some.is in
     final_below c.args.seat.now.me.0.roster c.start_of.new.seat.me.0.seen c.args.row c.in-Some.parent start.Never r.3 r.1
     of_parent (λ e. cc)
@@ -63,7 +63,7 @@ returns-in-Never-clause-for_good g t c =
 pub returns-then-rank-from-clause-seat : goal.returns-then-rank-from-clause-seat
 returns-then-rank-from-clause-seat g t c =
     let r = c.requires in
-    let rows = c.rows-rows.ensures.rows ∙ sym c.args.self.now.same ∙ sym r.0.1 in
+    let rows = sym c.args.self.now.same ∙ sym r.0.1 in
     let of_parent = ap (λ rs. parent_of rs c.args.row) (sym rows) ∙ sym c.parent_place.ensures ∙ c.in-Some.is in
     let here = parent_there c.args.seat.now.me.0.roster r.3 c.args.row c.in-Some.parent r.1 of_parent in
     let born = subst (IsFinal c.args.seat.now.me.0.roster c.start_of.new.seat.me.0.seen c.in-Some.parent) c.in-Born.is
@@ -77,7 +77,7 @@ returns-then-rank-from-clause-seat g t c =
 pub returns-then-rank-from-clause-answer : goal.returns-then-rank-from-clause-answer
 returns-then-rank-from-clause-answer g t c =
     let r = c.requires in
-    let rows = c.rows-rows.ensures.rows ∙ sym c.args.self.now.same ∙ sym r.0.1 in
+    let rows = sym c.args.self.now.same ∙ sym r.0.1 in
     let of_parent = ap (λ rs. parent_of rs c.args.row) (sym rows) ∙ sym c.parent_place.ensures ∙ c.in-Some.is in
     let here = parent_there c.args.seat.now.me.0.roster r.3 c.args.row c.in-Some.parent r.1 of_parent in
     let born = subst (IsFinal c.args.seat.now.me.0.roster c.start_of.new.seat.me.0.seen c.in-Some.parent) c.in-Born.is
@@ -93,7 +93,7 @@ returns-then-rank-from-clause-answer g t c =
 pub returns-then-rank-from-clause-for_good : goal.returns-then-rank-from-clause-for_good
 returns-then-rank-from-clause-for_good g t c =
     let r = c.requires in
-    let rows = c.rows-rows.ensures.rows ∙ sym c.args.self.now.same ∙ sym r.0.1 in
+    let rows = sym c.args.self.now.same ∙ sym r.0.1 in
     let of_parent = ap (λ rs. parent_of rs c.args.row) (sym rows) ∙ sym c.parent_place.ensures ∙ c.in-Some.is in
     let here = parent_there c.args.seat.now.me.0.roster r.3 c.args.row c.in-Some.parent r.1 of_parent in
     let born = subst (IsFinal c.args.seat.now.me.0.roster c.start_of.new.seat.me.0.seen c.in-Some.parent) c.in-Born.is
@@ -109,7 +109,7 @@ returns-then-rank-from-clause-for_good g t c =
 pub returns-then-is_alive-clause-seat : goal.returns-then-is_alive-clause-seat
 returns-then-is_alive-clause-seat g t c =
     let r = c.requires in
-    let rows = c.rows-rows.ensures.rows ∙ sym c.args.self.now.same ∙ sym r.0.1 in
+    let rows = sym c.args.self.now.same ∙ sym r.0.1 in
     let of_parent = ap (λ rs. parent_of rs c.args.row) (sym rows) ∙ sym c.parent_place.ensures ∙ c.in-Some.is in
     let here = parent_there c.args.seat.now.me.0.roster r.3 c.args.row c.in-Some.parent r.1 of_parent in
     let born = subst (IsFinal c.args.seat.now.me.0.roster c.start_of.new.seat.me.0.seen c.in-Some.parent) c.in-Born.is
@@ -123,7 +123,7 @@ returns-then-is_alive-clause-seat g t c =
 pub returns-then-is_alive-clause-answer : goal.returns-then-is_alive-clause-answer
 returns-then-is_alive-clause-answer g t c =
     let r = c.requires in
-    let rows = c.rows-rows.ensures.rows ∙ sym c.args.self.now.same ∙ sym r.0.1 in
+    let rows = sym c.args.self.now.same ∙ sym r.0.1 in
     let of_parent = ap (λ rs. parent_of rs c.args.row) (sym rows) ∙ sym c.parent_place.ensures ∙ c.in-Some.is in
     let here = parent_there c.args.seat.now.me.0.roster r.3 c.args.row c.in-Some.parent r.1 of_parent in
     let born = subst (IsFinal c.args.seat.now.me.0.roster c.start_of.new.seat.me.0.seen c.in-Some.parent) c.in-Born.is
@@ -139,7 +139,7 @@ returns-then-is_alive-clause-answer g t c =
 pub returns-else-is_alive-clause-seat : goal.returns-else-is_alive-clause-seat
 returns-else-is_alive-clause-seat g t c =
     let r = c.requires in
-    let rows = c.rows-rows.ensures.rows ∙ sym c.args.self.now.same ∙ sym r.0.1 in
+    let rows = sym c.args.self.now.same ∙ sym r.0.1 in
     let of_parent = ap (λ rs. parent_of rs c.args.row) (sym rows) ∙ sym c.parent_place.ensures ∙ c.in-Some.is in
     let here = parent_there c.args.seat.now.me.0.roster r.3 c.args.row c.in-Some.parent r.1 of_parent in
     let born = subst (IsFinal c.args.seat.now.me.0.roster c.start_of.new.seat.me.0.seen c.in-Some.parent) c.in-Born.is
@@ -153,7 +153,7 @@ returns-else-is_alive-clause-seat g t c =
 pub returns-else-is_alive-clause-answer : goal.returns-else-is_alive-clause-answer
 returns-else-is_alive-clause-answer g t c =
     let r = c.requires in
-    let rows = c.rows-rows.ensures.rows ∙ sym c.args.self.now.same ∙ sym r.0.1 in
+    let rows = sym c.args.self.now.same ∙ sym r.0.1 in
     let of_parent = ap (λ rs. parent_of rs c.args.row) (sym rows) ∙ sym c.parent_place.ensures ∙ c.in-Some.is in
     let here = parent_there c.args.seat.now.me.0.roster r.3 c.args.row c.in-Some.parent r.1 of_parent in
     let born = subst (IsFinal c.args.seat.now.me.0.roster c.start_of.new.seat.me.0.seen c.in-Some.parent) c.in-Born.is
@@ -169,7 +169,7 @@ returns-else-is_alive-clause-answer g t c =
 pub returns-else-is_alive-clause-for_good : goal.returns-else-is_alive-clause-for_good
 returns-else-is_alive-clause-for_good g t c =
     let r = c.requires in
-    let rows = c.rows-rows.ensures.rows ∙ sym c.args.self.now.same ∙ sym r.0.1 in
+    let rows = sym c.args.self.now.same ∙ sym r.0.1 in
     let of_parent = ap (λ rs. parent_of rs c.args.row) (sym rows) ∙ sym c.parent_place.ensures ∙ c.in-Some.is in
     let here = parent_there c.args.seat.now.me.0.roster r.3 c.args.row c.in-Some.parent r.1 of_parent in
     let born = subst (IsFinal c.args.seat.now.me.0.roster c.start_of.new.seat.me.0.seen c.in-Some.parent) c.in-Born.is

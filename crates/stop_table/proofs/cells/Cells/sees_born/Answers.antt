@@ -10,7 +10,7 @@ use Rattle.stop_table.proofs.cells.Cells.sees_born.Goals as goal
 pub see-requires : goal.see-requires
 see-requires g c =
     let r = c.requires in
-    let rows = c.rows-rows.ensures.rows ∙ sym c.args.self.now.same ∙ sym r.0.1 in (
+    let rows = sym c.args.self.now.same ∙ sym r.0.1 in (
       r.0,
       parent_there c.args.seat.now.me.0.roster r.3 c.args.row c.in-Some.parent r.1
           (ap (λ rs. parent_of rs c.args.row) (sym rows) ∙ sym c.parent_place.ensures ∙ c.in-Some.is),
@@ -26,7 +26,7 @@ returns-clause-seat g c = (
 pub returns-clause-born : goal.returns-clause-born
 returns-clause-born g c =
     let r = c.requires in
-    let rows = c.rows-rows.ensures.rows ∙ sym c.args.self.now.same ∙ sym r.0.1 in
+    let rows = sym c.args.self.now.same ∙ sym r.0.1 in
     parent_says c.args.seat.now.me c.see.new.seat.me c.args.row c.in-Some.parent c.see.result
     (nat_lt c.rank.result c.from.result) r.1
     (ap (λ rs. parent_of rs c.args.row) (sym rows) ∙ sym c.parent_place.ensures ∙ c.in-Some.is)
@@ -38,7 +38,7 @@ returns-clause-born g c =
 pub returns-clause-steps : goal.returns-clause-steps
 returns-clause-steps g c =
     let r = c.requires in
-    let rows = c.rows-rows.ensures.rows ∙ sym c.args.self.now.same ∙ sym r.0.1 in
+    let rows = sym c.args.self.now.same ∙ sym r.0.1 in
     looked_at_parent c.args.seat.now.me.0 c.see.new.seat.me.0 c.args.row c.in-Some.parent
     (ap (λ rs. parent_of rs c.args.row) (sym rows) ∙ sym c.parent_place.ensures ∙ c.in-Some.is)
     (looked_newest c.args.seat.now.me c.see.new.seat.me c.in-Some.parent c.see.result c.see.ensures.1)

@@ -74,6 +74,7 @@ pub(crate) fn state_of<A: Allocator>(roster: &Roster<A>, words: &[Word], row: u3
 /// Whether a stop creates no child, or the next one of a parent that has this many.
 fn creates_next<A: Allocator>(roster: &Roster<A>, at: usize, births: u8, stop: Stop) -> bool
     requires row { at < length roster.now }
+    requires roster { IsRoster roster.now }
     ensures next { result ≡ creates_next roster.now at births stop }
     ensures few { result ≡ true → IsSome (child_of stop) → births + 1 < MOST_ROWS }
 {
@@ -139,6 +140,7 @@ pub(crate) fn publish_at<A: Allocator>(
 ) -> Result<u32, Refused>
     requires words { length words.old ≡ length roster.now }
     requires stop { IsStop stop }
+    requires roster { IsRoster roster.now }
     ensures answer { result
         ≡ publish_by (state_by roster.now words.old row) (creates_next roster.now row (word_at words.old row).births stop)
         (word_at words.old row).number }
@@ -158,6 +160,7 @@ pub(crate) fn publish_running<A: Allocator>(
     requires row { row < length roster.now }
     requires words { length words.old ≡ length roster.now }
     requires stop { IsStop stop }
+    requires roster { IsRoster roster.now }
     ensures answer { result
         ≡ next_number (creates_next roster.now row (word_at words.old row).births stop) (word_at words.old row).number }
     ensures words { words.new ≡ with_word result words.old row (published (word_at words.old row) stop) }
@@ -255,6 +258,7 @@ pub(crate) fn exit_at<A: Allocator>(
     death: Death,
 ) -> Result<(), Refused>
     requires words { length words.old ≡ length roster.now }
+    requires roster { IsRoster roster.now }
     requires death { IsDeath death }
     ensures answer { result
         ≡ exit_by (holding_back roster.now (state_by roster.now words.old) row) (state_by roster.now words.old row) }
@@ -273,6 +277,7 @@ pub(crate) fn exit_running<A: Allocator>(
 ) -> Result<(), Refused>
     requires row { row < length roster.now }
     requires words { length words.old ≡ length roster.now }
+    requires roster { IsRoster roster.now }
     requires death { IsDeath death }
     ensures answer { result ≡ unless_held (holding_back roster.now (state_by roster.now words.old) row) }
     ensures words { words.new ≡ with_word result words.old row (died (word_at words.old row) death) }

@@ -183,6 +183,7 @@ fn step_of<A: Allocator>(
     action: Action,
 ) -> Reply
     requires words { length words.old ≡ length roster.now }
+    requires roster { IsRoster roster.now }
     requires actor { IsActor (length roster.now) (length seen.old) actor }
     requires action { IsAction action }
     ensures reply { ActorReplies roster.now (sight_by roster.now words.old)

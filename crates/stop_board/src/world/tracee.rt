@@ -16,6 +16,7 @@ ghost use Rattle.trace_record.specs.Stop.{IsStop};
 use super::action::{Action, Reply};
 use super::look_at;
 use crate::words::{exit_running, publish_running, running, state_of};
+use std::alloc::Allocator;
 use stop_history::{Phase, Refused, Roster, Word, restart_in, taken_up};
 use trace_record::{Death, Resume, Stop};
 
@@ -23,6 +24,7 @@ use trace_record::{Death, Resume, Stop};
 #[inline(always)]
 pub(crate) fn tracee_step<A: Allocator>(roster: &Roster<A>, words: &mut [Word], row: u32, action: Action) -> Reply
     requires words { length words.old ≡ length roster.now }
+    requires roster { IsRoster roster.now }
     requires action { IsAction action }
     ensures reply { TraceeReplies roster.now (sight_by roster.now words.old) row action result }
     ensures words { words.new ≡ words_with (tracee_change row action result) words.old }
@@ -65,6 +67,7 @@ fn take_up_at<A: Allocator>(roster: &Roster<A>, words: &mut [Word], row: u32) ->
 fn publish_taken<A: Allocator>(roster: &Roster<A>, words: &mut [Word], row: u32, stop: Stop) -> Result<u32, Refused>
     requires words { length words.old ≡ length roster.now }
     requires stop { IsStop stop }
+    requires roster { IsRoster roster.now }
     ensures answer { result
         ≡ and_then (taken_by (state_by roster.now words.old row) (is_active (word_at words.old row).phase))
         (next_number (creates_next roster.now row (word_at words.old row).births stop) (word_at words.old row).number) }
@@ -77,6 +80,7 @@ fn publish_taken<A: Allocator>(roster: &Roster<A>, words: &mut [Word], row: u32,
 /// Lets a row exit that its tracee has taken up.
 fn exit_taken<A: Allocator>(roster: &Roster<A>, words: &mut [Word], row: u32, death: Death) -> Result<(), Refused>
     requires words { length words.old ≡ length roster.now }
+    requires roster { IsRoster roster.now }
     requires death { IsDeath death }
     ensures answer { result
         ≡ and_then (taken_by (state_by roster.now words.old row) (is_active (word_at words.old row).phase))

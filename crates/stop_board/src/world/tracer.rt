@@ -14,6 +14,7 @@ ghost use Rattle.stop_board.specs.World.{last_seen, seen_place, sight_by};
 use super::action::{Action, Reply};
 use super::look_at;
 use crate::words::{resume_at, state_of};
+use std::alloc::Allocator;
 use stop_history::{Phase, Refused, Roster, State, Word, claimed};
 
 /// A step of a tracer, by the words that each tracer last saw in each row.

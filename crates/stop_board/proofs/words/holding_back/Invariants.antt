@@ -7,6 +7,6 @@ use Rattle.stop_board.proofs.words.holding_back.Given as goal
 
 -- no row so far holds the leader back
 abbrev pub invariant-loop-other : goal.invariant-loop-other
-invariant-loop-other l =
+invariant-loop-other g l =
     let test = holds_back l.roster (state_by l.roster l.words) l.at in
     find test (range_with_len 0 (length l.roster)) ≡ find test (range_with_len l.other (length l.roster - l.other))

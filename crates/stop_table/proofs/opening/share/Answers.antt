@@ -7,7 +7,7 @@ use Rattle.stop_table.proofs.opening.share.Goals as goal
 
 pub new-requires : goal.new-requires
 new-requires g c =
-    let rows = c.in_ok-roster.roster in
+    let rows = c.in-Ok.roster in
     let zeros : c.in_ok-words.words.items ≡ replicate (place (length rows) + 1) 0 =
     rw (← c.rows.ensures.rows) (c.in_ok-words.ensures.items_if_clones_equal (λ y same. same)) in
     opens rows c.as_slice.result.now c.in_ok-slots.slots.items c.rows.ensures.roster
@@ -15,10 +15,10 @@ new-requires g c =
 
 pub invariant_of-new : goal.invariant_of-new
 invariant_of-new g c =
-    let rows = c.in_ok-roster.roster in
+    let rows = c.in-Ok.roster in
     let zeros : c.in_ok-words.words.items ≡ replicate (place (length rows) + 1) 0 =
     rw (← c.rows.ensures.rows) (c.in_ok-words.ensures.items_if_clones_equal (λ y same. same)) in
-    let made = c.in-Ok.ensures.ok in
+    let made = c.in-Ok-new.ensures.ok in
     record {
       same = made.5;
       sized = (

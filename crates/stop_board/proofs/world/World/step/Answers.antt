@@ -62,6 +62,6 @@ returns-clause-seen g c = λ m s.
     seen_after_step c.self.inside.roster c.self.inside.tracers c.step_of.new.words c.self.inside.seen.items
     c.step_of.new.seen _ _ new each m.seen c.self.invariant.each at.1 who
     (among_tracers (length c.self.inside.roster) c.self.inside.tracers c.args.actor) c.args.action c.step_of.result
-    (rw c.as_slice-rows.ensures.value at c.step_of.ensures.row)
+    c.step_of.ensures.row
     (rw (c.actor_of-actor.ensures, c.as_mut_slice-2.ensures.value) at
     c.step_of.ensures.seen))

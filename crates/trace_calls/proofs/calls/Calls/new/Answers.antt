@@ -8,7 +8,7 @@ use Rattle.trace_calls.proofs.calls.Calls.new.Goals as goal
 pub invariant_of-result : goal.invariant_of-result
 invariant_of-result g c =
     let rows : c.in-Ok.copy ≡ c.args.tracer.view.roster =
-    c.in-Ok.ensures.ok ∙ c.rows.ensures.rows ∙ c.requires.roster in
+    c.in-Ok.ensures ∙ c.requires.roster in
     let long : c.len-count.result ≡ length c.args.tracer.view.roster =
     c.len-count.ensures ∙ ap length c.requires.roster in
     let back : c.len-count.result ≡ length c.in-Ok.copy = long ∙ sym (ap length rows) in

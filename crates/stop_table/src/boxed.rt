@@ -4,47 +4,38 @@
 ghost use Rattle.std.specs.Prelude.{◌≡◌, true, false, IfOk};
 ghost use Rattle.stop_table.specs.Boxed.{with_memory};
 
+use crossbeam_utils::CachePadded;
 use std::alloc::{AllocError, Allocator};
 use std::marker::Model;
 use std::mem::replace;
 use trace_pages::Memory;
 use trace_record::StopRecord;
 
-/// What a box has: a record, and so much room behind it that no two records share a line of the processor's.
-#[derive(Drop)]
-pub(crate) struct Room<A: Allocator> {
-    pub(crate) record: StopRecord<A>,
-    apart: [u64; 16],
-}
-
-/// A box with a record in it.
+/// A box with a record in it, which shares no line of the processor's with another one.
 #[derive(Drop)]
 pub(crate) struct BoxedRecord<A: Allocator> {
-    pub(crate) room: Box<Room<A>, A>,
+    padded: Box<CachePadded<StopRecord<A>>, A>,
 }
 
 impl<A: Allocator> Model for BoxedRecord<A> {
     ghost use Rattle.std.specs.Coded.{codes};
     ghost use Rattle.trace_pages.specs.FlatMemory.{flat_code};
     ghost use Rattle.trace_record.specs.Content.{Content};
+    ghost use Rattle.crossbeam_utils.specs.Padded.{padded_value};
 
     ghost Value = { Content };
 
     ghost coded = { Prim.hlevel (codes, flat_code) };
 
-    ghost view = { λ b. b.room.value.record };
+    ghost view = { λ b. padded_value b.padded.value };
 }
 
 impl<A: Allocator> BoxedRecord<A> {
     pub(crate) fn new(alloc: A, stop: StopRecord<A>) -> Result<BoxedRecord<A>, AllocError>
         ensures { IfOk result (λ b. b ≡ stop) }
     {
-        let room = Room {
-            record: stop,
-            apart: [0; 16],
-        };
         Ok(BoxedRecord {
-            room: Box::new(alloc, room)?,
+            padded: Box::new(alloc, CachePadded::new(stop))?,
         })
     }
 
@@ -52,7 +43,7 @@ impl<A: Allocator> BoxedRecord<A> {
     pub(crate) fn stop(&self) -> &StopRecord<A>
         ensures { result.now ≡ self.now }
     {
-        &self.room.as_ref().record
+        self.padded.as_ref()
     }
 
     /// Takes the record's memory out. Another comes in its place.
@@ -61,7 +52,8 @@ impl<A: Allocator> BoxedRecord<A> {
         ensures memory { result ≡ self.old.memory }
         ensures rest { self.new ≡ with_memory self.old spare }
     {
-        replace(&mut self.room.as_mut().record.memory, spare)
+        let record: &mut StopRecord<A> = self.padded.as_mut();
+        replace(&mut record.memory, spare)
     }
 
     /// The record, with this memory in the place of its own.
@@ -69,7 +61,7 @@ impl<A: Allocator> BoxedRecord<A> {
     fn with_memory(&self, memory: Memory<A>) -> StopRecord<A>
         ensures { result ≡ with_memory self.now memory }
     {
-        let record = &self.room.as_ref().record;
+        let record: &StopRecord<A> = self.padded.as_ref();
         StopRecord {
             tid: record.tid,
             number: record.number,
@@ -85,7 +77,7 @@ impl<A: Allocator> BoxedRecord<A> {
         ensures memory { result ≡ self.old.memory }
         ensures record { self.new ≡ stop }
     {
-        let record = &mut self.room.as_mut().record;
+        let record: &mut StopRecord<A> = self.padded.as_mut();
         record.tid = stop.tid;
         record.number = stop.number;
         record.stop = stop.stop;

@@ -9,20 +9,21 @@ use crate::act::When;
 use crate::script::Step;
 use crate::setting::{Setting, has_option};
 use crate::step_acts::nr_of;
+use crate::walk::Walk;
 use std::alloc::Allocator;
 use trace_options::Options;
-use trace_record::{Kind, Resume};
+use trace_record::Kind;
 
-/// Whether a tracee of the setting stops at a place of a step, for this restart.
-pub fn halts<A: Allocator>(when: When, step: &Step<A>, setting: &Setting, how: Resume) -> bool
+/// Whether the tracee of a walk stops at a place of a step.
+pub fn halts<A: Allocator>(walk: &Walk<'_>, when: When, step: &Step<A>) -> bool
     ensures { (filled : List ℕ) →
-        result ≡ halts setting.now how (when_in (step_of filled step.now) when) }
+        result ≡ halts walk.now.setting.now walk.now.how (when_in (step_of filled step.now) when) }
 {
     match when {
         When::Always => true,
-        When::Traced => is_traced(how.kind),
-        When::Filtered => is_filtered(step, setting),
-        When::ByOption(option) => has_option(setting, option),
+        When::Traced => is_traced(walk.how.kind),
+        When::Filtered => is_filtered(step, walk.setting),
+        When::ByOption(option) => has_option(walk.setting, option),
     }
 }
 

@@ -23,6 +23,7 @@ mod setting;
 mod signals;
 mod step_acts;
 mod steps_run;
+mod walk;
 
 pub use calls::{CLONE, CLONE_THREAD_FLAGS, EXECVE, EXIT, FORK};
 pub use case::Case;

@@ -16,27 +16,24 @@ use crate::act::Act;
 use crate::found::Found;
 use crate::halts::halts;
 use crate::script::{Fill, Step};
-use crate::setting::Setting;
 use crate::step_acts::act_at;
+use crate::walk::Walk;
 use std::alloc::Allocator;
 use trace_pages::Memory;
-use trace_record::Resume;
 
 /// The address of the store that faults before the tracee stops or dies, in what is left of steps from a place in one
 /// of them on.
 pub fn fault_ahead<A: Allocator>(
+    walk: &Walk<'_>,
     steps: &[Step<A>],
-    filled: &[u8],
     from: usize,
     place: u32,
-    setting: &Setting,
-    how: Resume,
     memory: &Memory<A>,
 ) -> Option<u64>
-    ensures { result ≡ fault_in (look_over setting.now how (left_in setting.now filled.now (drop from steps.now) place)
-        memory.now) }
+    ensures { result ≡ fault_in (look_over walk.now.setting.now walk.now.how
+        (left_in walk.now.setting.now walk.now.filled.now (drop from steps.now) place) memory.now) }
 {
-    match look_ahead(steps, filled, from, place, setting, how, memory) {
+    match look_ahead(walk, steps, from, place, memory) {
         Err(Found::Fault(addr)) => Some(addr),
         Err(Found::Halt) => None,
         Ok(_) => None,
@@ -46,22 +43,20 @@ pub fn fault_ahead<A: Allocator>(
 /// Looks at the acts that are left of steps from a place in one of them on. The answer is the memory with which the
 /// look goes on, or what was found.
 fn look_ahead<'a, A: Allocator>(
+    walk: &Walk<'_>,
     steps: &'a [Step<A>],
-    filled: &[u8],
     from: usize,
     place: u32,
-    setting: &Setting,
-    how: Resume,
     memory: &'a Memory<A>,
 ) -> Result<&'a Memory<A>, Found>
-    ensures { seen result ≡ look_over setting.now how (left_in setting.now filled.now (drop from steps.now) place)
-        memory.now }
+    ensures { seen result ≡ look_over walk.now.setting.now walk.now.how
+        (left_in walk.now.setting.now walk.now.filled.now (drop from steps.now) place) memory.now }
 {
     let mut index = from;
     let mut at = place;
     let mut now = memory;
     while index < steps.len() {
-        match look_here(steps, filled, index, at, setting, how, now) {
+        match look_here(walk, steps, index, at, now) {
             Some(found) => {
                 now = found?;
                 at += 1;
@@ -77,50 +72,47 @@ fn look_ahead<'a, A: Allocator>(
 
 /// Looks at the act at a place of the step at an index, if the step has one there.
 fn look_here<'a, A: Allocator>(
+    walk: &Walk<'_>,
     steps: &'a [Step<A>],
-    filled: &[u8],
     index: usize,
     place: u32,
-    setting: &Setting,
-    how: Resume,
     memory: &'a Memory<A>,
 ) -> Option<Result<&'a Memory<A>, Found>>
     requires { index < length steps.now }
-    ensures found { look_over setting.now how (left_in setting.now filled.now (drop index steps.now) place) memory.now
-        ≡ next_look setting.now how (option_map seen result)
-        (left_in setting.now filled.now (drop index steps.now) (place + 1))
-        (left_in setting.now filled.now (drop (index + 1) steps.now) 0) memory.now }
+    ensures found { look_over walk.now.setting.now walk.now.how
+        (left_in walk.now.setting.now walk.now.filled.now (drop index steps.now) place) memory.now
+        ≡ next_look walk.now.setting.now walk.now.how (option_map seen result)
+        (left_in walk.now.setting.now walk.now.filled.now (drop index steps.now) (place + 1))
+        (left_in walk.now.setting.now walk.now.filled.now (drop (index + 1) steps.now) 0) memory.now }
     ensures few { result ≢ None → place < most_acts }
 {
     let step = &steps[index];
-    match act_at(step, setting, place) {
-        Some(act) => Some(look_at(step, act, filled, setting, how, memory)),
+    match act_at(step, walk.setting, place) {
+        Some(act) => Some(look_at(walk, step, act, memory)),
         None => None,
     }
 }
 
 /// Looks at an act of a step.
 fn look_at<'a, A: Allocator>(
+    walk: &Walk<'_>,
     step: &'a Step<A>,
     act: Act,
-    filled: &[u8],
-    setting: &Setting,
-    how: Resume,
     memory: &'a Memory<A>,
 ) -> Result<&'a Memory<A>, Found>
-    ensures { IfSome (act_in filled.now (step_of filled.now step.now) act)
-        (λ act. seen result ≡ look_at setting.now how act memory.now) }
+    ensures { IfSome (act_in walk.now.filled.now (step_of walk.now.filled.now step.now) act)
+        (λ act. seen result ≡ look_at walk.now.setting.now walk.now.how act memory.now) }
 {
     match act {
-        Act::Halts(when, _) => go_on_unless(halts(when, step, setting, how), memory),
+        Act::Halts(when, _) => go_on_unless(halts(walk, when, step), memory),
         Act::Calls => Ok(memory),
         Act::Becomes => Ok(memory_after(step, memory)),
         Act::Stores(fill) => {
-            check(fill, filled, memory)?;
+            check(fill, walk.filled, memory)?;
             Ok(memory)
         }
         Act::Answers(_) => Ok(memory),
-        Act::Delivers => go_on_unless(how.signal != 0, memory),
+        Act::Delivers => go_on_unless(walk.how.signal != 0, memory),
         Act::Dies(_) => Err(Found::Halt),
     }
 }

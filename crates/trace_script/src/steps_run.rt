@@ -21,29 +21,28 @@ use crate::effect::{Effect, Reached};
 use crate::halts::halts;
 use crate::registers::{with_answer, with_call, with_start};
 use crate::script::{Fill, Image, Step};
-use crate::setting::Setting;
 use crate::step_acts::{act_at, arguments_of, nr_of};
+use crate::walk::Walk;
 use std::alloc::Allocator;
 use trace_record::{Death, Resume, Stop, StopRecord};
 
 /// Does the acts that are left of steps from a place in one of them on.
 pub fn run_steps<A: Allocator>(
+    walk: &Walk<'_>,
     steps: &mut [Step<A>],
-    filled: &[u8],
     from: usize,
     place: u32,
-    setting: &Setting,
-    how: Resume,
     held: &mut StopRecord<A>,
 ) -> Reached
-    ensures reached { advance setting.now how (left_in setting.now filled.now (drop from steps.old) place)
-        (context_of held.old) ≡ reached setting.now result filled.now steps.new held.new.stop (context_of held.new) }
+    ensures reached { advance walk.now.setting.now walk.now.how
+        (left_in walk.now.setting.now walk.now.filled.now (drop from steps.old) place) (context_of held.old)
+        ≡ reached walk.now.setting.now result walk.now.filled.now steps.new held.new.stop (context_of held.new) }
     ensures len { length steps.new ≡ length steps.old }
 {
     let mut index = from;
     let mut at = place;
     while index < steps.len() {
-        match run_here(steps, filled, index, at, setting, how, held) {
+        match run_here(walk, steps, index, at, held) {
             Some(Effect::Stops) => return Reached::Stopped(index, at + 1),
             Some(Effect::GoesOn) => at += 1,
             Some(Effect::Ends(death)) => return Reached::Died(death),
@@ -59,49 +58,47 @@ pub fn run_steps<A: Allocator>(
 
 /// Does the act at a place of the step at an index, if the step has one there.
 fn run_here<A: Allocator>(
+    walk: &Walk<'_>,
     steps: &mut [Step<A>],
-    filled: &[u8],
     index: usize,
     place: u32,
-    setting: &Setting,
-    how: Resume,
     held: &mut StopRecord<A>,
 ) -> Option<Effect>
     requires { index < length steps.old }
-    ensures outcome { advance setting.now how (left_in setting.now filled.now (drop index steps.old) place)
-        (context_of held.old)
-        ≡ next_outcome setting.now how result (left_in setting.now filled.now (drop index steps.new) (place + 1))
-        (left_in setting.now filled.now (drop (index + 1) steps.new) 0) held.new.stop (context_of held.new) }
+    ensures outcome { advance walk.now.setting.now walk.now.how
+        (left_in walk.now.setting.now walk.now.filled.now (drop index steps.old) place) (context_of held.old)
+        ≡ next_outcome walk.now.setting.now walk.now.how result
+        (left_in walk.now.setting.now walk.now.filled.now (drop index steps.new) (place + 1))
+        (left_in walk.now.setting.now walk.now.filled.now (drop (index + 1) steps.new) 0)
+        held.new.stop (context_of held.new) }
     ensures few { result ≢ None → place < most_acts }
     ensures len { length steps.new ≡ length steps.old }
 {
     let step = &mut steps[index];
-    match act_at(step, setting, place) {
-        Some(act) => Some(run_act(step, act, filled, setting, how, held)),
+    match act_at(step, walk.setting, place) {
+        Some(act) => Some(run_act(walk, step, act, held)),
         None => None,
     }
 }
 
 /// Does an act of a step. What comes after it in the step stays the same.
 fn run_act<A: Allocator>(
+    walk: &Walk<'_>,
     step: &mut Step<A>,
     act: Act,
-    filled: &[u8],
-    setting: &Setting,
-    how: Resume,
     held: &mut StopRecord<A>,
 ) -> Effect
-    ensures effect { IfSome (act_in filled.now (step_of filled.now step.old) act)
-        (λ act. effect_of setting.now how act (context_of held.old)
+    ensures effect { IfSome (act_in walk.now.filled.now (step_of walk.now.filled.now step.old) act)
+        (λ act. effect_of walk.now.setting.now walk.now.how act (context_of held.old)
         ≡ effect_by result held.new.stop (context_of held.new)) }
     ensures stays { result ≡ effect.Stops → context_of held.new ≡ context_of held.old }
-    ensures rest { (place : ℕ) → act_in filled.now (step_of filled.now step.old) act
-        ≡ slice_get (acts_of setting.now (step_of filled.now step.old)) place →
-        acts_at setting.now (step_of filled.now step.new) (place + 1)
-        ≡ acts_at setting.now (step_of filled.now step.old) (place + 1) }
+    ensures rest { (place : ℕ) → act_in walk.now.filled.now (step_of walk.now.filled.now step.old) act
+        ≡ slice_get (acts_of walk.now.setting.now (step_of walk.now.filled.now step.old)) place →
+        acts_at walk.now.setting.now (step_of walk.now.filled.now step.new) (place + 1)
+        ≡ acts_at walk.now.setting.now (step_of walk.now.filled.now step.old) (place + 1) }
 {
     match act {
-        Act::Halts(when, stop) => halt(when, stop, step, setting, how, held),
+        Act::Halts(when, stop) => halt(walk, when, stop, step, held),
         Act::Calls => {
             held.regs = with_call(nr_of(step), &arguments_of(step), &held.regs);
             Effect::GoesOn
@@ -110,31 +107,30 @@ fn run_act<A: Allocator>(
             start(step, held);
             Effect::GoesOn
         }
-        Act::Stores(fill) => store(fill, filled, held),
+        Act::Stores(fill) => store(fill, walk.filled, held),
         Act::Answers(answer) => {
             held.regs = with_answer(answer, &held.regs);
             Effect::GoesOn
         }
-        Act::Delivers => deliver(how),
+        Act::Delivers => deliver(walk.how),
         Act::Dies(death) => Effect::Ends(death),
     }
 }
 
 /// Stops, if the tracee does at this place.
 fn halt<A: Allocator>(
+    walk: &Walk<'_>,
     when: When,
     stop: Stop,
     step: &Step<A>,
-    setting: &Setting,
-    how: Resume,
     held: &mut StopRecord<A>,
 ) -> Effect
     ensures effect { (filled : List ℕ) →
-        (if halts setting.now how (when_in (step_of filled step.now) when) then Stops stop
+        (if halts walk.now.setting.now walk.now.how (when_in (step_of filled step.now) when) then Stops stop
         else GoesOn (context_of held.old)) ≡ effect_by result held.new.stop (context_of held.new) }
     ensures stays { context_of held.new ≡ context_of held.old }
 {
-    if !halts(when, step, setting, how) {
+    if !halts(walk, when, step) {
         return Effect::GoesOn;
     }
     held.stop = stop;

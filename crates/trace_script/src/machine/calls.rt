@@ -26,6 +26,7 @@ use crate::registers::first_regs;
 use crate::script::{Image, Script, Step};
 use crate::setting::Setting;
 use crate::steps_run::run_steps;
+use crate::walk::Walk;
 use std::alloc::Allocator;
 use trace_options::{Filter, NoMemory, Options};
 use trace_record::{Death, Resume, Stop, StopRecord};
@@ -90,9 +91,12 @@ impl<A: Allocator> Machine<A> {
                 Next::Stop
             }
             Progress::Going { index, place } => {
-                let steps = self.steps.as_mut_slice();
-                let filled = self.filled.as_slice();
-                match go_on(steps, filled, index, place, &self.setting, how, held) {
+                let walk = Walk {
+                    setting: &self.setting,
+                    how,
+                    filled: self.filled.as_slice(),
+                };
+                match go_on(&walk, self.steps.as_mut_slice(), index, place, held) {
                     Reached::Stopped(index, place) => {
                         self.progress = Progress::Going { index, place };
                         self.number += 1;
@@ -149,22 +153,21 @@ fn sign<A: Allocator>(tid: u32, number: u32, held: &mut StopRecord<A>)
 /// Does the acts that are left of steps from a place in one of them on, unless a store on the way faults: then nothing
 /// is done.
 fn go_on<A: Allocator>(
+    walk: &Walk<'_>,
     steps: &mut [Step<A>],
-    filled: &[u8],
     index: usize,
     place: u32,
-    setting: &Setting,
-    how: Resume,
     held: &mut StopRecord<A>,
 ) -> Reached
-    ensures outcome { advance setting.now how (left_in setting.now filled.now (drop index steps.old) place)
-        (context_of held.old) ≡ reached setting.now result filled.now steps.new held.new.stop (context_of held.new) }
+    ensures outcome { advance walk.now.setting.now walk.now.how
+        (left_in walk.now.setting.now walk.now.filled.now (drop index steps.old) place) (context_of held.old)
+        ≡ reached walk.now.setting.now result walk.now.filled.now steps.new held.new.stop (context_of held.new) }
     ensures len { length steps.new ≡ length steps.old }
     ensures fault { (address : ℕ) → result ≡ reached_at.Faulted address →
         (steps.new ≡ steps.old) × (held.new ≡ held.old) }
 {
-    if let Some(addr) = fault_ahead(steps, filled, index, place, setting, how, &held.memory) {
+    if let Some(addr) = fault_ahead(walk, steps, index, place, &held.memory) {
         return Reached::Faulted(addr);
     }
-    run_steps(steps, filled, index, place, setting, how, held)
+    run_steps(walk, steps, index, place, held)
 }

@@ -6,8 +6,10 @@ use Rattle.trace_script.proofs.look_ahead.look_ahead.Given as goal
 
 abbrev pub invariant-loop-index : goal.invariant-loop-index
 invariant-loop-index g l =
-    look_over l.setting l.how (left_in l.setting l.filled (drop l.index l.steps) l.at) l.now
-    ≡ look_over l.setting l.how (left_in l.setting l.filled (drop l.fn.from l.fn.steps) l.fn.place) l.fn.memory
+    look_over l.walk.setting.now l.walk.how
+    (left_in l.walk.setting.now l.walk.filled.now (drop l.index l.steps) l.at) l.now
+    ≡ look_over l.walk.setting.now l.walk.how
+    (left_in l.walk.setting.now l.walk.filled.now (drop l.fn.from l.fn.steps) l.fn.place) l.fn.memory
 
 abbrev pub decreases-loop-index : goal.decreases-loop-index
 decreases-loop-index g l = (most_acts + 1) * (length l.steps - l.index) + (most_acts - l.at)

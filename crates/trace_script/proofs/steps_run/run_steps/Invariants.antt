@@ -7,9 +7,10 @@ use Rattle.trace_script.proofs.steps_run.run_steps.Given as goal
 abbrev pub invariant-loop-index : goal.invariant-loop-index
 invariant-loop-index g l = record {
   len : length l.steps ≡ length l.fn.steps;
-  on : advance l.setting l.how (left_in l.setting l.filled (drop l.index l.steps) l.at) (context_of l.held)
-      ≡ advance l.setting l.how (left_in l.setting l.filled (drop l.fn.from l.fn.steps) l.fn.place)
-      (context_of l.fn.held);
+  on : advance l.walk.setting.now l.walk.how
+      (left_in l.walk.setting.now l.walk.filled.now (drop l.index l.steps) l.at) (context_of l.held)
+      ≡ advance l.walk.setting.now l.walk.how
+      (left_in l.walk.setting.now l.walk.filled.now (drop l.fn.from l.fn.steps) l.fn.place) (context_of l.fn.held);
 }
 
 abbrev pub decreases-loop-index : goal.decreases-loop-index

@@ -18,9 +18,9 @@ pub invariant_of-self-in-Stopped : goal.invariant_of-self-in-Stopped
 invariant_of-self-in-Stopped g c =
     let s = c.self.inside.setting in
     let filled = c.self.inside.filled.items in
-    let seen = c.as_slice-filled.result.now in
+    let seen = c.as_slice.result.now in
     let kept = written_back c.go_on.new.steps c.self.inside.steps.items c.self.inside.steps.len
-    (c.go_on.ensures.len ∙ c.as_mut_slice-steps.ensures.len) in
+    (c.go_on.ensures.len ∙ c.as_mut_slice.ensures.len) in
     subst (λ steps. IsWithin LAST_NUMBER (position s (c.self.inside.number + 1)
     (left_in s filled (drop c.in-Stopped.index steps) c.in-Stopped.place))) (sym kept)
     (stopped_within s c.args.how c.self.inside.progress c.self.inside.image c.self.inside.filled.items
@@ -28,11 +28,11 @@ invariant_of-self-in-Stopped g c =
     (left_in s filled (drop c.in-Stopped.index c.go_on.new.steps) c.in-Stopped.place) c.go_on.new.held.stop
     (context_of c.args.held.now) (context_of c.go_on.new.held) c.in-Going.is
     (ap (λ b. advance s c.args.how (left_in s b (drop c.in-Going.index c.self.inside.steps.items) c.in-Going.place)
-    (context_of c.args.held.now)) (sym c.as_slice-filled.ensures.value)
+    (context_of c.args.held.now)) (sym c.as_slice.ensures.value)
     ∙ ap (λ steps. advance s c.args.how (left_in s seen (drop c.in-Going.index steps) c.in-Going.place)
-    (context_of c.args.held.now)) (sym c.as_mut_slice-steps.ensures.value) ∙ c.go_on.ensures.outcome
+    (context_of c.args.held.now)) (sym c.as_mut_slice.ensures.value) ∙ c.go_on.ensures.outcome
     ∙ ap (λ b. reached s c.go_on.result b c.go_on.new.steps c.go_on.new.held.stop (context_of c.go_on.new.held))
-    c.as_slice-filled.ensures.value
+    c.as_slice.ensures.value
     ∙ ap (λ came. reached s came filled c.go_on.new.steps c.go_on.new.held.stop (context_of c.go_on.new.held))
     c.in-Stopped.is)
     c.self.invariant)

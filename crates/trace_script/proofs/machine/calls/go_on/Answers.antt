@@ -8,16 +8,18 @@ use Rattle.trace_script.proofs.machine.calls.go_on.Goals as goal
 
 pub returns-in-Some-clause-outcome : goal.returns-in-Some-clause-outcome
 returns-in-Some-clause-outcome g c =
-    faults_come c.args.setting.now c.args.how
-    (left_in c.args.setting.now c.args.filled.now (drop c.args.index c.args.steps.now) c.args.place)
+    let walk = c.args.walk.now in
+    faults_come walk.setting.now walk.how
+    (left_in walk.setting.now walk.filled.now (drop c.args.index c.args.steps.now) c.args.place)
     (context_of c.args.held.now)
     c.in-Some.addr (rw (← c.held.view_is) (sym c.fault_ahead.ensures ∙ c.in-Some.is))
 
 pub returns-clause-fault : goal.returns-clause-fault
-returns-clause-fault g c = λ address faulted. absurd
-    (none_comes c.args.setting.now c.args.how
-    (left_in c.args.setting.now c.args.filled.now (drop c.args.index c.args.steps.now) c.args.place)
+returns-clause-fault g c = λ address faulted.
+    let walk = c.args.walk.now in
+    absurd (none_comes walk.setting.now walk.how
+    (left_in walk.setting.now walk.filled.now (drop c.args.index c.args.steps.now) c.args.place)
     (context_of c.args.held.now) address (rw (← c.held.view_is) (sym c.fault_ahead.ensures ∙ c.in_default.is))
     (c.run_steps.ensures.reached
-    ∙ ap (λ came. reached c.args.setting.now came c.args.filled.now c.run_steps.new.steps c.run_steps.new.held.stop
+    ∙ ap (λ came. reached walk.setting.now came walk.filled.now c.run_steps.new.steps c.run_steps.new.held.stop
     (context_of c.run_steps.new.held)) faulted))

@@ -9,7 +9,7 @@ use Rattle.text_lines.specs.Ranges.{◌>>=◌}
 use Rattle.trace_pages.specs.FlatMemory.{FlatMemory}
 use Rattle.trace_record.specs.declared.resume.Resume.{Resume}
 use Rattle.trace_record.specs.declared.stop.Stop.{Stop}
-use Rattle.trace_script.specs.Arrivals.{effect_by, next_look, next_outcome}
+use Rattle.trace_script.specs.Arrivals.{effect_by, next_outcome}
 use Rattle.trace_script.specs.Kept.{step_of, steps_of}
 use Rattle.trace_script.specs.Left.{acts_at, left_in, most_acts}
 use Rattle.trace_script.specs.LookAhead.{look_at, look_over}
@@ -151,8 +151,7 @@ module _ {Z : Type 0} where
       → index < length steps → IsAct said (slice_get (acts_of s (step_of filled (get_or steps index step))) place)
       → IfSome said (λ act. found ≡ look_at s how act m)
       → look_over s how (left_in s filled (drop index steps) place) m
-      ≡ next_look s how (Some found) (left_in s filled (drop index steps) (place + 1))
-      (left_in s filled (drop (index + 1) steps) 0) m
+      ≡ (found >>= look_over s how (left_in s filled (drop index steps) (place + 1)))
   look_next s how filled steps index step place said found m within is looked =
       let act = act_is said (slice_get (acts_of s (step_of filled (get_or steps index step))) place) is in
       let rest = left_in s filled (drop index steps) (place + 1) in
@@ -164,8 +163,7 @@ module _ {Z : Type 0} where
       (step : KeptStep Z) (place : ℕ) (m : FlatMemory) → index < length steps
       → None ≡ option_map Some (slice_get (acts_of s (step_of filled (get_or steps index step))) place)
       → look_over s how (left_in s filled (drop index steps) place) m
-      ≡ next_look s how None (left_in s filled (drop index steps) (place + 1))
-      (left_in s filled (drop (index + 1) steps) 0) m
+      ≡ look_over s how (left_in s filled (drop (index + 1) steps) 0) m
   look_none s how filled steps index step place m within is =
       ap (λ acts. look_over s how acts m) (none_left s filled steps index step place within is)
 

@@ -1,11 +1,8 @@
 -- Where an act, or acts in a row, lead: what the program answers, as an effect or an outcome.
-use Rattle.std.specs.Prelude.{ℕ, List, Option, Some, None, Result, drop}
-use Rattle.text_lines.specs.Ranges.{◌>>=◌}
-use Rattle.trace_pages.specs.FlatMemory.{FlatMemory}
+use Rattle.std.specs.Prelude.{ℕ, List, Option, Some, None, drop}
 use Rattle.trace_record.specs.declared.resume.Resume.{Resume}
 use Rattle.trace_record.specs.declared.stop.Stop.{Stop}
 use Rattle.trace_script.specs.Left.{left_in}
-use Rattle.trace_script.specs.LookAhead.{look_over}
 use Rattle.trace_script.specs.StepStops.{Act}
 use Rattle.trace_script.specs.StopTrace.{Context, Effect, Stops, GoesOn, Ends, Faults}
 use Rattle.trace_script.specs.StopTrace.{Outcome, Stopped, Through, Died, Faulted, advance, outcome_by}
@@ -13,7 +10,6 @@ use Rattle.trace_script.specs.declared.effect.Effect.{Effect as KeptEffect}
 use Rattle.trace_script.specs.declared.effect.Effect.TheVariants as kept
 use Rattle.trace_script.specs.declared.effect.Reached.{Reached}
 use Rattle.trace_script.specs.declared.effect.Reached.TheVariants as reached_at
-use Rattle.trace_script.specs.declared.found.Found.{Found}
 use Rattle.trace_script.specs.declared.script.Step.{Step as KeptStep}
 use Rattle.trace_script.specs.declared.setting.Setting.{Setting}
 
@@ -28,12 +24,6 @@ effect_by (kept.Faults address) stop x = Faults address
 abbrev pub next_outcome : Setting → Resume → Option KeptEffect → (acts steps : List Act) → Stop → Context → Outcome
 next_outcome s how None acts steps stop x = advance s how steps x
 next_outcome s how (Some effect) acts steps stop x = outcome_by (effect_by effect stop x) acts x (advance s how acts)
-
--- the same of a look ahead
-abbrev pub next_look : Setting → Resume → Option (Result FlatMemory Found) → (acts steps : List Act) → FlatMemory
-    → Result FlatMemory Found
-next_look s how None acts steps memory = look_over s how steps memory
-next_look s how (Some found) acts steps memory = found >>= look_over s how acts
 
 -- steps in a row
 abbrev pub reached : {Z : Type 0} → Setting → Reached → (filled : List ℕ) → List (KeptStep Z) → Stop → Context

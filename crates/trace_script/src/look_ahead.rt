@@ -1,14 +1,12 @@
 //! A look ahead over acts: whether a store faults before the tracee stops or dies. Nothing is changed.
 
-ghost use Rattle.std.specs.Prelude.{◌≡◌, ◌≢◌, ◌<◌, ◌+◌, ℕ, List, None, Ok, Err, IfSome, drop, length};
-ghost use Rattle.std.specs.Prelude.{if◌then◌else◌, option_map};
+ghost use Rattle.std.specs.Prelude.{◌≡◌, ℕ, List, Ok, Err, IfSome, drop, length, if◌then◌else◌};
 ghost use Rattle.trace_pages.specs.FlatMemory.{run_end};
 ghost use Rattle.trace_pages.specs.Memory.{store_answer};
-ghost use Rattle.trace_script.specs.Arrivals.{next_look};
 ghost use Rattle.trace_script.specs.Fills.{memory_after};
 ghost use Rattle.trace_script.specs.Kept.{fill_of, seen, step_of};
 ghost use Rattle.trace_script.specs.KeptActs.{act_in};
-ghost use Rattle.trace_script.specs.Left.{left_in, most_acts};
+ghost use Rattle.trace_script.specs.Left.{left_in};
 ghost use Rattle.trace_script.specs.LookAhead.{fault_in, fill_check, look_at, look_over};
 ghost use Rattle.trace_script.specs.declared.found.Found.TheVariants as found;
 
@@ -56,9 +54,10 @@ fn look_ahead<'a, A: Allocator>(
     let mut at = place;
     let mut now = memory;
     while index < steps.len() {
-        match look_here(walk, steps, index, at, now) {
-            Some(found) => {
-                now = found?;
+        let step = &steps[index];
+        match act_at(step, walk.setting, at) {
+            Some(act) => {
+                now = look_at(walk, step, act, now)?;
                 at += 1;
             }
             None => {
@@ -68,29 +67,6 @@ fn look_ahead<'a, A: Allocator>(
         }
     }
     Ok(now)
-}
-
-/// Looks at the act at a place of the step at an index, if the step has one there.
-fn look_here<'a, A: Allocator>(
-    walk: &Walk<'_>,
-    steps: &'a [Step<A>],
-    index: usize,
-    place: u32,
-    memory: &'a Memory<A>,
-) -> Option<Result<&'a Memory<A>, Found>>
-    requires { index < length steps.now }
-    ensures found { look_over walk.now.setting.now walk.now.how
-        (left_in walk.now.setting.now walk.now.filled.now (drop index steps.now) place) memory.now
-        ≡ next_look walk.now.setting.now walk.now.how (option_map seen result)
-        (left_in walk.now.setting.now walk.now.filled.now (drop index steps.now) (place + 1))
-        (left_in walk.now.setting.now walk.now.filled.now (drop (index + 1) steps.now) 0) memory.now }
-    ensures few { result ≢ None → place < most_acts }
-{
-    let step = &steps[index];
-    match act_at(step, walk.setting, place) {
-        Some(act) => Some(look_at(walk, step, act, memory)),
-        None => None,
-    }
 }
 
 /// Looks at an act of a step.

@@ -8,7 +8,7 @@ ghost use Rattle.record_printer.specs.StopNote.{argument_word};
 use crate::buffers::{write_buffer, write_string, write_whole};
 use crate::iovecs::{write_array, write_separator, write_whole_array};
 use crate::numbers::{write_address, write_decimal, write_hexadecimal, write_int, write_mode};
-use mem_views::Views;
+use crate::printed_call::PrintedCall;
 use std::alloc::Allocator;
 use trace_options::{ArgumentKind, NoMemory};
 use trace_record::StopRecord;
@@ -16,18 +16,16 @@ use trace_record::StopRecord;
 /// Writes `count` arguments from the one at `start` on, each but the first argument of the call after a comma.
 pub fn write_arguments<A: Allocator, B: Allocator>(
     text: &mut Vec<u8, A>,
-    stop: &StopRecord<B>,
-    limit: u32,
-    kinds: &[ArgumentKind],
+    call: &PrintedCall<'_, B>,
     start: usize,
     count: usize,
 ) -> Result<(), NoMemory>
-    requires { start + count ≤ length kinds.now }
+    requires { start + count ≤ length call.now.kinds.now }
     ensures { OnOk result (text.new.items
-        ≡ text.old.items ++ arguments_text limit stop.now kinds.now start count) }
+        ≡ text.old.items ++ arguments_text call.now.limit call.now.stop.now call.now.kinds.now start count) }
 {
     for index in start..start + count {
-        write_argument_at(text, stop, limit, kinds, index)?;
+        write_argument_at(text, call, index)?;
     }
     Ok(())
 }
@@ -35,16 +33,20 @@ pub fn write_arguments<A: Allocator, B: Allocator>(
 /// Writes the argument at an index, from 0.
 fn write_argument_at<A: Allocator, B: Allocator>(
     text: &mut Vec<u8, A>,
-    stop: &StopRecord<B>,
-    limit: u32,
-    kinds: &[ArgumentKind],
+    call: &PrintedCall<'_, B>,
     index: usize,
 ) -> Result<(), NoMemory>
-    requires { index + 1 ≤ length kinds.now }
-    ensures { OnOk result (text.new.items ≡ text.old.items ++ argument_at limit stop.now kinds.now index) }
+    requires { index + 1 ≤ length call.now.kinds.now }
+    ensures { OnOk result (text.new.items
+        ≡ text.old.items ++ argument_at call.now.limit call.now.stop.now call.now.kinds.now index) }
 {
     write_separator(text, index == 0)?;
-    write_argument(text, stop, limit, kinds[index], argument_word(stop, index))
+    write_argument(
+        text,
+        call,
+        call.kinds[index],
+        argument_word(call.stop, index),
+    )
 }
 
 /// The register of an argument.
@@ -60,47 +62,47 @@ pub fn argument_word<B: Allocator>(stop: &StopRecord<B>, index: usize) -> u64
 /// Writes the argument in a register by its kind.
 fn write_argument<A: Allocator, B: Allocator>(
     text: &mut Vec<u8, A>,
-    stop: &StopRecord<B>,
-    limit: u32,
+    call: &PrintedCall<'_, B>,
     kind: ArgumentKind,
     word: u64,
 ) -> Result<(), NoMemory>
-    ensures { OnOk result (text.new.items ≡ text.old.items ++ argument_text limit stop.now kind word) }
+    ensures { OnOk result (text.new.items
+        ≡ text.old.items ++ argument_text call.now.limit call.now.stop.now kind word) }
 {
-    let views = Views::of(stop);
+    let stop = call.stop;
     match kind {
         ArgumentKind::Int => write_int(text, word),
         ArgumentKind::Unsigned => write_decimal(text, word),
         ArgumentKind::Hexadecimal => write_hexadecimal(text, word),
         ArgumentKind::Mode => write_mode(text, word),
-        ArgumentKind::CString => write_string(text, &views, limit, word),
-        ArgumentKind::InBuffer => write_buffer(text, &views, limit, word, stop.regs.rdx),
-        ArgumentKind::InIovecs => write_array(text, &views, limit, word, stop.regs.rdx),
+        ArgumentKind::CString => write_string(text, call, word),
+        ArgumentKind::InBuffer => write_buffer(text, call, word, stop.regs.rdx),
+        ArgumentKind::InIovecs => write_array(text, call, word, stop.regs.rdx),
         ArgumentKind::Address | ArgumentKind::OutBuffer | ArgumentKind::OutIovecs => {
             write_address(text, word)
         }
     }
 }
 
-/// Writes the bytes that came out of a call that answered `count`, or nothing where they are not all there; whether they
-/// are.
+/// Writes the bytes that came out of a call that answered `count`, or nothing where they are not all there; whether
+/// they are.
 pub fn write_bytes_out<A: Allocator, B: Allocator>(
     text: &mut Vec<u8, A>,
-    stop: &StopRecord<B>,
-    limit: u32,
+    call: &PrintedCall<'_, B>,
     kind: ArgumentKind,
     word: u64,
     count: u64,
 ) -> Result<bool, NoMemory>
     ensures text { OnOk result (text.new.items
-        ≡ text.old.items ++ unwrap_or (bytes_out limit stop.now kind word count) []) }
-    ensures whole { IfOk result (λ whole. whole ≡ is_some (bytes_out limit stop.now kind word count)) }
+        ≡ text.old.items ++ unwrap_or (bytes_out call.now.limit call.now.stop.now kind word count) []) }
+    ensures whole { IfOk result (λ whole.
+        whole ≡ is_some (bytes_out call.now.limit call.now.stop.now kind word count)) }
 {
-    let views = Views::of(stop);
+    let stop = call.stop;
     match kind {
-        ArgumentKind::OutBuffer => write_whole(text, &views, limit, word, count),
+        ArgumentKind::OutBuffer => write_whole(text, call, word, count),
         ArgumentKind::OutIovecs => {
-            write_whole_array(text, &views, limit, Some(count), word, stop.regs.rdx)
+            write_whole_array(text, call, Some(count), word, stop.regs.rdx)
         }
         _ => Ok(false),
     }

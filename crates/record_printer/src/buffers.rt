@@ -5,6 +5,7 @@ ghost use Rattle.std.specs.Prelude.{◌≡◌, ◌++◌, [], IfOk, OnOk};
 ghost use Rattle.record_printer.specs.Arguments.{buffer, or_address, string};
 
 use crate::numbers::write_address;
+use crate::printed_call::PrintedCall;
 use crate::quote::{write_quoted, write_shortened};
 use mem_views::{End, Views};
 use std::alloc::Allocator;
@@ -14,36 +15,38 @@ use trace_options::NoMemory;
 /// them is absent.
 pub fn write_buffer<A: Allocator, B: Allocator>(
     text: &mut Vec<u8, A>,
-    views: &Views<'_, B>,
-    limit: u32,
+    call: &PrintedCall<'_, B>,
     addr: u64,
     len: u64,
 ) -> Result<(), NoMemory>
-    ensures { OnOk result (text.new.items ≡ text.old.items ++ or_address addr (buffer limit views.now addr len)) }
+    ensures { OnOk result (text.new.items
+        ≡ text.old.items ++ or_address addr (buffer call.now.limit call.now.stop.now.memory addr len)) }
 {
-    if write_whole(text, views, limit, addr, len)? {
+    if write_whole(text, call, addr, len)? {
         Ok(())
     } else {
         write_address(text, addr)
     }
 }
 
-/// Writes the first bytes of a buffer in quotes, with dots after them where it has more, or nothing where one of them is
-/// absent; whether they are all there.
+/// Writes the first bytes of a buffer in quotes, with dots after them where it has more, or nothing where one of them
+/// is absent; whether they are all there.
 pub fn write_whole<A: Allocator, B: Allocator>(
     text: &mut Vec<u8, A>,
-    views: &Views<'_, B>,
-    limit: u32,
+    call: &PrintedCall<'_, B>,
     addr: u64,
     len: u64,
 ) -> Result<bool, NoMemory>
-    ensures text { OnOk result (text.new.items ≡ text.old.items ++ unwrap_or (buffer limit views.now addr len) []) }
-    ensures whole { IfOk result (λ whole. whole ≡ is_some (buffer limit views.now addr len)) }
+    ensures text { OnOk result (text.new.items
+        ≡ text.old.items ++ unwrap_or (buffer call.now.limit call.now.stop.now.memory addr len) []) }
+    ensures whole { IfOk result (λ whole.
+        whole ≡ is_some (buffer call.now.limit call.now.stop.now.memory addr len)) }
 {
-    let cut = views.bytes(addr, u64::from(limit).min(len));
+    let limit = u64::from(call.limit);
+    let cut = Views::of(call.stop).bytes(addr, limit.min(len));
     match cut.end() {
         End::Full => {
-            write_shortened(text, cut, u64::from(limit) < len)?;
+            write_shortened(text, cut, limit < len)?;
             Ok(true)
         }
         _ => Ok(false),
@@ -54,16 +57,18 @@ pub fn write_whole<A: Allocator, B: Allocator>(
 /// address where the bytes that have to be examined are not all there.
 pub fn write_string<A: Allocator, B: Allocator>(
     text: &mut Vec<u8, A>,
-    views: &Views<'_, B>,
-    limit: u32,
+    call: &PrintedCall<'_, B>,
     addr: u64,
 ) -> Result<(), NoMemory>
-    ensures { OnOk result (text.new.items ≡ text.old.items ++ or_address addr (string limit views.now addr)) }
+    ensures { OnOk result (text.new.items
+        ≡ text.old.items ++ or_address addr (string call.now.limit call.now.stop.now.memory addr)) }
 {
-    let cut = views.c_string(addr, u64::from(limit) + 1);
+    let limit = u64::from(call.limit);
+    let views = Views::of(call.stop);
+    let cut = views.c_string(addr, limit + 1);
     match cut.end() {
         End::Nul => write_quoted(text, cut),
-        End::Limit => write_shortened(text, views.bytes(addr, u64::from(limit)), true),
+        End::Limit => write_shortened(text, views.bytes(addr, limit), true),
         _ => write_address(text, addr),
     }
 }

@@ -9,10 +9,11 @@ use crate::arguments::{argument_word, write_bytes_out};
 use crate::call_parts::CallEnd;
 use crate::calls::{kinds_of, out_place};
 use crate::numbers::write_result;
+use crate::printed_call::PrintedCall;
 use crate::room::{LINE_ROOM, REST_ROOM};
 use crate::show::Show;
 use std::alloc::Allocator;
-use trace_options::{ArgumentKind, NoMemory};
+use trace_options::NoMemory;
 use trace_record::StopRecord;
 
 /// The end of a call: the bytes that came out of it, and its result.
@@ -33,37 +34,37 @@ pub fn call_end<A: Allocator + Copy, B: Allocator>(
     let mut text = Vec::with_capacity(alloc, room)?;
     write_result(&mut text, &stop.regs)?;
     let end = text.len();
-    let is_whole = write_out_bytes(&mut text, stop, show.limit, kinds, place)?;
+    let call = PrintedCall {
+        stop,
+        kinds,
+        limit: show.limit,
+    };
+    let is_whole = write_out_bytes(&mut text, &call, place)?;
     Ok(CallEnd::new(number, text, is_whole.then_some(end)))
 }
 
 /// Writes the bytes that came out of a call, or nothing where it failed or they are not all there; whether they are.
 fn write_out_bytes<A: Allocator, B: Allocator>(
     text: &mut Vec<u8, A>,
-    stop: &StopRecord<B>,
-    limit: u32,
-    kinds: &[ArgumentKind],
+    call: &PrintedCall<'_, B>,
     place: Option<usize>,
 ) -> Result<bool, NoMemory>
-    requires { IfSome place (λ place. place < length kinds.now) }
+    requires { IfSome place (λ place. place < length call.now.kinds.now) }
     ensures text { OnOk result (text.new.items ≡ text.old.items ++ unwrap_or
-        (if int_lt (cast_signed w64 stop.now.regs.rax) (pos 0) then None else out_at limit stop.now kinds.now place) []) }
+        (if int_lt (cast_signed w64 call.now.stop.now.regs.rax) (pos 0) then None
+        else out_at call.now.limit call.now.stop.now call.now.kinds.now place) []) }
     ensures whole { IfOk result (λ whole. whole ≡ is_some
-        (if int_lt (cast_signed w64 stop.now.regs.rax) (pos 0) then None else out_at limit stop.now kinds.now place)) }
+        (if int_lt (cast_signed w64 call.now.stop.now.regs.rax) (pos 0) then None
+        else out_at call.now.limit call.now.stop.now call.now.kinds.now place)) }
 {
+    let stop = call.stop;
     if stop.regs.rax.cast_signed() < 0 {
         return Ok(false);
     }
     match place {
         Some(place) => {
-            write_bytes_out(
-                text,
-                stop,
-                limit,
-                kinds[place],
-                argument_word(stop, place),
-                stop.regs.rax,
-            )
+            let word = argument_word(stop, place);
+            write_bytes_out(text, call, call.kinds[place], word, stop.regs.rax)
         }
         None => Ok(false),
     }

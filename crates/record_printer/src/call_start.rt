@@ -10,10 +10,11 @@ use crate::call_parts::CallStart;
 use crate::calls::{kinds_of, out_place, write_name};
 use crate::iovecs::write_separator;
 use crate::numbers::{write_address, write_decimal};
+use crate::printed_call::PrintedCall;
 use crate::room::LINE_ROOM;
 use crate::show::Show;
 use std::alloc::Allocator;
-use trace_options::{ArgumentKind, NoMemory};
+use trace_options::NoMemory;
 use trace_record::StopRecord;
 
 /// The start of a call: its line up to the result, where it is printed.
@@ -26,7 +27,12 @@ pub fn call_start<A: Allocator + Copy, B: Allocator>(
 {
     let number = stop.regs.nr();
     if show.calls.contains(number) {
-        printed_start(alloc, stop, show.limit, kinds_of(number))
+        let call = PrintedCall {
+            stop,
+            kinds: kinds_of(number),
+            limit: show.limit,
+        };
+        printed_start(alloc, &call)
     } else {
         Ok(CallStart::hidden(alloc, number))
     }
@@ -35,18 +41,18 @@ pub fn call_start<A: Allocator + Copy, B: Allocator>(
 /// The start of a call that is printed, by the kinds of its arguments.
 fn printed_start<A: Allocator + Copy, B: Allocator>(
     alloc: A,
-    stop: &StopRecord<B>,
-    limit: u32,
-    kinds: &[ArgumentKind],
+    call: &PrintedCall<'_, B>,
 ) -> Result<CallStart<A>, NoMemory>
-    ensures { IfOk result (λ start. start ≡ printed_start limit stop.now kinds.now) }
+    ensures { IfOk result (λ start.
+        start ≡ printed_start call.now.limit call.now.stop.now call.now.kinds.now) }
 {
-    let place = out_place(kinds);
+    let stop = call.stop;
+    let place = out_place(call.kinds);
     let mut text = Vec::with_capacity(alloc, LINE_ROOM)?;
     write_head(&mut text, stop)?;
-    write_before(&mut text, stop, limit, kinds, place)?;
+    write_before(&mut text, call, place)?;
     let gap = text.len();
-    write_after(&mut text, stop, limit, kinds, place)?;
+    write_after(&mut text, call, place)?;
     text.extend_from_slice(b") = ".as_slice())?;
     let end = text.len();
     let has_address = write_out_address(&mut text, stop, place)?;
@@ -70,40 +76,36 @@ fn write_head<A: Allocator, B: Allocator>(
 /// Writes the arguments before the one whose bytes come out, or all of them.
 fn write_before<A: Allocator, B: Allocator>(
     text: &mut Vec<u8, A>,
-    stop: &StopRecord<B>,
-    limit: u32,
-    kinds: &[ArgumentKind],
+    call: &PrintedCall<'_, B>,
     place: Option<usize>,
 ) -> Result<(), NoMemory>
-    requires { IfSome place (λ place. place < length kinds.now) }
+    requires { IfSome place (λ place. place < length call.now.kinds.now) }
     ensures { OnOk result (text.new.items
-        ≡ text.old.items ++ arguments_before limit stop.now kinds.now place) }
+        ≡ text.old.items ++ arguments_before call.now.limit call.now.stop.now call.now.kinds.now place) }
 {
     match place {
         Some(place) => {
-            write_arguments(text, stop, limit, kinds, 0, place)?;
+            write_arguments(text, call, 0, place)?;
             write_separator(text, place == 0)
         }
-        None => write_arguments(text, stop, limit, kinds, 0, kinds.len()),
+        None => write_arguments(text, call, 0, call.kinds.len()),
     }
 }
 
 /// Writes the arguments after the one whose bytes come out.
 fn write_after<A: Allocator, B: Allocator>(
     text: &mut Vec<u8, A>,
-    stop: &StopRecord<B>,
-    limit: u32,
-    kinds: &[ArgumentKind],
+    call: &PrintedCall<'_, B>,
     place: Option<usize>,
 ) -> Result<(), NoMemory>
-    requires { IfSome place (λ place. place < length kinds.now) }
+    requires { IfSome place (λ place. place < length call.now.kinds.now) }
     ensures { OnOk result (text.new.items
-        ≡ text.old.items ++ arguments_after limit stop.now kinds.now place) }
+        ≡ text.old.items ++ arguments_after call.now.limit call.now.stop.now call.now.kinds.now place) }
 {
     match place {
         Some(place) => {
             let next = place + 1;
-            write_arguments(text, stop, limit, kinds, next, kinds.len() - next)
+            write_arguments(text, call, next, call.kinds.len() - next)
         }
         None => Ok(()),
     }

@@ -8,6 +8,7 @@ ghost use Rattle.record_printer.specs.Arguments.{left_after, more_entries, or_ad
 
 use crate::buffers::write_buffer;
 use crate::numbers::{write_address, write_decimal};
+use crate::printed_call::PrintedCall;
 use mem_views::{IOV_MAX, Iovecs, Item, Views};
 use std::alloc::Allocator;
 use trace_options::NoMemory;
@@ -16,15 +17,14 @@ use trace_options::NoMemory;
 /// address where the array cannot be shown.
 pub fn write_array<A: Allocator, B: Allocator>(
     text: &mut Vec<u8, A>,
-    views: &Views<'_, B>,
-    limit: u32,
+    call: &PrintedCall<'_, B>,
     addr: u64,
     count: u64,
 ) -> Result<(), NoMemory>
     ensures { OnOk result (text.new.items
-        ≡ text.old.items ++ or_address addr (array limit views.now None addr count)) }
+        ≡ text.old.items ++ or_address addr (array call.now.limit call.now.stop.now.memory None addr count)) }
 {
-    if write_whole_array(text, views, limit, None, addr, count)? {
+    if write_whole_array(text, call, None, addr, count)? {
         Ok(())
     } else {
         write_address(text, addr)
@@ -35,31 +35,31 @@ pub fn write_array<A: Allocator, B: Allocator>(
 /// shown; whether it can. Where its bytes came out of a call they share its result in order.
 pub fn write_whole_array<A: Allocator, B: Allocator>(
     text: &mut Vec<u8, A>,
-    views: &Views<'_, B>,
-    limit: u32,
+    call: &PrintedCall<'_, B>,
     left: Option<u64>,
     addr: u64,
     count: u64,
 ) -> Result<bool, NoMemory>
     ensures text { OnOk result (text.new.items
-        ≡ text.old.items ++ unwrap_or (array limit views.now left addr count) []) }
-    ensures whole { IfOk result (λ whole. whole ≡ is_some (array limit views.now left addr count)) }
+        ≡ text.old.items ++ unwrap_or (array call.now.limit call.now.stop.now.memory left addr count) []) }
+    ensures whole { IfOk result (λ whole.
+        whole ≡ is_some (array call.now.limit call.now.stop.now.memory left addr count)) }
 {
-    if !is_array(views, limit, addr, count) {
+    if !is_array(call, addr, count) {
         return Ok(false);
     }
-    write_in_brackets(text, views, limit, left, addr, count)?;
+    write_in_brackets(text, call, left, addr, count)?;
     Ok(true)
 }
 
 /// Whether there are no more entries than a call takes, and those that are printed are wholly there.
-fn is_array<B: Allocator>(views: &Views<'_, B>, limit: u32, addr: u64, count: u64) -> bool
-    ensures { result ≡ is_array limit views.now addr count }
+fn is_array<B: Allocator>(call: &PrintedCall<'_, B>, addr: u64, count: u64) -> bool
+    ensures { result ≡ is_array call.now.limit call.now.stop.now.memory addr count }
 {
     if count > IOV_MAX {
         return false;
     }
-    match views.iovecs(addr, u64::from(limit).min(count)) {
+    match Views::of(call.stop).iovecs(addr, u64::from(call.limit).min(count)) {
         Ok(items) => !has_broken(items),
         Err(_) => false,
     }
@@ -80,21 +80,22 @@ fn has_broken<B: Allocator>(items: Iovecs<'_, B>) -> bool
 /// Writes an array in brackets.
 fn write_in_brackets<A: Allocator, B: Allocator>(
     text: &mut Vec<u8, A>,
-    views: &Views<'_, B>,
-    limit: u32,
+    call: &PrintedCall<'_, B>,
     left: Option<u64>,
     addr: u64,
     count: u64,
 ) -> Result<(), NoMemory>
-    requires { is_array limit views.now addr count ≡ true }
-    ensures { OnOk result (text.new.items ≡ text.old.items ++ array_text limit views.now left addr count) }
+    requires { is_array call.now.limit call.now.stop.now.memory addr count ≡ true }
+    ensures { OnOk result (text.new.items
+        ≡ text.old.items ++ array_text call.now.limit call.now.stop.now.memory left addr count) }
 {
-    let Ok(items) = views.iovecs(addr, u64::from(limit).min(count)) else {
+    let views = Views::of(call.stop);
+    let Ok(items) = views.iovecs(addr, u64::from(call.limit).min(count)) else {
         unreachable!()
     };
     text.push(b'[')?;
-    write_entries(text, views, limit, left, items)?;
-    write_more(text, limit, count)?;
+    write_entries(text, call, left, items)?;
+    write_more(text, call.limit, count)?;
     text.push(b']')?;
     Ok(())
 }
@@ -102,13 +103,12 @@ fn write_in_brackets<A: Allocator, B: Allocator>(
 /// Writes entries, each but the first after a comma, up to one that is not wholly there.
 fn write_entries<A: Allocator, B: Allocator>(
     text: &mut Vec<u8, A>,
-    views: &Views<'_, B>,
-    limit: u32,
+    call: &PrintedCall<'_, B>,
     mut left: Option<u64>,
     items: Iovecs<'_, B>,
 ) -> Result<(), NoMemory>
     ensures { OnOk result (text.new.items
-        ≡ text.old.items ++ entries_text limit views.now true left items.entry) }
+        ≡ text.old.items ++ entries_text call.now.limit call.now.stop.now.memory true left items.entry) }
 {
     let mut is_first = true;
     for item in items {
@@ -116,7 +116,7 @@ fn write_entries<A: Allocator, B: Allocator>(
             return Ok(());
         };
         write_separator(text, is_first)?;
-        write_entry(text, views, limit, base, len, share(left, len))?;
+        write_entry(text, call, base, len, share(left, len))?;
         left = left_after(left, len);
         is_first = false;
     }
@@ -126,16 +126,16 @@ fn write_entries<A: Allocator, B: Allocator>(
 /// Writes an entry of which this many bytes are printed at most.
 fn write_entry<A: Allocator, B: Allocator>(
     text: &mut Vec<u8, A>,
-    views: &Views<'_, B>,
-    limit: u32,
+    call: &PrintedCall<'_, B>,
     base: u64,
     len: u64,
     printed: u64,
 ) -> Result<(), NoMemory>
-    ensures { OnOk result (text.new.items ≡ text.old.items ++ entry_text limit views.now base len printed) }
+    ensures { OnOk result (text.new.items
+        ≡ text.old.items ++ entry_text call.now.limit call.now.stop.now.memory base len printed) }
 {
     text.extend_from_slice(b"{iov_base=".as_slice())?;
-    write_buffer(text, views, limit, base, printed)?;
+    write_buffer(text, call, base, printed)?;
     text.extend_from_slice(b", iov_len=".as_slice())?;
     write_decimal(text, len)?;
     text.push(b'}')?;

@@ -22,6 +22,7 @@ mod note;
 mod notes;
 mod numbers;
 mod piece;
+mod printed_call;
 mod quote;
 mod room;
 mod row_fold;

@@ -6,5 +6,6 @@ use Rattle.record_printer.proofs.arguments.write_arguments.Goals as goal
 
 pub loop-index-preserved : goal.loop-index-preserved
 loop-index-preserved g c =
-    one_more (argument_at c.args.limit c.args.stop.now c.args.kinds.now) c.loop-index.index (c.args.start + c.args.count)
+    let call = c.args.call.now in
+    one_more (argument_at call.limit call.stop.now call.kinds.now) c.loop-index.index (c.args.start + c.args.count)
     _ _ _ c.loop-index-test.true c.in_ok-write_argument_at.ensures c.loop-index.invariant

@@ -5,5 +5,5 @@ use Rattle.record_printer.proofs.arguments.write_arguments.Given as goal
 
 abbrev pub invariant-loop-index : goal.invariant-loop-index
 invariant-loop-index g l =
-    l.text.items ++ arguments_text l.limit l.stop l.kinds l.index (l.start + l.count - l.index)
-    ≡ l.fn.text.items ++ arguments_text l.limit l.stop l.kinds l.start l.count
+    l.text.items ++ arguments_text l.call.limit l.call.stop.now l.call.kinds.now l.index (l.start + l.count - l.index)
+    ≡ l.fn.text.items ++ arguments_text l.call.limit l.call.stop.now l.call.kinds.now l.start l.count

@@ -5,5 +5,5 @@ use Rattle.record_printer.proofs.iovecs.write_entries.Given as goal
 
 abbrev pub invariant-loop-item : goal.invariant-loop-item
 invariant-loop-item g l =
-    l.text.items ++ entries_text l.limit l.views l.is_first l.left l.item-iterator
-    ≡ l.fn.text.items ++ entries_text l.limit l.views true l.fn.left l.fn.items
+    l.text.items ++ entries_text l.call.limit l.call.stop.now.memory l.is_first l.left l.item-iterator
+    ≡ l.fn.text.items ++ entries_text l.call.limit l.call.stop.now.memory true l.fn.left l.fn.items

@@ -3,7 +3,6 @@
 ghost use Rattle.std.specs.Prelude.{◌≡◌, ◌≢◌, ◌↔◌, IfSome, IsTrue, None, Ok, false, true};
 ghost use Rattle.trace_options.specs.declared.wait_flags.TheConstants.WaitFlags as flag;
 ghost use Rattle.trace_status.specs.declared.wait_status.WaitStatus.TheVariants.{StillAlive};
-ghost use Rattle.stop_table.specs.Entry.{AreLegal};
 ghost use Rattle.trace_calls.specs.Answer.{IsRowAnswer, IsWaitAnswer, IsWaitRowAnswer};
 ghost use Rattle.trace_calls.specs.Handle.{KeepsTable};
 ghost use Rattle.trace_calls.specs.Request.{has, waitid_request, waitpid_request};
@@ -11,6 +10,7 @@ ghost use Rattle.trace_calls.specs.Waiting.{IsOneTry};
 
 use crate::by_row::without_row;
 use crate::calls::Calls;
+use crate::handle::handle_is_legal;
 use crate::id::Id;
 use crate::patience::Patience;
 use crate::request::{Request, waitid_request, waitpid_request};
@@ -107,7 +107,7 @@ impl<A: Allocator> Calls<A> {
         ensures answer { IsRowAnswer request self.old self.new result }
         ensures waits { result ≢ Ok None }
     {
-        self.has_seen_legal();
+        handle_is_legal(&self.tracer);
         let mut patience = Patience::new();
         for _ in rt.forever() {
             let answer = self.wait(request);
@@ -117,13 +117,6 @@ impl<A: Allocator> Calls<A> {
             patience.wait(rt);
         }
         unreachable!()
-    }
-
-    /// What this caller has seen is a legal history.
-    fn has_seen_legal(&self)
-        ensures { AreLegal self.now.view.roster self.now.view.seen }
-    {
-        let _number = self.tracer.number();
     }
 }
 

@@ -9,6 +9,7 @@ ghost use Rattle.trace_calls.specs.Request.{waitid_request};
 ghost use Rattle.trace_calls.specs.Waiting.{IsOneTry};
 
 use crate::calls::Calls;
+use crate::handle::handle_is_legal;
 use crate::id::Id;
 use crate::request::waitid_request;
 use crate::row_status::RowStatus;
@@ -57,7 +58,7 @@ impl<A: Allocator> Calls<A> {
         if how.signal > LAST_SIGNAL {
             return Err(Errno::EIO);
         }
-        let _number = self.tracer.number();
+        handle_is_legal(&self.tracer);
         let Some(claim) = self.held[row as usize].take() else {
             unreachable!()
         };

@@ -9,6 +9,7 @@ ghost use Rattle.trace_calls.specs.Request.{waitid_request, waitpid_request};
 ghost use Rattle.trace_calls.specs.Waiting.{IsOneTry};
 
 use crate::by_row::without_row;
+use crate::handle::handle_is_legal;
 use crate::id::Id;
 use crate::request::{Request, waitpid_request};
 use crate::row_status::RowStatus;
@@ -142,7 +143,7 @@ impl<A: Allocator> Calls<A> {
         ensures answer { IsRowAnswer request self.old self.new result }
         ensures once { IsOneTry request self.old.view self.new.view }
     {
-        let _number = self.tracer.number();
+        handle_is_legal(&self.tracer);
         let found = scan(&mut self.tracer, &self.roster, request);
         settle(found, &self.roster, &mut self.held, &mut self.counts)
     }

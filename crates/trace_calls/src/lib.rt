@@ -17,6 +17,7 @@ mod blocking;
 mod by_pid;
 mod by_row;
 mod calls;
+mod handle;
 mod id;
 mod patience;
 mod request;

@@ -1,7 +1,7 @@
 //! The scan of a wait: the selected rows are tried in the order of the roster, so that a parent is tried before its
 //! children, until one has a status to report.
 
-ghost use Rattle.std.specs.Prelude.{◌≡◌, ◌<◌, ◌||◌, false, length, true};
+ghost use Rattle.std.specs.Prelude.{◌≡◌, ◌<◌, false, length, true};
 ghost use Rattle.stop_table.specs.Claiming.{IsTaken};
 ghost use Rattle.stop_table.specs.Handle.{TriesOnce};
 ghost use Rattle.stop_table.specs.Tracer.{IsTracerHandle, KeepsHandle};
@@ -9,6 +9,7 @@ ghost use Rattle.trace_calls.specs.Scan.{IsFinding, IsTried, IsTurn, is_pending_
 ghost use Rattle.trace_calls.specs.Selection.{IsSelected};
 ghost use Rattle.trace_calls.specs.Waiting.{IsOneTry};
 
+use crate::handle::handle_is_legal;
 use crate::request::Request;
 use std::alloc::Allocator;
 use stop_history::Roster;
@@ -47,7 +48,7 @@ pub(crate) fn scan<A: Allocator>(
     ensures finding { IsFinding request tracer.old.view tracer.new.view result }
     ensures once { IsOneTry request tracer.old.view tracer.new.view }
 {
-    let _number = tracer.number();
+    handle_is_legal(tracer);
     let mut pending = false;
     for row in 0..roster.len() {
         match turn(tracer, roster, row, request) {
@@ -60,19 +61,13 @@ pub(crate) fn scan<A: Allocator>(
                     status,
                 };
             }
-            Try::Passes { pending: more } => pending = either(pending, more),
+            Try::Passes { pending: more } => pending |= more,
         }
     }
     if pending {
         return Finding::NothingYet;
     }
     Finding::NoChild
-}
-
-fn either(a: bool, b: bool) -> bool
-    ensures { result ≡ (a || b) }
-{
-    a || b
 }
 
 /// Tries a row, if it is selected.

@@ -1,6 +1,5 @@
 -- What the scan found.
-use Rattle.std.proofs.Common.{◌∙◌, ◌≤◌, ◌+◌, ap, arith, length, subst, sym}
-use Rattle.trace_calls.specs.Scan.{Scanned}
+use Rattle.std.proofs.Common.{◌∙◌, ◌≤◌, ◌+◌, ap, arith, length, subst}
 use Rattle.trace_calls.proofs.Scans.{scan_on, found_stop, found_death, found_shown, found_none}
 use Rattle.trace_calls.proofs.Tries.{tried_all, tried_on}
 use Rattle.trace_calls.proofs.scan.scan.Goals as goal
@@ -8,28 +7,26 @@ use Rattle.trace_calls.proofs.scan.scan.Goals as goal
 pub returns-in-Stop-clause-finding : goal.returns-in-Stop-clause-finding
 returns-in-Stop-clause-finding g c =
     found_stop c.args.request c.args.tracer.now.view c.loop-row.tracer.view c.turn.new.tracer.view c.loop-row.row
-    c.loop-row.pending c.number-number.ensures.handle.placed c.loop-row.invariant.1 c.in-Stop.claim c.in-Stop.ensures.turn
+    c.loop-row.pending c.handle_is_legal.ensures.placed c.loop-row.invariant.1 c.in-Stop.claim c.in-Stop.ensures.turn
 
 pub returns-in-Ended-clause-finding : goal.returns-in-Ended-clause-finding
 returns-in-Ended-clause-finding g c =
     found_death c.args.request c.args.tracer.now.view c.loop-row.tracer.view c.turn.new.tracer.view c.loop-row.row
-    c.loop-row.pending c.number-number.ensures.handle.placed c.loop-row.invariant.1 c.in-Ended.death c.in-Ended.number
+    c.loop-row.pending c.handle_is_legal.ensures.placed c.loop-row.invariant.1 c.in-Ended.death c.in-Ended.number
     c.in-Ended.ensures.turn
 
 pub returns-in-Shows-clause-finding : goal.returns-in-Shows-clause-finding
 returns-in-Shows-clause-finding g c =
     found_shown c.args.request c.args.tracer.now.view c.loop-row.tracer.view c.turn.new.tracer.view c.loop-row.row
-    c.loop-row.pending c.number-number.ensures.handle.placed c.loop-row.invariant.1 c.in-Shows.number c.in-Shows.status
+    c.loop-row.pending c.handle_is_legal.ensures.placed c.loop-row.invariant.1 c.in-Shows.number c.in-Shows.status
     c.in-Shows.ensures.turn
 
 pub loop-row-preserved : goal.loop-row-preserved
 loop-row-preserved g c = (
   c.in-Passes.ensures.handle ∙ c.loop-row.invariant.0,
-  subst (Scanned c.args.request c.args.tracer.now.view c.turn.new.tracer.view (c.loop-row.row + 1))
-      (sym c.either-pending.ensures)
-      (scan_on c.args.request c.args.tracer.now.view c.loop-row.tracer.view c.turn.new.tracer.view c.loop-row.row
-      c.loop-row.pending c.number-number.ensures.handle.placed c.loop-row.invariant.1 c.in-Passes.more
-      c.in-Passes.ensures.turn),
+  scan_on c.args.request c.args.tracer.now.view c.loop-row.tracer.view c.turn.new.tracer.view c.loop-row.row
+      c.loop-row.pending c.handle_is_legal.ensures.placed c.loop-row.invariant.1 c.in-Passes.more
+      c.in-Passes.ensures.turn,
   tried_on c.args.request c.args.tracer.now.view c.loop-row.tracer.view c.turn.new.tracer.view c.loop-row.row _
       c.loop-row.invariant.1.looked.grows.same.roster c.loop-row.invariant.2 c.in-Passes.ensures.turn
       c.turn.ensures.once,

@@ -38,7 +38,7 @@ invariant_of-self g c =
     (sym c.take.ensures.value ∙ c.in-Some-take.is) in
     let made = c.resume.ensures.made in
     resumed_claims x.tracer c.resume.new.self x.roster x.held.items x.counts.items made.0 c.args.row claim.word.number
-    c.args.how c.take.new.self c.number-number.ensures.handle c.self.invariant
+    c.args.how c.take.new.self c.handle_is_legal.ensures c.self.invariant
     (subst (λ r. EndsWith x.tracer.view c.resume.new.self.view made.0
     (bare (event.Resume r claim.word.number c.args.how x.tracer.view.number))) holds.0 made.1)
     c.take.ensures.after
@@ -57,7 +57,7 @@ returns-clause-answer g c =
       has,
       made_restart a x.tracer c.resume.new.self x.counts.items c.args.row claim.row claim.word.number c.args.how
           c.self.view_is holds.0
-          (held_number x.tracer.view c.args.row claim.word claim.stop c.number-number.ensures.handle.legal holds.1
+          (held_number x.tracer.view c.args.row claim.word claim.stop c.handle_is_legal.ensures.legal holds.1
           ∙ ap (λ (s : Content). s.number) stop)
           c.resume.ensures.made,
       c.if-how-gt-LAST_SIGNAL.false,

@@ -9,15 +9,15 @@ use Rattle.trace_calls.proofs.calls.Calls.wait.Goals as goal
 pub settle-requires-clause-placed : goal.settle-requires-clause-placed
 settle-requires-clause-placed g c =
     let x = c.self.inside in
-    placed c.args.request x.roster x.tracer c.scan-found.new.tracer x.held.items x.counts.items c.number-number.ensures.handle
-    c.self.invariant c.scan-found.result c.scan-found.ensures.finding
+    placed c.args.request x.roster x.tracer c.scan-found.new.tracer x.held.items x.counts.items
+    c.handle_is_legal.ensures c.self.invariant c.scan-found.result c.scan-found.ensures.finding
 
 pub invariant_of-self : goal.invariant_of-self
 invariant_of-self g c =
     let x = c.self.inside in
-    kept c.args.request x.roster x.tracer c.scan-found.new.tracer x.held.items x.counts.items c.number-number.ensures.handle
-    c.self.invariant c.settle.new.held.items c.settle.new.counts.items c.settle.result c.scan-found.result c.scan-found.ensures.finding
-    c.settle.ensures
+    kept c.args.request x.roster x.tracer c.scan-found.new.tracer x.held.items x.counts.items c.handle_is_legal.ensures
+    c.self.invariant c.settle.new.held.items c.settle.new.counts.items c.settle.result c.scan-found.result
+    c.scan-found.ensures.finding c.settle.ensures
 
 pub returns-clause-answer : goal.returns-clause-answer
 returns-clause-answer g c =
@@ -25,7 +25,7 @@ returns-clause-answer g c =
     subst (λ (h : CallsHandle). IsRowAnswer c.args.request h
     (handle_of c.scan-found.new.tracer c.settle.new.counts.items) c.settle.result) c.self.view_is
     (answered c.args.request x.roster x.tracer c.scan-found.new.tracer x.held.items x.counts.items
-    c.number-number.ensures.handle c.self.invariant c.settle.new.held.items c.settle.new.counts.items c.settle.result
+    c.handle_is_legal.ensures c.self.invariant c.settle.new.held.items c.settle.new.counts.items c.settle.result
     c.scan-found.result c.scan-found.ensures.finding c.settle.ensures)
 
 pub returns-clause-once : goal.returns-clause-once

@@ -17,7 +17,7 @@ use trace_pages::Memory;
 pub const IOV_MAX: u64 = 1024;
 
 /// How many bytes an entry has: `iov_base` and `iov_len`, of 8 bytes each.
-pub const ENTRY_SIZE: u64 = 16;
+pub(crate) const ENTRY_SIZE: u64 = 16;
 
 /// What an array has at an index.
 #[derive(Clone, Copy, Debug, PartialEq, Eq, Hash)]

@@ -12,7 +12,7 @@ use std::alloc::Allocator;
 use trace_pages::{Fault, Memory};
 
 /// How a run of at most `count` bytes ends.
-pub fn end_of_run<A: Allocator>(memory: &Memory<A>, addr: u64, count: u64) -> End
+pub(crate) fn end_of_run<A: Allocator>(memory: &Memory<A>, addr: u64, count: u64) -> End
     ensures { result ≡ bytes_end (run_end memory.now addr count) }
 {
     match memory.check_run(addr, count as usize) {
@@ -34,7 +34,7 @@ fn end_at<A: Allocator>(memory: &Memory<A>, fault: Fault) -> End
 }
 
 /// The length of a run of at most `count` bytes, by its end.
-pub fn length_of_run(addr: u64, count: u64, end: End) -> u64
+pub(crate) fn length_of_run(addr: u64, count: u64, end: End) -> u64
     ensures { (memory : FlatMemory) → end ≡ bytes_end (run_end memory addr count)
         → result ≡ length (run memory addr count) }
 {
@@ -46,7 +46,7 @@ pub fn length_of_run(addr: u64, count: u64, end: End) -> u64
 }
 
 /// The first piece of a run that has all its `left` bytes: up to the end of its page, or of the run.
-pub fn front_of_run<'a, A: Allocator>(memory: &'a Memory<A>, at: u64, left: u64) -> &'a [u8]
+pub(crate) fn front_of_run<'a, A: Allocator>(memory: &'a Memory<A>, at: u64, left: u64) -> &'a [u8]
     requires some { 0 < left }
     requires full { run_end memory.now at left ≡ flat.Full }
     ensures run { run memory.now at left

@@ -14,7 +14,7 @@ use trace_options::{ArgumentKind, NoMemory};
 use trace_record::StopRecord;
 
 /// Writes `count` arguments from the one at `start` on, each but the first argument of the call after a comma.
-pub fn write_arguments<A: Allocator, B: Allocator>(
+pub(crate) fn write_arguments<A: Allocator, B: Allocator>(
     text: &mut Vec<u8, A>,
     call: &PrintedCall<'_, B>,
     start: usize,
@@ -50,7 +50,7 @@ fn write_argument_at<A: Allocator, B: Allocator>(
 }
 
 /// The register of an argument.
-pub fn argument_word<B: Allocator>(stop: &StopRecord<B>, index: usize) -> u64
+pub(crate) fn argument_word<B: Allocator>(stop: &StopRecord<B>, index: usize) -> u64
     ensures { result ≡ argument_word stop.now index }
 {
     match stop.regs.args().get(index) {
@@ -86,7 +86,7 @@ fn write_argument<A: Allocator, B: Allocator>(
 
 /// Writes the bytes that came out of a call that answered `count`, or nothing where they are not all there; whether
 /// they are.
-pub fn write_bytes_out<A: Allocator, B: Allocator>(
+pub(crate) fn write_bytes_out<A: Allocator, B: Allocator>(
     text: &mut Vec<u8, A>,
     call: &PrintedCall<'_, B>,
     kind: ArgumentKind,

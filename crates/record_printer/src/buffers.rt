@@ -13,7 +13,7 @@ use trace_options::NoMemory;
 
 /// Writes the first bytes of a buffer in quotes, with dots after them where it has more, or its address where one of
 /// them is absent.
-pub fn write_buffer<A: Allocator, B: Allocator>(
+pub(crate) fn write_buffer<A: Allocator, B: Allocator>(
     text: &mut Vec<u8, A>,
     call: &PrintedCall<'_, B>,
     addr: u64,
@@ -31,7 +31,7 @@ pub fn write_buffer<A: Allocator, B: Allocator>(
 
 /// Writes the first bytes of a buffer in quotes, with dots after them where it has more, or nothing where one of them
 /// is absent; whether they are all there.
-pub fn write_whole<A: Allocator, B: Allocator>(
+pub(crate) fn write_whole<A: Allocator, B: Allocator>(
     text: &mut Vec<u8, A>,
     call: &PrintedCall<'_, B>,
     addr: u64,
@@ -55,7 +55,7 @@ pub fn write_whole<A: Allocator, B: Allocator>(
 
 /// Writes the string at an address in quotes, or its first bytes with dots after them where it is longer, or its
 /// address where the bytes that have to be examined are not all there.
-pub fn write_string<A: Allocator, B: Allocator>(
+pub(crate) fn write_string<A: Allocator, B: Allocator>(
     text: &mut Vec<u8, A>,
     call: &PrintedCall<'_, B>,
     addr: u64,

@@ -17,7 +17,7 @@ use trace_options::NoMemory;
 use trace_record::StopRecord;
 
 /// The end of a call: the bytes that came out of it, and its result.
-pub fn call_end<A: Allocator + Copy, B: Allocator>(
+pub(crate) fn call_end<A: Allocator + Copy, B: Allocator>(
     alloc: A,
     stop: &StopRecord<B>,
     show: &Show,

@@ -12,7 +12,7 @@ use std::marker::Model;
 /// The parts of the line stand in one vector, since a note is made for each stop: first the line with a gap for the
 /// argument whose bytes come out of the call, and behind it the address of that argument.
 #[derive(Drop)]
-pub struct CallStart<A: Allocator = Global> {
+pub(crate) struct CallStart<A: Allocator = Global> {
     /// Whether calls of this number are printed.
     shown: bool,
     number: u64,
@@ -37,7 +37,7 @@ impl<A: Allocator> Model for CallStart<A> {
 
 impl<A: Allocator> CallStart<A> {
     /// The start of a call that is not printed.
-    pub fn hidden(alloc: A, number: u64) -> CallStart<A>
+    pub(crate) fn hidden(alloc: A, number: u64) -> CallStart<A>
         ensures { result ≡ hidden_start number }
     {
         CallStart {
@@ -50,7 +50,7 @@ impl<A: Allocator> CallStart<A> {
     }
 
     /// The start of a call that is printed, by the place of the gap in its line, and that of the address behind it.
-    pub fn printed(
+    pub(crate) fn printed(
         number: u64,
         text: Vec<u8, A>,
         gap: usize,
@@ -69,28 +69,28 @@ impl<A: Allocator> CallStart<A> {
     }
 
     /// Whether calls of this number are printed.
-    pub fn is_shown(&self) -> bool
+    pub(crate) fn is_shown(&self) -> bool
         ensures { result ≡ self.now.shown }
     {
         self.shown
     }
 
     /// The number of the call.
-    pub fn number(&self) -> u64
+    pub(crate) fn number(&self) -> u64
         ensures { result ≡ self.now.number }
     {
         self.number
     }
 
     /// The line up to the argument whose bytes come out of the call, or up to the result where there is none.
-    pub fn before(&self) -> &[u8]
+    pub(crate) fn before(&self) -> &[u8]
         ensures { result.now ≡ self.now.before }
     {
         &self.text.as_slice()[..self.gap]
     }
 
     /// The address of that argument, which is printed where the bytes are not all there.
-    pub fn out(&self) -> Option<&[u8]>
+    pub(crate) fn out(&self) -> Option<&[u8]>
         ensures { option_map (λ text. text.now) result ≡ self.now.out }
     {
         let start = self.address?;
@@ -98,7 +98,7 @@ impl<A: Allocator> CallStart<A> {
     }
 
     /// The line from there to the result.
-    pub fn after(&self) -> &[u8]
+    pub(crate) fn after(&self) -> &[u8]
         ensures { result.now ≡ self.now.after }
     {
         let text = self.text.as_slice();
@@ -112,7 +112,7 @@ impl<A: Allocator> CallStart<A> {
 /// How a call ends: its result without a line feed, and behind that, in the same vector, the bytes that came out of the
 /// call as they are printed.
 #[derive(Drop)]
-pub struct CallEnd<A: Allocator = Global> {
+pub(crate) struct CallEnd<A: Allocator = Global> {
     number: u64,
     text: Vec<u8, A>,
     /// Where the bytes that came out begin; None where they are not all there.
@@ -132,7 +132,7 @@ impl<A: Allocator> Model for CallEnd<A> {
 
 impl<A: Allocator> CallEnd<A> {
     /// The end of a call, by its result and the place behind it of the bytes that came out.
-    pub fn new(number: u64, text: Vec<u8, A>, out: Option<usize>) -> CallEnd<A>
+    pub(crate) fn new(number: u64, text: Vec<u8, A>, out: Option<usize>) -> CallEnd<A>
         requires { IsPlace out text.items }
         ensures { result ≡ end_in number text.items out }
     {
@@ -140,14 +140,14 @@ impl<A: Allocator> CallEnd<A> {
     }
 
     /// The number of the call.
-    pub fn number(&self) -> u64
+    pub(crate) fn number(&self) -> u64
         ensures { result ≡ self.now.number }
     {
         self.number
     }
 
     /// The bytes that came out of the call, as they are printed, where they are all there.
-    pub fn out(&self) -> Option<&[u8]>
+    pub(crate) fn out(&self) -> Option<&[u8]>
         ensures { option_map (λ text. text.now) result ≡ self.now.out }
     {
         let start = self.out?;
@@ -155,7 +155,7 @@ impl<A: Allocator> CallEnd<A> {
     }
 
     /// The result, without a line feed.
-    pub fn result(&self) -> &[u8]
+    pub(crate) fn result(&self) -> &[u8]
         ensures { result.now ≡ self.now.result }
     {
         let text = self.text.as_slice();

@@ -18,7 +18,7 @@ use trace_options::NoMemory;
 use trace_record::StopRecord;
 
 /// The start of a call: its line up to the result, where it is printed.
-pub fn call_start<A: Allocator + Copy, B: Allocator>(
+pub(crate) fn call_start<A: Allocator + Copy, B: Allocator>(
     alloc: A,
     stop: &StopRecord<B>,
     show: &Show,

@@ -12,7 +12,7 @@ use trace_options::{ArgumentKind, NoMemory, Syscall};
 const UNKNOWN: [ArgumentKind; 6] = [ArgumentKind::Hexadecimal; 6];
 
 /// Writes the name of a call, or its number where it is not known by name.
-pub fn write_name<A: Allocator>(text: &mut Vec<u8, A>, number: u64) -> Result<(), NoMemory>
+pub(crate) fn write_name<A: Allocator>(text: &mut Vec<u8, A>, number: u64) -> Result<(), NoMemory>
     ensures { OnOk result (text.new.items ≡ text.old.items ++ call_name number) }
 {
     match Syscall::from_number(number) {
@@ -26,7 +26,7 @@ pub fn write_name<A: Allocator>(text: &mut Vec<u8, A>, number: u64) -> Result<()
 }
 
 /// How the arguments of a call are printed.
-pub fn kinds_of(number: u64) -> &'static [ArgumentKind]
+pub(crate) fn kinds_of(number: u64) -> &'static [ArgumentKind]
     ensures { result.now ≡ kinds_of number }
 {
     match Syscall::from_number(number) {
@@ -36,7 +36,7 @@ pub fn kinds_of(number: u64) -> &'static [ArgumentKind]
 }
 
 /// The place of the argument whose bytes come out of a call.
-pub fn out_place(kinds: &[ArgumentKind]) -> Option<usize>
+pub(crate) fn out_place(kinds: &[ArgumentKind]) -> Option<usize>
     ensures place { result ≡ out_place kinds.now }
     ensures within { IfSome result (λ place. place < length kinds.now) }
 {

@@ -16,15 +16,15 @@ use std::collections::BTreeMap;
 
 /// Stops before a number, and the room for them.
 #[derive(Clone, Copy)]
-pub struct Chain {
+pub(crate) struct Chain {
     /// The number of the first stop that is not there.
-    pub next: u32,
-    pub room: Room,
+    pub(crate) next: u32,
+    pub(crate) room: Room,
 }
 
 /// The stops from a number on that are there, none of which has a number above the last, and this room with theirs.
 /// None where that is no `usize`.
-pub fn chain_from<A: Allocator>(
+pub(crate) fn chain_from<A: Allocator>(
     early: &BTreeMap<u32, Note<A>, A>,
     first: u32,
     last: u32,
@@ -56,7 +56,7 @@ pub fn chain_from<A: Allocator>(
 }
 
 /// Folds the stops from a number up to another, which no longer wait then.
-pub fn fold_chain<A: Allocator>(
+pub(crate) fn fold_chain<A: Allocator>(
     fold: &mut RowFold<A>,
     early: &mut BTreeMap<u32, Note<A>, A>,
     first: u32,

@@ -10,7 +10,7 @@ use trace_options::NoMemory;
 use trace_record::Death;
 
 /// Writes the line of the death of a thread, with its line feed.
-pub fn write_death<A: Allocator>(
+pub(crate) fn write_death<A: Allocator>(
     text: &mut Vec<u8, A>,
     tid: u32,
     death: Death,

@@ -15,7 +15,7 @@ use trace_options::NoMemory;
 
 /// Writes the first entries of an array whose bytes go into a call, with dots after them where it has more, or its
 /// address where the array cannot be shown.
-pub fn write_array<A: Allocator, B: Allocator>(
+pub(crate) fn write_array<A: Allocator, B: Allocator>(
     text: &mut Vec<u8, A>,
     call: &PrintedCall<'_, B>,
     addr: u64,
@@ -33,7 +33,7 @@ pub fn write_array<A: Allocator, B: Allocator>(
 
 /// Writes the first entries of an array, with dots after them where it has more, or nothing where the array cannot be
 /// shown; whether it can. Where its bytes came out of a call they share its result in order.
-pub fn write_whole_array<A: Allocator, B: Allocator>(
+pub(crate) fn write_whole_array<A: Allocator, B: Allocator>(
     text: &mut Vec<u8, A>,
     call: &PrintedCall<'_, B>,
     left: Option<u64>,
@@ -154,7 +154,10 @@ fn write_more<A: Allocator>(text: &mut Vec<u8, A>, limit: u32, count: u64) -> Re
 }
 
 /// Writes a comma and a space before an item that is not the first.
-pub fn write_separator<A: Allocator>(text: &mut Vec<u8, A>, is_first: bool) -> Result<(), NoMemory>
+pub(crate) fn write_separator<A: Allocator>(
+    text: &mut Vec<u8, A>,
+    is_first: bool,
+) -> Result<(), NoMemory>
     ensures { OnOk result (text.new.items ≡ text.old.items ++ separator is_first) }
 {
     if !is_first {

@@ -25,7 +25,7 @@ use trace_record::Death;
 
 /// A row: its stops up to a number are folded, and those that came before their turn wait.
 #[derive(Drop)]
-pub struct KeptRow<A: Allocator = Global> {
+pub(crate) struct KeptRow<A: Allocator = Global> {
     /// Whether the creation of a child names the row.
     named: bool,
     ending: Option<Ending>,
@@ -51,7 +51,7 @@ impl<A: Allocator> Model for KeptRow<A> {
 
 impl<A: Allocator + Copy> KeptRow<A> {
     /// A row of which nothing has come. It takes no memory.
-    pub fn new(alloc: A) -> KeptRow<A>
+    pub(crate) fn new(alloc: A) -> KeptRow<A>
         ensures { result ≡ new_row }
     {
         KeptRow {
@@ -65,7 +65,7 @@ impl<A: Allocator + Copy> KeptRow<A> {
     }
 
     /// Adds a stop. One with the next number is folded at once, and those that wait for it after it; another waits.
-    pub fn add_stop(&mut self, number: u32, note: Note<A>) -> Result<(), FoldError>
+    pub(crate) fn add_stop(&mut self, number: u32, note: Note<A>) -> Result<(), FoldError>
         requires { number ≤ LAST_NUMBER }
         ensures refused { (stops : Stops) → Follows self.old stops → (error : FoldError)
             → stop_fault self.old.ending (is_some (stops number)) number ≡ Some error → result ≡ Err error }
@@ -158,7 +158,7 @@ impl<A: Allocator> KeptRow<A> {
     }
 
     /// Adds the death. It takes no memory.
-    pub fn add_death(&mut self, number: u32, death: Death) -> Result<(), FoldError>
+    pub(crate) fn add_death(&mut self, number: u32, death: Death) -> Result<(), FoldError>
         requires { number ≤ LAST_NUMBER }
         ensures refused { (error : FoldError) → death_fault self.old.ending self.old.last number ≡ Some error
             → result ≡ Err error }
@@ -178,14 +178,14 @@ impl<A: Allocator> KeptRow<A> {
     }
 
     /// Notes that the creation of a child names the row.
-    pub fn set_named(&mut self)
+    pub(crate) fn set_named(&mut self)
         ensures { self.new ≡ record self.old { named = true } }
     {
         self.named = true;
     }
 
     /// Whether the creation of a child names the row, or a piece of it has come.
-    pub fn is_known(&self) -> bool
+    pub(crate) fn is_known(&self) -> bool
         ensures { result ≡ (self.now.named || has_any self.now) }
     {
         self.named || self.last > 0 || self.ending.is_some()
@@ -193,7 +193,7 @@ impl<A: Allocator> KeptRow<A> {
 
     /// The least number of a stop that has not come and must come, or one more than the last where the death alone is
     /// missing.
-    pub fn missing(&self) -> Option<u32>
+    pub(crate) fn missing(&self) -> Option<u32>
         ensures { (stops : Stops) → Follows self.now stops
             → result ≡ missing_in stops self.now.ending self.now.last }
     {
@@ -215,12 +215,12 @@ impl<A: Allocator> KeptRow<A> {
     }
 
     /// About how long the text of the row is.
-    pub fn text_len(&self) -> usize {
+    pub(crate) fn text_len(&self) -> usize {
         self.fold.text_len()
     }
 
     /// The text of a row that lacks no stop, if it has died; one that has not has none.
-    pub fn into_text(self, tid: u32) -> Result<Vec<u8, A>, NoMemory>
+    pub(crate) fn into_text(self, tid: u32) -> Result<Vec<u8, A>, NoMemory>
         ensures { (stops : Stops) → Follows self stops
             → ((ending : Ending) → self.ending ≡ Some ending → missing_in stops self.ending self.last ≡ None)
             → IfOk result (λ text. text.items ≡ text_in tid stops self.ending) }

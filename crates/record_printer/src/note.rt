@@ -9,7 +9,7 @@ use std::alloc::{Allocator, Global};
 
 /// What is noted of a stop.
 #[derive(Drop)]
-pub enum Note<A: Allocator = Global> {
+pub(crate) enum Note<A: Allocator = Global> {
     /// A call starts at a syscall-enter-stop (ptrace(2), "Syscall-stops").
     Enter(CallStart<A>),
     /// A call starts at a seccomp stop, unless it has stopped at its entry (ptrace(2), "PTRACE_EVENT stops").
@@ -26,7 +26,7 @@ pub enum Note<A: Allocator = Global> {
 
 impl<A: Allocator> Note<A> {
     /// The child that the stop creates.
-    pub fn child(&self) -> Option<u32>
+    pub(crate) fn child(&self) -> Option<u32>
         ensures { result ≡ child_of (note_of self.now) }
     {
         match self {

@@ -16,7 +16,7 @@ use trace_record::{Stop, StopRecord};
 
 /// What is noted of a stop.
 #[inline(always)]
-pub fn stop_note<A: Allocator + Copy, B: Allocator>(
+pub(crate) fn stop_note<A: Allocator + Copy, B: Allocator>(
     alloc: A,
     stop: &StopRecord<B>,
     show: &Show,

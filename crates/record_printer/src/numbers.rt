@@ -13,7 +13,10 @@ use trace_options::{NoMemory, error_name};
 use trace_regs::{Outcome, Regs};
 
 /// Writes a number in decimal.
-pub fn write_decimal<A: Allocator>(text: &mut Vec<u8, A>, number: u64) -> Result<(), NoMemory>
+pub(crate) fn write_decimal<A: Allocator>(
+    text: &mut Vec<u8, A>,
+    number: u64,
+) -> Result<(), NoMemory>
     ensures { OnOk result (text.new.items ≡ text.old.items ++ decimal number) }
 {
     let mut buffer = Buffer::new();
@@ -31,7 +34,7 @@ fn write_signed<A: Allocator>(text: &mut Vec<u8, A>, number: i64) -> Result<(), 
 }
 
 /// Writes the low 32 bits of a register as a C `int`, in signed decimal.
-pub fn write_int<A: Allocator>(text: &mut Vec<u8, A>, word: u64) -> Result<(), NoMemory>
+pub(crate) fn write_int<A: Allocator>(text: &mut Vec<u8, A>, word: u64) -> Result<(), NoMemory>
     ensures { OnOk result (text.new.items ≡ text.old.items ++ int_text word) }
 {
     let low = (word % (1 << 32)) as u32;
@@ -41,7 +44,10 @@ pub fn write_int<A: Allocator>(text: &mut Vec<u8, A>, word: u64) -> Result<(), N
 }
 
 /// Writes a number in hexadecimal after `0x`, in lower case and without leading zeros.
-pub fn write_hexadecimal<A: Allocator>(text: &mut Vec<u8, A>, word: u64) -> Result<(), NoMemory>
+pub(crate) fn write_hexadecimal<A: Allocator>(
+    text: &mut Vec<u8, A>,
+    word: u64,
+) -> Result<(), NoMemory>
     ensures { OnOk result (text.new.items ≡ text.old.items ++ hexadecimal word) }
 {
     // The sixteen digits come after room for `0x`, which then takes the place of the last two leading zeros.
@@ -56,7 +62,7 @@ pub fn write_hexadecimal<A: Allocator>(text: &mut Vec<u8, A>, word: u64) -> Resu
 }
 
 /// Writes an address: `NULL`, or in hexadecimal.
-pub fn write_address<A: Allocator>(text: &mut Vec<u8, A>, word: u64) -> Result<(), NoMemory>
+pub(crate) fn write_address<A: Allocator>(text: &mut Vec<u8, A>, word: u64) -> Result<(), NoMemory>
     ensures { OnOk result (text.new.items ≡ text.old.items ++ address_text word) }
 {
     if word == 0 {
@@ -68,7 +74,7 @@ pub fn write_address<A: Allocator>(text: &mut Vec<u8, A>, word: u64) -> Result<(
 }
 
 /// Writes the low 16 bits of a register as the permissions of a file (`mode_t`), in octal.
-pub fn write_mode<A: Allocator>(text: &mut Vec<u8, A>, word: u64) -> Result<(), NoMemory>
+pub(crate) fn write_mode<A: Allocator>(text: &mut Vec<u8, A>, word: u64) -> Result<(), NoMemory>
     ensures { OnOk result (text.new.items ≡ text.old.items ++ mode_text word) }
 {
     let mode = word % (1 << 16);
@@ -106,7 +112,7 @@ fn write_error<A: Allocator>(text: &mut Vec<u8, A>, number: u16) -> Result<(), N
 }
 
 /// Writes the result of a system call: -1 and the error, or the value.
-pub fn write_result<A: Allocator>(text: &mut Vec<u8, A>, regs: &Regs) -> Result<(), NoMemory>
+pub(crate) fn write_result<A: Allocator>(text: &mut Vec<u8, A>, regs: &Regs) -> Result<(), NoMemory>
     ensures { OnOk result (text.new.items ≡ text.old.items ++ result_text (cast_signed w64 regs.now.rax)) }
 {
     match regs.result() {

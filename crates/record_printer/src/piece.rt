@@ -21,7 +21,7 @@ pub struct Piece<A: Allocator = Global> {
 
 /// What gives a piece.
 #[derive(Drop)]
-pub enum Given<A: Allocator = Global> {
+pub(crate) enum Given<A: Allocator = Global> {
     Stop(Note<A>),
     Death(Death),
 }

@@ -6,11 +6,11 @@ use trace_record::StopRecord;
 
 /// What the parts of a call's line are made of.
 #[derive(Drop)]
-pub struct PrintedCall<'a, B: Allocator = Global> {
+pub(crate) struct PrintedCall<'a, B: Allocator = Global> {
     /// The record of a stop in the call.
-    pub stop: &'a StopRecord<B>,
+    pub(crate) stop: &'a StopRecord<B>,
     /// How its arguments are printed.
-    pub kinds: &'a [ArgumentKind],
+    pub(crate) kinds: &'a [ArgumentKind],
     /// How many bytes of a string or of a buffer, and how many entries of an array, are printed at most.
-    pub limit: u32,
+    pub(crate) limit: u32,
 }

@@ -10,7 +10,7 @@ use trace_options::NoMemory;
 
 /// Writes the bytes that are left of a view in quotes, and dots after them where there are more bytes than the view
 /// has.
-pub fn write_shortened<A: Allocator, B: Allocator>(
+pub(crate) fn write_shortened<A: Allocator, B: Allocator>(
     text: &mut Vec<u8, A>,
     cut: Cut<'_, B>,
     more: bool,
@@ -25,7 +25,7 @@ pub fn write_shortened<A: Allocator, B: Allocator>(
 }
 
 /// Writes the bytes that are left of a view in quotes.
-pub fn write_quoted<A: Allocator, B: Allocator>(
+pub(crate) fn write_quoted<A: Allocator, B: Allocator>(
     text: &mut Vec<u8, A>,
     cut: Cut<'_, B>,
 ) -> Result<(), NoMemory>

@@ -10,21 +10,21 @@ use crate::note::Note;
 use std::alloc::Allocator;
 
 /// Room for a part of a line that may be long, as one with 32 bytes in quotes. Few are longer, and those grow.
-pub const LINE_ROOM: usize = 192;
+pub(crate) const LINE_ROOM: usize = 192;
 
 /// Room for a part of a line that is short, as an address or a result.
-pub const REST_ROOM: usize = 24;
+pub(crate) const REST_ROOM: usize = 24;
 
 /// Room for the text of a row, and for the lines that follow that of its pending call.
 #[derive(Clone, Copy)]
-pub struct Room {
-    pub lines: usize,
-    pub behind: usize,
+pub(crate) struct Room {
+    pub(crate) lines: usize,
+    pub(crate) behind: usize,
 }
 
 impl Room {
     /// The room for no note.
-    pub fn none() -> Room
+    pub(crate) fn none() -> Room
         ensures lines { result.lines ≡ 0 }
         ensures behind { result.behind ≡ 0 }
     {
@@ -35,7 +35,7 @@ impl Room {
     }
 
     /// The room for one more note, or None where it is no `usize`.
-    pub fn with<A: Allocator>(self, note: &Note<A>) -> Option<Room>
+    pub(crate) fn with<A: Allocator>(self, note: &Note<A>) -> Option<Room>
         ensures lines { IfSome result (λ room. room.lines ≡ self.lines + note_len (note_of note.now)) }
         ensures behind { IfSome result (λ room. room.behind ≡ self.behind + behind_len (note_of note.now)) }
     {
@@ -66,7 +66,7 @@ fn with_behind<A: Allocator>(behind: usize, note: &Note<A>) -> Option<usize>
 }
 
 /// The room for the parts of the line of a call that its start has.
-pub fn with_start<A: Allocator>(lines: usize, start: &CallStart<A>) -> Option<usize>
+pub(crate) fn with_start<A: Allocator>(lines: usize, start: &CallStart<A>) -> Option<usize>
     ensures { IfSome result (λ more. more ≡ lines + start_len start.now) }
 {
     let before = lines.checked_add(start.before().len())?;

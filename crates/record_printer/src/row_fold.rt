@@ -21,7 +21,7 @@ use trace_record::Death;
 /// The lines of the stops so far: the text that is fixed, the call that is pending, the lines that follow that call's
 /// line, and whether a syscall-enter-stop has no syscall-exit-stop after it.
 #[derive(Drop)]
-pub struct RowFold<A: Allocator = Global> {
+pub(crate) struct RowFold<A: Allocator = Global> {
     pub(crate) text: Vec<u8, A>,
     pub(crate) pending: Option<CallStart<A>>,
     pub(crate) behind: Vec<u8, A>,
@@ -30,7 +30,7 @@ pub struct RowFold<A: Allocator = Global> {
 
 impl<A: Allocator + Copy> RowFold<A> {
     /// No stop yet. It takes no memory.
-    pub fn new(alloc: A) -> RowFold<A>
+    pub(crate) fn new(alloc: A) -> RowFold<A>
         ensures { fold_of result ≡ empty_fold }
     {
         RowFold {
@@ -44,7 +44,7 @@ impl<A: Allocator + Copy> RowFold<A> {
 
 impl<A: Allocator> RowFold<A> {
     /// Makes the texts so long that notes of this room are folded without a growth.
-    pub fn reserve(&mut self, room: Room) -> Result<(), NoMemory>
+    pub(crate) fn reserve(&mut self, room: Room) -> Result<(), NoMemory>
         ensures same { fold_of self.new ≡ fold_of self.old }
         ensures room { OnOk result (HasRoom self.new room.lines room.behind) }
     {
@@ -67,7 +67,7 @@ impl<A: Allocator> RowFold<A> {
 
     /// Folds the next stop. It is compiled into its callers, so that a note is moved less often.
     #[inline(always)]
-    pub fn take(&mut self, note: Note<A>)
+    pub(crate) fn take(&mut self, note: Note<A>)
         requires { HasRoom self.old (note_len (note_of note)) (behind_len (note_of note)) }
         ensures fold { fold_of self.new ≡ fold_after (fold_of self.old) (note_of note) }
         ensures room { (lines behind : ℕ) →
@@ -88,7 +88,7 @@ impl<A: Allocator> RowFold<A> {
     }
 
     /// The text once the thread with this id has died. A call that is pending is unfinished.
-    pub fn finish(mut self, tid: u32, death: Death) -> Result<Vec<u8, A>, NoMemory>
+    pub(crate) fn finish(mut self, tid: u32, death: Death) -> Result<Vec<u8, A>, NoMemory>
         ensures { IfOk result (λ text. text.items ≡ fold_text (fold_of self) (Some (death_text tid death))) }
     {
         if let Some(start) = &self.pending {
@@ -100,13 +100,13 @@ impl<A: Allocator> RowFold<A> {
     }
 
     /// About how long the text is once the thread has died.
-    pub fn text_len(&self) -> usize {
+    pub(crate) fn text_len(&self) -> usize {
         let lines = self.text.len().saturating_add(self.behind.len());
         lines.saturating_add(LINE_ROOM)
     }
 
     /// The text of a row that has none.
-    pub fn into_empty(self) -> Vec<u8, A>
+    pub(crate) fn into_empty(self) -> Vec<u8, A>
         ensures { result.items ≡ [] }
     {
         let mut text = self.text;

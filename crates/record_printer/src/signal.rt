@@ -8,7 +8,7 @@ use std::alloc::Allocator;
 use trace_options::{NoMemory, signal_name};
 
 /// Writes a signal by its name, or as `SIG_` and its number where it has none.
-pub fn write_signal<A: Allocator>(text: &mut Vec<u8, A>, signal: u8) -> Result<(), NoMemory>
+pub(crate) fn write_signal<A: Allocator>(text: &mut Vec<u8, A>, signal: u8) -> Result<(), NoMemory>
     ensures { OnOk result (text.new.items ≡ text.old.items ++ signal_text signal) }
 {
     match signal_name(signal) {

@@ -205,7 +205,13 @@ fn step_of<A: Allocator>(
 
 /// Notes that a tracer has seen the word that a row has now.
 #[inline(always)]
-fn note<A: Allocator>(roster: &Roster<A>, words: &[Word], seen: &mut [Word], tracer: u32, row: Option<u32>)
+fn note<A: Allocator>(
+    roster: &Roster<A>,
+    words: &[Word],
+    seen: &mut [Word],
+    tracer: u32,
+    row: Option<u32>,
+)
     requires words { length words.now ≡ length roster.now }
     requires few { length roster.now ≤ MOST_ROWS }
     requires tracer { tracer < TRACERS }

@@ -19,8 +19,8 @@ pub(crate) const PLACES: usize = 16;
 /// The cells: the word of each row and a further one, the slot of each row, and the roster.
 #[derive(Drop)]
 pub(crate) struct Cells<A: Allocator> {
-    pub table: Table<Option<BoxedRecord<A>>, View, Roster<A>, Kept, A>,
-    pub roster: Roster<A>,
+    pub(crate) table: Table<Option<BoxedRecord<A>>, View, Roster<A>, Kept, A>,
+    pub(crate) roster: Roster<A>,
     pub ghost same: { table.shared.key ≡ roster },
     pub ghost sized: { (table.shared.table_id.words ≡ place (length table.shared.key) + 1)
         × (table.shared.table_id.slots ≡ place (length table.shared.key)) },

@@ -17,16 +17,16 @@ const MARKED: usize = 64;
 
 /// What is left of a text: its window from a place on, and the marks of the next stops there.
 #[derive(Clone, Copy)]
-pub struct Rest<'a> {
-    pub window: &'a [u8],
-    pub start: usize,
+pub(crate) struct Rest<'a> {
+    pub(crate) window: &'a [u8],
+    pub(crate) start: usize,
     /// Bit k marks byte k of the window.
-    pub marks: u64,
+    pub(crate) marks: u64,
 }
 
 /// What is left, as a text.
 #[inline(always)]
-pub fn text_left<'a>(rest: Rest<'a>) -> &'a [u8]
+pub(crate) fn text_left<'a>(rest: Rest<'a>) -> &'a [u8]
     requires { rest.start ≤ length rest.window.now }
     ensures { result.now ≡ drop rest.entry.start rest.entry.window.now }
 {
@@ -35,7 +35,7 @@ pub fn text_left<'a>(rest: Rest<'a>) -> &'a [u8]
 
 /// What is left up to a place in the window.
 #[inline(always)]
-pub fn word_before<'a>(rest: Rest<'a>, end: usize) -> &'a [u8]
+pub(crate) fn word_before<'a>(rest: Rest<'a>, end: usize) -> &'a [u8]
     requires from { rest.start ≤ end }
     requires within { end ≤ length rest.window.now }
     ensures { result.now ≡ take (end - rest.entry.start) (drop rest.entry.start rest.entry.window.now) }
@@ -45,7 +45,7 @@ pub fn word_before<'a>(rest: Rest<'a>, end: usize) -> &'a [u8]
 
 /// The same text, marked again where no mark is left, in a window that begins with what is left.
 #[inline(always)]
-pub fn marked<'a>(rest: Rest<'a>) -> Rest<'a>
+pub(crate) fn marked<'a>(rest: Rest<'a>) -> Rest<'a>
     requires within { rest.start ≤ length rest.window.now }
     requires marks { AreMarks rest.window.now rest.start rest.marks }
     ensures within { result.start ≤ length result.window.now }
@@ -65,7 +65,7 @@ pub fn marked<'a>(rest: Rest<'a>) -> Rest<'a>
 
 /// The place of the next stop; None where there is none.
 #[inline(always)]
-pub fn next_stop(rest: Rest<'_>) -> Option<usize>
+pub(crate) fn next_stop(rest: Rest<'_>) -> Option<usize>
     requires within { rest.start ≤ length rest.window.now }
     requires marks { AreMarks rest.window.now rest.start rest.marks }
     ensures { MatchOption result (HasNoStop (drop rest.entry.start rest.entry.window.now))
@@ -82,7 +82,7 @@ pub fn next_stop(rest: Rest<'_>) -> Option<usize>
 
 /// What is left after the next stop. Its mark is the lowest, where it has one.
 #[inline(always)]
-pub fn after_stop<'a>(rest: Rest<'a>, end: usize) -> Rest<'a>
+pub(crate) fn after_stop<'a>(rest: Rest<'a>, end: usize) -> Rest<'a>
     requires marks { AreMarks rest.window.now rest.start rest.marks }
     requires next { IsFirstStopFrom rest.window.now rest.start end }
     ensures within { result.start ≤ length result.window.now }

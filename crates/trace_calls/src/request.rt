@@ -10,11 +10,11 @@ use trace_options::WaitFlags;
 /// What a wait asks for.
 #[derive(Clone, Copy)]
 pub(crate) struct Request {
-    pub selection: Selection,
+    pub(crate) selection: Selection,
     /// Deaths too, and not stops alone.
-    pub deaths: bool,
+    pub(crate) deaths: bool,
     /// What is reported stays waitable (`WNOWAIT`).
-    pub keeps: bool,
+    pub(crate) keeps: bool,
 }
 
 /// What the arguments of waitid ask for, or None where they are EINVAL.

@@ -8,7 +8,7 @@ use crate::names::name_in;
 
 /// The errors by number, with their names (errno(3); the numbers are Linux's, `<asm-generic/errno-base.h>` and
 /// `<asm-generic/errno.h>`).
-pub const ERRORS: [(u16, &[u8]); 24] = [
+pub(crate) const ERRORS: [(u16, &[u8]); 24] = [
     (1, b"EPERM"),
     (2, b"ENOENT"),
     (3, b"ESRCH"),

@@ -10,7 +10,7 @@ use crate::names::name_in;
 pub const LAST_SIGNAL: u8 = 64;
 
 /// The standard signals by number, with their names (signal(7), "Signal numbering for standard signals", x86).
-pub const SIGNALS: [(u16, &[u8]); 31] = [
+pub(crate) const SIGNALS: [(u16, &[u8]); 31] = [
     (1, b"SIGHUP"),
     (2, b"SIGINT"),
     (3, b"SIGQUIT"),

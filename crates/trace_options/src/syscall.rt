@@ -20,7 +20,7 @@ pub struct Syscall {
 }
 
 /// The system calls in the order of their numbers: the number, the name, and how the arguments are printed.
-pub const SYSCALLS: [(u64, &[u8], &[ArgumentKind]); 15] = [
+pub(crate) const SYSCALLS: [(u64, &[u8], &[ArgumentKind]); 15] = [
     (0, b"read", &[Int, OutBuffer, Unsigned]),
     (1, b"write", &[Int, InBuffer, Unsigned]),
     (3, b"close", &[Int]),

@@ -11,10 +11,10 @@ ghost use Rattle.trace_pages.specs.FlatMemory.{IsPiece, MapsPage, StoresBytes, b
 
 use crate::fault::Fault;
 use crate::map_error::MapError;
-use trace_options::NoMemory;
 use crate::pages::{MOST_PAGES, PAGE_SIZE, Page, insert_page, place_of, rest_of_page};
 use std::alloc::{Allocator, Global};
 use std::marker::Model;
+use trace_options::NoMemory;
 
 /// The memory of a tracee: at most [`MOST_PAGES`] pages of [`PAGE_SIZE`] bytes, each at an address that is a multiple
 /// of `PAGE_SIZE`.

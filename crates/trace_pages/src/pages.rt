@@ -7,9 +7,9 @@ ghost use Rattle.std.specs.List.{insert};
 ghost use Rattle.trace_pages.specs.FlatMemory.{IsPiece, StoresBytes, byte_at, zeros};
 ghost use Rattle.trace_pages.specs.Pages.{ArePages, AreRising, HasNoPage, IsPlace, base_of, flat_of, overwritten};
 
-use trace_options::NoMemory;
 use std::alloc::Allocator;
 use std::marker::Model;
+use trace_options::NoMemory;
 
 /// How many bytes a page has (getpagesize(2)).
 pub const PAGE_SIZE: u64 = 4096;
@@ -22,7 +22,7 @@ pub const MOST_PAGES: usize = 256;
 
 /// The bytes of a page.
 #[derive(Drop)]
-pub struct Page<A: Allocator> {
+pub(crate) struct Page<A: Allocator> {
     bytes: Box<[u8; PAGE_BYTES], A>,
 }
 
@@ -37,7 +37,7 @@ impl<A: Allocator> Model for Page<A> {
 impl<A: Allocator> Page<A> {
     /// A page of zeros.
     #[tactic(auto, unfolding(crate::specs::FlatMemory::zeros))]
-    pub fn zeros(alloc: A) -> Result<Page<A>, NoMemory>
+    pub(crate) fn zeros(alloc: A) -> Result<Page<A>, NoMemory>
         ensures { IfOk result (λ page. page ≡ zeros PAGE_SIZE) }
     {
         let bytes = Box::new(alloc, [0; PAGE_BYTES])?;
@@ -45,7 +45,7 @@ impl<A: Allocator> Page<A> {
     }
 
     /// A page with the same bytes.
-    pub fn copy(&self, alloc: A) -> Result<Page<A>, NoMemory>
+    pub(crate) fn copy(&self, alloc: A) -> Result<Page<A>, NoMemory>
         ensures { IfOk result (λ page. page ≡ self.now) }
     {
         let bytes = Box::new(alloc, *self.bytes)?;
@@ -53,7 +53,7 @@ impl<A: Allocator> Page<A> {
     }
 
     /// The bytes from an offset to the end.
-    pub fn rest(&self, from: usize) -> &[u8]
+    pub(crate) fn rest(&self, from: usize) -> &[u8]
         requires { from ≤ PAGE_SIZE }
         ensures { result.now ≡ drop from self.now }
     {
@@ -61,7 +61,7 @@ impl<A: Allocator> Page<A> {
     }
 
     /// Writes bytes from an offset on.
-    pub fn write(&mut self, from: usize, bytes: &[u8])
+    pub(crate) fn write(&mut self, from: usize, bytes: &[u8])
         requires { from + length bytes.now ≤ PAGE_SIZE }
         ensures { self.new ≡ overwritten self.old from bytes.now }
     {
@@ -70,14 +70,14 @@ impl<A: Allocator> Page<A> {
 }
 
 /// How far the page of an address goes on from it.
-pub fn rest_of_page(addr: u64) -> usize
+pub(crate) fn rest_of_page(addr: u64) -> usize
     ensures { result + addr % PAGE_SIZE ≡ PAGE_SIZE }
 {
     (PAGE_SIZE - addr % PAGE_SIZE) as usize
 }
 
 /// The place of the page of an address, or the place that the page would have.
-pub fn place_of(addresses: &[u64], addr: u64) -> Result<usize, usize>
+pub(crate) fn place_of(addresses: &[u64], addr: u64) -> Result<usize, usize>
     requires { AreRising addresses.now }
     ensures { MatchResult result (λ place. IsPlace addresses.now addr place)
         (λ place. HasNoPage addresses.now addr place) }
@@ -87,7 +87,7 @@ pub fn place_of(addresses: &[u64], addr: u64) -> Result<usize, usize>
 
 /// Puts a page of zeros at a place of the lists. Both are made longer only once there is room in both, and only the
 /// boxes behind the place move, not their bytes.
-pub fn insert_page<A: Allocator + Copy>(
+pub(crate) fn insert_page<A: Allocator + Copy>(
     addresses: &mut Vec<u64, A>,
     pages: &mut Vec<Page<A>, A>,
     place: usize,

@@ -5,7 +5,7 @@ ghost use Rattle.std.specs.Int.{w64, to_le_bytes};
 ghost use Rattle.std.specs.List.{flat_map};
 
 /// The bytes of the words.
-pub fn write_words(words: &[u64; 27]) -> [u8; 216]
+pub(crate) fn write_words(words: &[u64; 27]) -> [u8; 216]
     ensures { result ≡ flat_map (to_le_bytes w64) words.now }
 {
     let mut bytes = [0; 216];
@@ -16,7 +16,7 @@ pub fn write_words(words: &[u64; 27]) -> [u8; 216]
 }
 
 /// The words that the bytes tell.
-pub fn read_words(bytes: &[u8; 216]) -> [u64; 27]
+pub(crate) fn read_words(bytes: &[u8; 216]) -> [u64; 27]
     ensures told { flat_map (to_le_bytes w64) result ≡ bytes.now }
     ensures fit { All (λ word. word < 2 ^ 64) result }
 {

@@ -6,7 +6,7 @@ use trace_record::{Death, Stop};
 
 /// When a tracee stops at a place.
 #[derive(Clone, Copy, Debug, PartialEq, Eq)]
-pub enum When {
+pub(crate) enum When {
     Always,
     /// Where the last restart before the place was `PTRACE_SYSCALL`.
     Traced,
@@ -18,7 +18,7 @@ pub enum When {
 
 /// One thing that is done in a step.
 #[derive(Clone, Copy, Debug, PartialEq, Eq)]
-pub enum Act {
+pub(crate) enum Act {
     /// The tracee stops, if it does at this place.
     Halts(When, Stop),
     /// The registers are set as at the entry to the step's call.

@@ -9,7 +9,7 @@ use std::alloc::Allocator;
 use trace_options::NoMemory;
 
 /// A copy of steps.
-pub fn copy_steps<A: Allocator + Copy>(
+pub(crate) fn copy_steps<A: Allocator + Copy>(
     alloc: A,
     steps: &[Step<A>],
 ) -> Result<Vec<Step<A>, A>, NoMemory>
@@ -24,7 +24,7 @@ pub fn copy_steps<A: Allocator + Copy>(
 }
 
 /// A copy of a program.
-pub fn copy_image<A: Allocator + Copy>(image: &Image<A>) -> Result<Image<A>, NoMemory>
+pub(crate) fn copy_image<A: Allocator + Copy>(image: &Image<A>) -> Result<Image<A>, NoMemory>
     ensures { IfOk result (λ copy. image_of copy ≡ image_of image.now) }
 {
     let memory = image.memory.copy()?;

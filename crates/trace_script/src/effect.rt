@@ -4,7 +4,7 @@ use trace_record::Death;
 
 /// What one act does.
 #[derive(Clone, Copy, Debug, PartialEq, Eq)]
-pub enum Effect {
+pub(crate) enum Effect {
     /// The tracee stops.
     Stops,
     /// It goes on.
@@ -17,7 +17,7 @@ pub enum Effect {
 
 /// Where steps were left.
 #[derive(Clone, Copy, Debug, PartialEq, Eq)]
-pub enum Reached {
+pub(crate) enum Reached {
     /// At a stop: before the act at this place of the step at this index.
     Stopped(usize, u32),
     /// At their end.

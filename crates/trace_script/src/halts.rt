@@ -15,7 +15,7 @@ use trace_options::Options;
 use trace_record::Kind;
 
 /// Whether the tracee of a walk stops at a place of a step.
-pub fn halts<A: Allocator>(walk: &Walk<'_>, when: When, step: &Step<A>) -> bool
+pub(crate) fn halts<A: Allocator>(walk: &Walk<'_>, when: When, step: &Step<A>) -> bool
     ensures { (filled : List ℕ) →
         result ≡ halts walk.now.setting.now walk.now.how (when_in (step_of filled step.now) when) }
 {

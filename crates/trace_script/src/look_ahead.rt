@@ -21,7 +21,7 @@ use trace_pages::Memory;
 
 /// The address of the store that faults before the tracee stops or dies, in what is left of steps from a place in one
 /// of them on.
-pub fn fault_ahead<A: Allocator>(
+pub(crate) fn fault_ahead<A: Allocator>(
     walk: &Walk<'_>,
     steps: &[Step<A>],
     from: usize,

@@ -4,7 +4,7 @@ use trace_record::Death;
 
 /// What a machine does next.
 #[derive(Clone, Copy, Debug, PartialEq, Eq)]
-pub enum Progress {
+pub(crate) enum Progress {
     /// It loads its program.
     New,
     /// It goes on with the step at this index, from this place in the step on.

@@ -15,7 +15,7 @@ const SYSCALL_BYTES: u64 = 2;
 const NO_ANSWER: i64 = -38;
 
 /// The registers of a program that has just been loaded.
-pub fn first_regs(rip: u64, rsp: u64) -> Regs
+pub(crate) fn first_regs(rip: u64, rsp: u64) -> Regs
     ensures { result ≡ first_regs rip rsp }
 {
     Regs {
@@ -27,7 +27,7 @@ pub fn first_regs(rip: u64, rsp: u64) -> Regs
 }
 
 /// The registers at the entry to a system call (syscall(2)): its number, its arguments, and no answer yet.
-pub fn with_call(nr: u64, args: &[u64; 6], regs: &Regs) -> Regs
+pub(crate) fn with_call(nr: u64, args: &[u64; 6], regs: &Regs) -> Regs
     ensures { result ≡ with_call nr args.now regs.now }
 {
     Regs {
@@ -45,7 +45,7 @@ pub fn with_call(nr: u64, args: &[u64; 6], regs: &Regs) -> Regs
 }
 
 /// The registers with the answer of a system call.
-pub fn with_answer(answer: u64, regs: &Regs) -> Regs
+pub(crate) fn with_answer(answer: u64, regs: &Regs) -> Regs
     ensures { result ≡ with_answer answer regs.now }
 {
     Regs {
@@ -55,7 +55,7 @@ pub fn with_answer(answer: u64, regs: &Regs) -> Regs
 }
 
 /// The registers at the start of another program: all but two stay.
-pub fn with_start(rip: u64, rsp: u64, regs: &Regs) -> Regs
+pub(crate) fn with_start(rip: u64, rsp: u64, regs: &Regs) -> Regs
     ensures { result ≡ with_start rip rsp regs.now }
 {
     Regs { rip, rsp, ..*regs }

@@ -14,7 +14,7 @@ pub struct Setting {
 }
 
 /// Whether an option is set.
-pub fn has_option(setting: &Setting, option: Options) -> bool
+pub(crate) fn has_option(setting: &Setting, option: Options) -> bool
     ensures { result ≡ has_option setting.now option }
 {
     setting.options.contains(option)

@@ -19,7 +19,7 @@ use trace_record::{Death, Stop};
 
 /// The act of a step at a place, or None at its end.
 #[inline(always)]
-pub fn act_at<A: Allocator>(step: &Step<A>, setting: &Setting, place: u32) -> Option<Act>
+pub(crate) fn act_at<A: Allocator>(step: &Step<A>, setting: &Setting, place: u32) -> Option<Act>
     ensures { (filled : List ℕ) → option_map (act_in filled (step_of filled step.now)) result
         ≡ option_map Some (slice_get (acts_of setting.now (step_of filled step.now)) place) }
 {
@@ -120,7 +120,7 @@ fn act_of_answer(answer: u64, place: u32) -> Option<Act>
 }
 
 /// The number of a step's system call; a signal is none.
-pub fn nr_of<A: Allocator>(step: &Step<A>) -> u64
+pub(crate) fn nr_of<A: Allocator>(step: &Step<A>) -> u64
     ensures { (filled : List ℕ) → result ≡ nr_of (step_of filled step.now) }
 {
     match step {
@@ -134,7 +134,7 @@ pub fn nr_of<A: Allocator>(step: &Step<A>) -> u64
 }
 
 /// The arguments of a step's system call.
-pub fn arguments_of<A: Allocator>(step: &Step<A>) -> [u64; 6]
+pub(crate) fn arguments_of<A: Allocator>(step: &Step<A>) -> [u64; 6]
     ensures { (filled : List ℕ) → result ≡ arguments_of (step_of filled step.now) }
 {
     match step {

@@ -27,7 +27,7 @@ use std::alloc::Allocator;
 use trace_record::{Death, Resume, Stop, StopRecord};
 
 /// Does the acts that are left of steps from a place in one of them on.
-pub fn run_steps<A: Allocator>(
+pub(crate) fn run_steps<A: Allocator>(
     walk: &Walk<'_>,
     steps: &mut [Step<A>],
     from: usize,

@@ -5,10 +5,10 @@ use trace_record::Resume;
 
 /// A walk through acts, from a restart on to the next stop or the death: what none of them changes.
 #[derive(Clone, Copy)]
-pub struct Walk<'a> {
-    pub setting: &'a Setting,
+pub(crate) struct Walk<'a> {
+    pub(crate) setting: &'a Setting,
     /// The restart that the tracee takes up.
-    pub how: Resume,
+    pub(crate) how: Resume,
     /// The bytes of all fills of the script.
-    pub filled: &'a [u8],
+    pub(crate) filled: &'a [u8],
 }

@@ -6,11 +6,11 @@ ghost use Rattle.std.specs.Int.{w64, to_le_bytes};
 use std::marker::Model;
 
 /// How many bytes the longest layout has, that of a seccomp stop.
-pub const LONGEST: usize = 84;
+pub(crate) const LONGEST: usize = 84;
 
 /// The bytes so far, no more than the longest layout has.
 #[derive(Drop)]
-pub struct Draft {
+pub(crate) struct Draft {
     bytes: [u8; LONGEST],
     len: usize,
 }
@@ -28,7 +28,7 @@ impl Model for Draft {
 
 impl Draft {
     /// No bytes.
-    pub fn new() -> Draft
+    pub(crate) fn new() -> Draft
         ensures { result ≡ [] }
     {
         Draft {
@@ -38,7 +38,7 @@ impl Draft {
     }
 
     /// Puts a piece behind the bytes.
-    pub fn push(&mut self, piece: &[u8])
+    pub(crate) fn push(&mut self, piece: &[u8])
         requires { length self.old + length piece.now ≤ LONGEST }
         ensures { self.new ≡ self.old ++ piece.now }
     {
@@ -48,7 +48,7 @@ impl Draft {
     }
 
     /// Puts the bytes of a word behind the bytes.
-    pub fn push_word(&mut self, word: u64)
+    pub(crate) fn push_word(&mut self, word: u64)
         requires { length self.old + 8 ≤ LONGEST }
         ensures { self.new ≡ self.old ++ to_le_bytes w64 word }
     {
@@ -56,7 +56,7 @@ impl Draft {
     }
 
     /// The bytes.
-    pub fn as_slice(&self) -> &[u8]
+    pub(crate) fn as_slice(&self) -> &[u8]
         ensures { result.now ≡ self.now }
     {
         &self.bytes[..self.len]

@@ -43,22 +43,22 @@ The format of case files, and of the printed lines: docs/FORMATS.md";
 
 /// The options of `tracer run`.
 #[derive(Clone, Copy, Debug)]
-pub struct RunOptions<'a> {
+pub(crate) struct RunOptions<'a> {
     /// `-f`: trace the children that forks and clones create.
-    pub follow: bool,
+    pub(crate) follow: bool,
     /// `--seccomp-bpf`: stop at the system calls that are shown by a filter, and at no others.
-    pub seccomp: bool,
+    pub(crate) seccomp: bool,
     /// `-w`: how many tracers share the tracees, 1 to 16.
-    pub workers: u32,
+    pub(crate) workers: u32,
     /// `-s`: how many bytes of a string, and how many entries of an array, are printed at most, up to 65536.
-    pub limit: u32,
+    pub(crate) limit: u32,
     /// `-e`: the names of the calls that are printed; all calls without it.
-    pub names: Option<&'a str>,
+    pub(crate) names: Option<&'a str>,
 }
 
 /// What the command line asks for.
 #[derive(Debug, Drop)]
-pub enum Request<'a> {
+pub(crate) enum Request<'a> {
     /// The replies to a replay file; standard input where it names none. A file `-` is a file of that name.
     Replay {
         file: Option<&'a str>,
@@ -73,7 +73,10 @@ pub enum Request<'a> {
 }
 
 /// What the words ask for, the program's name first.
-pub fn read_arguments<'a>(alloc: Global, words: &'a [&'a str]) -> Result<Request<'a>, Failure>
+pub(crate) fn read_arguments<'a>(
+    alloc: Global,
+    words: &'a [&'a str],
+) -> Result<Request<'a>, Failure>
     ensures words { IsAskedBy (map (λ word. word.now) words.now) result }
     ensures taken { takes tracer_app (map (λ word. word.now) words.now) ≡ true → IsTaken result }
 {

@@ -24,7 +24,7 @@ impl Gate for Open {
 }
 
 /// How a case is traced and printed by the options of a run. An unknown name is a failure.
-pub fn run_config(alloc: Global, options: &RunOptions) -> Result<Config, Failure>
+pub(crate) fn run_config(alloc: Global, options: &RunOptions) -> Result<Config, Failure>
     ensures config { IfOk result (HasConfig options.now) }
     ensures known { IfOk result (λ config. unknown_name options.now.names ≡ None) }
     ensures failure { IfErr result (IsNamesFailure (unknown_name options.now.names)) }
@@ -41,7 +41,7 @@ pub fn run_config(alloc: Global, options: &RunOptions) -> Result<Config, Failure
 
 /// The text of a case file, or why the file is refused. The file's bytes are given back before the case is run, by a
 /// thread for each of its tracees and as many workers as the configuration says.
-pub fn case_text<H: AllocGlobal + Threads + Wait + Clock + Sync>(
+pub(crate) fn case_text<H: AllocGlobal + Threads + Wait + Clock + Sync>(
     rt: &H,
     mut file: Vec<u8>,
     config: &Config,

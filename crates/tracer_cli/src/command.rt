@@ -4,7 +4,7 @@ use trace_record::{Death, Resume, Stop};
 
 /// What is asked of one row.
 #[derive(Clone, Copy, Debug, PartialEq, Eq, Hash)]
-pub enum Command {
+pub(crate) enum Command {
     Publish(Stop),
     /// By this tracer, 0 to 15.
     Claim(u8),

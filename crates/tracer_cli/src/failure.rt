@@ -152,14 +152,14 @@ impl From<RunError> for Failure {
 }
 
 /// Why the arguments could not be read: out of memory, or one of them is not valid UTF-8.
-pub fn arguments_failure(error: &io::Error) -> Failure
+pub(crate) fn arguments_failure(error: &io::Error) -> Failure
     ensures { result ≡ failure_at (error_kind error.now) Failure.NoText }
 {
     failure_at(error, Failure::NoText)
 }
 
 /// Why reading failed.
-pub fn read_failure(error: &io::Error) -> Failure
+pub(crate) fn read_failure(error: &io::Error) -> Failure
     ensures { result ≡ failure_at (error_kind error.now) Failure.CannotRead }
 {
     failure_at(error, Failure::CannotRead)

@@ -18,7 +18,7 @@ use trace_script::{id, row_of_words};
 
 /// What a line says.
 #[derive(Clone, Copy, Debug, PartialEq, Eq)]
-pub enum Line {
+pub(crate) enum Line {
     /// It is empty or a comment.
     Nothing,
     /// A row of the roster.
@@ -29,7 +29,7 @@ pub enum Line {
 
 /// The first word of a line.
 #[derive(Clone, Copy, Debug, PartialEq, Eq)]
-pub enum Keyword {
+pub(crate) enum Keyword {
     Row,
     Publish,
     Claim,
@@ -40,7 +40,7 @@ pub enum Keyword {
 
 /// A stop's word that a number follows.
 #[derive(Clone, Copy, Debug, PartialEq, Eq)]
-pub enum Numbered {
+pub(crate) enum Numbered {
     Seccomp,
     Fork,
     Clone,
@@ -50,7 +50,7 @@ pub enum Numbered {
 
 /// A death's word.
 #[derive(Clone, Copy, Debug, PartialEq, Eq)]
-pub enum Ending {
+pub(crate) enum Ending {
     Exited,
     Killed,
 }
@@ -91,7 +91,7 @@ const KINDS: [(&str, Kind); 2] = [("syscall", Kind::Syscall), ("cont", Kind::Con
 const ENDINGS: [(&str, Ending); 2] = [("exited", Ending::Exited), ("killed", Ending::Killed)];
 
 /// What a line says, where commands have begun or not, or its first fault.
-pub fn read_line(begun: bool, line: &[u8]) -> Result<Line, LineFault>
+pub(crate) fn read_line(begun: bool, line: &[u8]) -> Result<Line, LineFault>
     ensures line { result ≡ line_of begun (words_in line.now) }
     ensures range { IfOk result IsLine }
 {

@@ -20,7 +20,7 @@ use tracer_workers::Config;
 
 /// What is left to do.
 #[derive(Drop)]
-pub enum Job {
+pub(crate) enum Job {
     /// To print help or the version.
     Print(String),
     /// To replay a file of these bytes.
@@ -30,7 +30,7 @@ pub enum Job {
 }
 
 /// What a request leaves to do. Finds the faults of the names of `-e`, and then of reading.
-pub fn read_job<H: Files + AllocGlobal, R: Read>(
+pub(crate) fn read_job<H: Files + AllocGlobal, R: Read>(
     rt: &H,
     request: Request,
     input: &mut R,
@@ -85,7 +85,7 @@ fn read_all<H: AllocGlobal, R: Read>(rt: &H, input: &mut R) -> Result<Vec<u8>, F
 }
 
 /// Does what is left to do. Finds the faults of the file, of the run and of writing, in this order.
-pub fn do_job<H: AllocGlobal + Threads + Wait + Clock + Sync, W: Write>(
+pub(crate) fn do_job<H: AllocGlobal + Threads + Wait + Clock + Sync, W: Write>(
     rt: &H,
     job: Job,
     output: &mut W,

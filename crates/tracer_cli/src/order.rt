@@ -4,7 +4,7 @@ use crate::command::Command;
 
 /// A command to the row at this place of the roster.
 #[derive(Clone, Copy, Debug, PartialEq, Eq)]
-pub struct Order {
-    pub row: u32,
-    pub command: Command,
+pub(crate) struct Order {
+    pub(crate) row: u32,
+    pub(crate) command: Command,
 }

@@ -13,7 +13,7 @@ pub struct CutOff;
 
 /// Writes a text with as many writes as the writer needs (write(2)). The first write that fails, or that takes no byte,
 /// ends it.
-pub fn write_part<W: Write>(part: &str, writer: &mut W) -> Result<(), CutOff>
+pub(crate) fn write_part<W: Write>(part: &str, writer: &mut W) -> Result<(), CutOff>
     ensures ok { OnOk result (Appends (W.contents writer.old) (W.contents writer.new) part.now) }
     ensures cut_off { IfErr result (λ _. IsCutOff (W.contents writer.old) (W.contents writer.new) part.now) }
 {
@@ -24,7 +24,7 @@ pub fn write_part<W: Write>(part: &str, writer: &mut W) -> Result<(), CutOff>
 }
 
 /// Writes parts one after another. The first that is cut off ends it.
-pub fn write_parts<W: Write>(parts: &[&str], writer: &mut W) -> Result<(), CutOff>
+pub(crate) fn write_parts<W: Write>(parts: &[&str], writer: &mut W) -> Result<(), CutOff>
     ensures ok { OnOk result (Appends (W.contents writer.old) (W.contents writer.new) (text_of_parts parts.now)) }
     ensures cut_off { IfErr result (λ _.
         IsCutOff (W.contents writer.old) (W.contents writer.new) (text_of_parts parts.now)) }

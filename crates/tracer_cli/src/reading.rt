@@ -25,9 +25,9 @@ const GUESSES: usize = 256;
 
 /// What a file says: its rows, and the commands to them, each in the order of the file.
 #[derive(Drop)]
-pub struct Script<A: Allocator> {
-    pub rows: Roster<A>,
-    pub orders: Vec<Order, A>,
+pub(crate) struct Script<A: Allocator> {
+    pub(crate) rows: Roster<A>,
+    pub(crate) orders: Vec<Order, A>,
 }
 
 /// Takes one more line into the rows and the orders so far, or returns its first fault. The text has `left` bytes from
@@ -102,7 +102,7 @@ fn take_order<A: Allocator>(
 }
 
 /// What a file says, or its first fault.
-pub fn read<A: Allocator + Copy>(alloc: A, text: &[u8]) -> Result<Script<A>, CaseError>
+pub(crate) fn read<A: Allocator + Copy>(alloc: A, text: &[u8]) -> Result<Script<A>, CaseError>
     ensures ok { IfOk result (λ script. content_of text.now
         ≡ Ok (record { rows = script.rows; orders = script.orders.items })) }
     ensures err { let read = content_of text.now in

@@ -184,7 +184,7 @@ fn reply<A: Allocator, B: Allocator>(
 }
 
 /// The replies to the commands, in order.
-pub fn write_replies<A: Allocator, B: Allocator>(
+pub(crate) fn write_replies<A: Allocator, B: Allocator>(
     out: &mut String<B>,
     rows: &[Row],
     world: &mut World<A>,

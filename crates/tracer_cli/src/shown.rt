@@ -9,7 +9,7 @@ use trace_options::{CallSet, Syscall};
 
 /// The calls that are shown: all, or those that a list names (strace(1), `-e trace`). An unknown name is a failure: the
 /// first one of the list.
-pub fn shown_calls(alloc: Global, list: Option<&str>) -> Result<CallSet, Failure>
+pub(crate) fn shown_calls(alloc: Global, list: Option<&str>) -> Result<CallSet, Failure>
     ensures shown { IfOk result (AreShown list.entry) }
     ensures known { IfOk result (λ calls. unknown_name list.entry ≡ None) }
     ensures failure { IfErr result (IsNamesFailure (unknown_name list.entry)) }

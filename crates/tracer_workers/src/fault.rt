@@ -3,7 +3,7 @@
 use trace_record::Death;
 
 /// A tracee whose store faults dies by SIGSEGV (signal(7)).
-pub const FAULT_DEATH: Death = Death::Signaled {
+pub(crate) const FAULT_DEATH: Death = Death::Signaled {
     signal: 11,
     core: false,
 };

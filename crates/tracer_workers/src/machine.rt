@@ -10,7 +10,7 @@ use trace_options::NoMemory;
 use trace_script::{Case, Machine};
 
 /// The machine of a row of a case, before its first stop.
-pub fn new_machine<A: Allocator + Copy>(
+pub(crate) fn new_machine<A: Allocator + Copy>(
     alloc: A,
     case: &Case<A>,
     row: u32,

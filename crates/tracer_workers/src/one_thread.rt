@@ -17,14 +17,14 @@ use stop_history::{Got, Refused, State};
 use trace_record::{Death, Resume, Stop};
 
 /// The state of a row.
-pub fn state<A: Allocator>(world: &World<A>, row: u32) -> State
+pub(crate) fn state<A: Allocator>(world: &World<A>, row: u32) -> State
     ensures { (h : History) → CameTo world.now h → result ≡ state_after world.now.rows h row }
 {
     world.state(row)
 }
 
 /// Takes a running row up and publishes its next stop: its number.
-pub fn publish<A: Allocator>(world: &mut World<A>, row: u32, stop: Stop) -> u32
+pub(crate) fn publish<A: Allocator>(world: &mut World<A>, row: u32, stop: Stop) -> u32
     requires stop { IsStop stop }
     requires answer { (h : History) × CameTo world.old h
         × (publish_answer world.old.rows h row stop ≡ Ok (last_number h row + 1)) }
@@ -42,7 +42,7 @@ pub fn publish<A: Allocator>(world: &mut World<A>, row: u32, stop: Stop) -> u32
 }
 
 /// Takes a row up and lets it exit, unless another row of its group holds it back; whether it has exited.
-pub fn exit<A: Allocator>(world: &mut World<A>, row: u32, death: Death) -> bool
+pub(crate) fn exit<A: Allocator>(world: &mut World<A>, row: u32, death: Death) -> bool
     requires { IsDeath death }
     ensures ended { (h : History) → CameTo world.old h → result ≡ true →
         (exit_answer world.old.rows h row ≡ Ok tt) × CameTo world.new (event.Exit row death ∷ h) }
@@ -57,7 +57,11 @@ pub fn exit<A: Allocator>(world: &mut World<A>, row: u32, death: Death) -> bool
 }
 
 /// Looks at a row and claims it for a tracer.
-pub fn claim<A: Allocator>(world: &mut World<A>, row: u32, tracer: u8) -> Result<Got, Refused>
+pub(crate) fn claim<A: Allocator>(
+    world: &mut World<A>,
+    row: u32,
+    tracer: u8,
+) -> Result<Got, Refused>
     requires { world.old.tracers ≡ TRACERS }
     ensures answer { (h : History) → CameTo world.old h → result ≡ claim_answer world.old.rows h row tracer }
     ensures stands { (h : History) → CameTo world.old h →
@@ -68,7 +72,7 @@ pub fn claim<A: Allocator>(world: &mut World<A>, row: u32, tracer: u8) -> Result
 }
 
 /// Resumes a row that the tracer has claimed.
-pub fn resume<A: Allocator>(world: &mut World<A>, row: u32, tracer: u8, how: Resume)
+pub(crate) fn resume<A: Allocator>(world: &mut World<A>, row: u32, tracer: u8, how: Resume)
     requires how { IsResume how }
     requires answer { (h : History) × CameTo world.old h × (resume_answer world.old.rows h row tracer ≡ Ok tt) }
     ensures stands { (h : History) → CameTo world.old h → resume_answer world.old.rows h row tracer ≡ Ok tt →

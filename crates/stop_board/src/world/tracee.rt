@@ -22,7 +22,12 @@ use trace_record::{Death, Resume, Stop};
 
 /// A step of the tracee of a row.
 #[inline(always)]
-pub(crate) fn tracee_step<A: Allocator>(roster: &Roster<A>, words: &mut [Word], row: u32, action: Action) -> Reply
+pub(crate) fn tracee_step<A: Allocator>(
+    roster: &Roster<A>,
+    words: &mut [Word],
+    row: u32,
+    action: Action,
+) -> Reply
     requires words { length words.old ≡ length roster.now }
     requires roster { IsRoster roster.now }
     requires action { IsAction action }
@@ -48,7 +53,11 @@ pub(crate) fn tracee_step<A: Allocator>(roster: &Roster<A>, words: &mut [Word], 
 }
 
 /// Takes a running row up: its tracee runs on by the restart that it is given.
-fn take_up_at<A: Allocator>(roster: &Roster<A>, words: &mut [Word], row: u32) -> Result<Resume, Refused>
+fn take_up_at<A: Allocator>(
+    roster: &Roster<A>,
+    words: &mut [Word],
+    row: u32,
+) -> Result<Resume, Refused>
     requires { length words.old ≡ length roster.now }
     ensures answer { result
         ≡ and_then (running_by (state_by roster.now words.old row)) (restart_in (word_at words.old row).phase) }
@@ -64,7 +73,12 @@ fn take_up_at<A: Allocator>(roster: &Roster<A>, words: &mut [Word], row: u32) ->
 }
 
 /// Publishes the next stop of a row that its tracee has taken up.
-fn publish_taken<A: Allocator>(roster: &Roster<A>, words: &mut [Word], row: u32, stop: Stop) -> Result<u32, Refused>
+fn publish_taken<A: Allocator>(
+    roster: &Roster<A>,
+    words: &mut [Word],
+    row: u32,
+    stop: Stop,
+) -> Result<u32, Refused>
     requires words { length words.old ≡ length roster.now }
     requires stop { IsStop stop }
     requires roster { IsRoster roster.now }
@@ -78,7 +92,12 @@ fn publish_taken<A: Allocator>(roster: &Roster<A>, words: &mut [Word], row: u32,
 }
 
 /// Lets a row exit that its tracee has taken up.
-fn exit_taken<A: Allocator>(roster: &Roster<A>, words: &mut [Word], row: u32, death: Death) -> Result<(), Refused>
+fn exit_taken<A: Allocator>(
+    roster: &Roster<A>,
+    words: &mut [Word],
+    row: u32,
+    death: Death,
+) -> Result<(), Refused>
     requires words { length words.old ≡ length roster.now }
     requires roster { IsRoster roster.now }
     requires death { IsDeath death }

@@ -48,7 +48,13 @@ pub(crate) fn tracer_step<A: Allocator>(
 }
 
 /// Claims a row for a tracer, if its word is still the one that the tracer last saw there.
-fn claim_seen<A: Allocator>(roster: &Roster<A>, words: &mut [Word], seen: &[Word], row: u32, tracer: u32) -> Reply
+fn claim_seen<A: Allocator>(
+    roster: &Roster<A>,
+    words: &mut [Word],
+    seen: &[Word],
+    row: u32,
+    tracer: u32,
+) -> Reply
     requires words { length words.old ≡ length roster.now }
     requires few { length roster.now ≤ MOST_ROWS }
     requires tracer { tracer < TRACERS }

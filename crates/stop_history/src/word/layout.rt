@@ -19,17 +19,17 @@ use trace_status::{STOPPED, WaitStatus, decode};
 
 /// The widths of the fields in bits, from the lowest bit on. Each field is right above the one before it; what
 /// is above the signal is the tracer's.
-pub const STATE_BITS: u32 = 3;
+pub(crate) const STATE_BITS: u32 = 3;
 
-pub const BIRTHS_BITS: u32 = 6;
+pub(crate) const BIRTHS_BITS: u32 = 6;
 
-pub const NUMBER_BITS: u32 = 24;
+pub(crate) const NUMBER_BITS: u32 = 24;
 
-pub const STATUS_BITS: u32 = 16;
+pub(crate) const STATUS_BITS: u32 = 16;
 
-pub const KIND_BITS: u32 = 1;
+pub(crate) const KIND_BITS: u32 = 1;
 
-pub const SIGNAL_BITS: u32 = 7;
+pub(crate) const SIGNAL_BITS: u32 = 7;
 
 impl Word {
     /// The 64 bits of the word, which is in range.
@@ -173,13 +173,13 @@ fn is_death_status(status: u32) -> bool
 /// The number of a phase, and what is kept of it. A field that the phase does not use is 0.
 #[derive(Clone, Copy, Debug, PartialEq, Eq)]
 pub(crate) struct Parts {
-    pub state: u8,
+    pub(crate) state: u8,
     /// The raw status of a death, that of a stop without its low byte.
-    pub status: u16,
+    pub(crate) status: u16,
     /// 0 for `Syscall`, 1 for `Cont`.
-    pub kind: u8,
-    pub signal: u8,
-    pub tracer: u8,
+    pub(crate) kind: u8,
+    pub(crate) signal: u8,
+    pub(crate) tracer: u8,
 }
 
 impl Parts {

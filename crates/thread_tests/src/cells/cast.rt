@@ -19,9 +19,9 @@ use trace_record::Stop;
 /// uses.
 #[derive(Drop)]
 pub(crate) struct Cast<A: Allocator = Global> {
-    pub ends: Ends<A>,
-    pub roster: Roster<A>,
-    pub unused: Tracer<A>,
+    pub(crate) ends: Ends<A>,
+    pub(crate) roster: Roster<A>,
+    pub(crate) unused: Tracer<A>,
     pub ghost tracees: { AreTracees unused.table_id roster ends.tracees.items } by { Prim.hlevel (codes, flat_code) },
     pub ghost tracers: { AreTracers unused.table_id roster ends.tracers.items } by { Prim.hlevel (codes, flat_code) },
 }
@@ -85,9 +85,9 @@ impl<A: Allocator + Copy> Cast<A> {
 /// A tracee and two tracers of one table.
 #[derive(Drop)]
 pub(crate) struct Trio<A: Allocator = Global> {
-    pub tracee: AtRest<A>,
-    pub first: Desk<A>,
-    pub second: Desk<A>,
+    pub(crate) tracee: AtRest<A>,
+    pub(crate) first: Desk<A>,
+    pub(crate) second: Desk<A>,
     pub ghost one_table: { (first.tracer.table_id ≡ tracee.tracee.table_id)
         × (second.tracer.table_id ≡ tracee.tracee.table_id) },
 }

@@ -31,8 +31,8 @@ pub(crate) enum Answer {
 /// A tracer's handle, with the number of rows.
 #[derive(Drop)]
 pub(crate) struct Desk<A: Allocator = Global> {
-    pub tracer: Tracer<A>,
-    pub rows: u32,
+    pub(crate) tracer: Tracer<A>,
+    pub(crate) rows: u32,
     pub ghost counted: { length tracer.view.roster ≡ rows },
 }
 

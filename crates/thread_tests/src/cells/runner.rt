@@ -18,10 +18,10 @@ use trace_record::{Death, Resume, Stop, StopRecord};
 /// A tracee that does not have its row taken up.
 #[derive(Drop)]
 pub(crate) struct AtRest<A: Allocator = Global> {
-    pub tracee: Tracee<A>,
-    pub roster: Roster<A>,
-    pub row: u32,
-    pub births: usize,
+    pub(crate) tracee: Tracee<A>,
+    pub(crate) roster: Roster<A>,
+    pub(crate) row: u32,
+    pub(crate) births: usize,
     pub ghost rests: { tracee.view.taken ≡ false },
     pub ghost same_roster: { tracee.view.roster ≡ roster },
     pub ghost same_row: { tracee.row ≡ row },
@@ -31,12 +31,12 @@ pub(crate) struct AtRest<A: Allocator = Global> {
 /// A tracee that has its row taken up, with the restart that it runs on by.
 #[derive(Drop)]
 pub(crate) struct Running<A: Allocator = Global> {
-    pub tracee: Tracee<A>,
-    pub roster: Roster<A>,
-    pub row: u32,
-    pub births: usize,
-    pub how: Resume,
-    pub record: StopRecord<A>,
+    pub(crate) tracee: Tracee<A>,
+    pub(crate) roster: Roster<A>,
+    pub(crate) row: u32,
+    pub(crate) births: usize,
+    pub(crate) how: Resume,
+    pub(crate) record: StopRecord<A>,
     pub ghost runs: { tracee.view.taken ≡ true },
     pub ghost same_roster: { tracee.view.roster ≡ roster },
     pub ghost same_row: { tracee.row ≡ row },

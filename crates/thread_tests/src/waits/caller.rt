@@ -18,8 +18,8 @@ use trace_record::Stop;
 /// A tracer that has claimed nothing, with the roster of its table.
 #[derive(Drop)]
 pub(crate) struct Waiter<A: Allocator = Global> {
-    pub tracer: Tracer<A>,
-    pub roster: Roster<A>,
+    pub(crate) tracer: Tracer<A>,
+    pub(crate) roster: Roster<A>,
     pub ghost same: { roster ≡ tracer.view.roster },
     pub ghost idle: { held_rows tracer.view ≡ [] },
 }

@@ -48,9 +48,9 @@ const HANDLED: &str = "tracee 200 200 200 0\nsignal 15\nexit 0\nend\n";
 /// A case with its text where every call is shown, and where write(2) alone is. Signals and deaths are shown always.
 #[derive(Clone, Copy)]
 pub(crate) struct Worked {
-    pub file: &'static str,
-    pub text: &'static str,
-    pub writes: &'static str,
+    pub(crate) file: &'static str,
+    pub(crate) text: &'static str,
+    pub(crate) writes: &'static str,
 }
 
 /// A case of each kind. Of these only `FORK` calls write(2).

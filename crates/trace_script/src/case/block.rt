@@ -23,16 +23,16 @@ use trace_options::NoMemory;
 
 /// A script so far.
 #[derive(Drop)]
-pub struct Block<A: Allocator> {
-    pub script: Script<A>,
+pub(crate) struct Block<A: Allocator> {
+    pub(crate) script: Script<A>,
     /// The place of the last exec among the steps.
-    pub exec: Option<usize>,
+    pub(crate) exec: Option<usize>,
     /// How many of the steps create a child.
-    pub births: u32,
+    pub(crate) births: u32,
 }
 
 /// A block without a step, and with an empty image.
-pub fn new_block<A: Allocator + Copy>(alloc: A) -> Block<A>
+pub(crate) fn new_block<A: Allocator + Copy>(alloc: A) -> Block<A>
     ensures script { script_of result.script ≡ no_script }
     ensures counted { IsCounted result }
 {
@@ -48,7 +48,7 @@ pub fn new_block<A: Allocator + Copy>(alloc: A) -> Block<A>
 }
 
 /// Why a step cannot be the next one of a block.
-pub fn next_step_fault<A: Allocator>(block: &Block<A>, step: RawStep) -> Option<Cause>
+pub(crate) fn next_step_fault<A: Allocator>(block: &Block<A>, step: RawStep) -> Option<Cause>
     requires counted { IsCounted block.now }
     requires tested { IsTestedStep step }
     ensures fault { result ≡ next_step_fault (script_of block.now.script) (step_said step.entry) }
@@ -115,7 +115,7 @@ fn fill_fault<A: Allocator>(image: &Image<A>, fill: Option<RawFill>) -> Option<C
 }
 
 /// Adds a step that has no fault to a block.
-pub fn add_step<A: Allocator + Copy>(
+pub(crate) fn add_step<A: Allocator + Copy>(
     alloc: A,
     digits: &DigitValues,
     block: &mut Block<A>,
@@ -163,7 +163,7 @@ fn births_of(step: RawStep) -> u32
 }
 
 /// Where the line after a step is.
-pub fn place_after(step: RawStep) -> Place
+pub(crate) fn place_after(step: RawStep) -> Place
     ensures { result ≡ place_after (step_said step.entry) }
 {
     match step {
@@ -173,7 +173,7 @@ pub fn place_after(step: RawStep) -> Place
 }
 
 /// What the late tests look at in a step.
-pub fn late_of(line: u32, row: u32, births: u32, step: RawStep) -> Option<Late>
+pub(crate) fn late_of(line: u32, row: u32, births: u32, step: RawStep) -> Option<Late>
     ensures { option_to_list result ≡ late_of line row births (step_said step.entry) }
 {
     let step = match step {

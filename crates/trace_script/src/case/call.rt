@@ -17,7 +17,7 @@ use trace_options::Syscall;
 const MOST_ARGUMENTS: usize = 6;
 
 /// The call that the words after `call` say.
-pub fn read_call<'a>(words: &[&'a [u8]]) -> Result<RawCall<'a>, LineFault>
+pub(crate) fn read_call<'a>(words: &[&'a [u8]]) -> Result<RawCall<'a>, LineFault>
     ensures call { if_said call_said result ≡ call_of (map (λ w. w.now) words.now) }
     ensures range { IfOk result IsTestedCall }
 {

@@ -12,14 +12,14 @@ const BYTES: usize = 256;
 /// The value of each hexadecimal digit, at the place that its byte says. The other places are never looked up. The kit
 /// decodes each digit once, and the bytes of a file, which may have millions of digits, are put together from their values.
 #[derive(Drop)]
-pub struct DigitValues {
+pub(crate) struct DigitValues {
     values: [u8; BYTES],
     ghost known: { AreDigitValues values },
 }
 
 impl DigitValues {
     /// The table, as the kit decodes each digit.
-    pub fn new() -> DigitValues {
+    pub(crate) fn new() -> DigitValues {
         let mut values = [0u8; BYTES];
         for i in 0..BYTES {
             values[i] = value_of(i as u8);
@@ -29,7 +29,7 @@ impl DigitValues {
 
     /// The byte that two digits write.
     #[inline(always)]
-    pub fn byte_of(&self, high: u8, low: u8) -> u8
+    pub(crate) fn byte_of(&self, high: u8, low: u8) -> u8
         requires high { is_hex_digit high ≡ true }
         requires low { is_hex_digit low ≡ true }
         ensures { (i : ℕ) → pair_value high low i ≡ Ok result }

@@ -24,23 +24,23 @@ use trace_options::NoMemory;
 
 /// What was read so far.
 #[derive(Drop)]
-pub struct Draft<A: Allocator> {
+pub(crate) struct Draft<A: Allocator> {
     /// Where the next line is.
-    pub place: Place,
+    pub(crate) place: Place,
     /// The rows of all blocks.
-    pub rows: Roster<A>,
+    pub(crate) rows: Roster<A>,
     /// The scripts of the blocks that are closed.
-    pub scripts: Vec<Script<A>, A>,
+    pub(crate) scripts: Vec<Script<A>, A>,
     /// The block that is open.
-    pub block: Block<A>,
+    pub(crate) block: Block<A>,
     /// The steps that are tested after the last line, in the order of lines.
-    pub late: Vec<Late, A>,
+    pub(crate) late: Vec<Late, A>,
     /// The values of the digits in byte words.
-    pub digits: DigitValues,
+    pub(crate) digits: DigitValues,
 }
 
 /// A draft of nothing.
-pub fn new_draft<A: Allocator + Copy>(alloc: A) -> Draft<A>
+pub(crate) fn new_draft<A: Allocator + Copy>(alloc: A) -> Draft<A>
     ensures reading { reading_of result ≡ nothing_read }
     ensures counted { IsCounted result.block }
 {
@@ -55,7 +55,7 @@ pub fn new_draft<A: Allocator + Copy>(alloc: A) -> Draft<A>
 }
 
 /// Takes one more line by its first words, or returns its first fault.
-pub fn take_line<A: Allocator + Copy>(
+pub(crate) fn take_line<A: Allocator + Copy>(
     alloc: A,
     draft: &mut Draft<A>,
     number: u32,

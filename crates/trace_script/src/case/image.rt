@@ -18,7 +18,7 @@ use trace_options::NoMemory;
 use trace_pages::{MapError, Memory, PAGE_SIZE};
 
 /// A program of no page, whose registers are 0.
-pub fn no_image<A: Allocator + Copy>(alloc: A) -> Image<A>
+pub(crate) fn no_image<A: Allocator + Copy>(alloc: A) -> Image<A>
     ensures { image_of result ≡ no_image }
 {
     Image {
@@ -29,7 +29,7 @@ pub fn no_image<A: Allocator + Copy>(alloc: A) -> Image<A>
 }
 
 /// The bytes that a byte word writes.
-pub fn decode<A: Allocator + Copy>(
+pub(crate) fn decode<A: Allocator + Copy>(
     alloc: A,
     digits: &DigitValues,
     word: &[u8],
@@ -43,7 +43,7 @@ pub fn decode<A: Allocator + Copy>(
 }
 
 /// Adds the bytes that a byte word writes to others.
-pub fn decode_onto<A: Allocator>(
+pub(crate) fn decode_onto<A: Allocator>(
     digits: &DigitValues,
     word: &[u8],
     bytes: &mut Vec<u8, A>,
@@ -70,7 +70,7 @@ fn decode_into(digits: &DigitValues, word: &[u8], bytes: &mut [u8])
 }
 
 /// Loads one more part of the image that is described now: the script's own, or that of its last step, an exec.
-pub fn load_part<A: Allocator + Copy>(
+pub(crate) fn load_part<A: Allocator + Copy>(
     alloc: A,
     digits: &DigitValues,
     script: &mut Script<A>,

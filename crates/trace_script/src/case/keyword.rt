@@ -7,7 +7,7 @@ use text_lines::{LineFault, keyword};
 
 /// Where in a case file a line is.
 #[derive(Clone, Copy, Debug, PartialEq, Eq)]
-pub enum Place {
+pub(crate) enum Place {
     /// Outside of blocks.
     Outside,
     /// After a `tracee` or `exec` line, with only lines of its image between.
@@ -18,7 +18,7 @@ pub enum Place {
 
 /// The first word of a line.
 #[derive(Clone, Copy, Debug, PartialEq, Eq)]
-pub enum Keyword {
+pub(crate) enum Keyword {
     Tracee,
     Page,
     Data,
@@ -48,7 +48,7 @@ const KEYWORDS: [(&str, Keyword); 11] = [
 ];
 
 /// The keyword that a word is. UnknownWord where it is none, or one that may not come at this place.
-pub fn keyword_at(place: Place, word: &[u8]) -> Result<Keyword, LineFault>
+pub(crate) fn keyword_at(place: Place, word: &[u8]) -> Result<Keyword, LineFault>
     ensures { result ≡ keyword_at place word.now }
 {
     in_place(place, keyword(&KEYWORDS, word)?)

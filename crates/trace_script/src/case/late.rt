@@ -13,7 +13,7 @@ use stop_history::{Roster, is_leader, place_of};
 
 /// What a late step does.
 #[derive(Clone, Copy, Debug, PartialEq, Eq)]
-pub enum LateStep {
+pub(crate) enum LateStep {
     /// It creates the process of this thread id.
     Fork(u32),
     /// It creates the thread of this id.
@@ -23,17 +23,17 @@ pub enum LateStep {
 
 /// A step that is tested late.
 #[derive(Clone, Copy, Debug, PartialEq, Eq)]
-pub struct Late {
-    pub line: u32,
+pub(crate) struct Late {
+    pub(crate) line: u32,
     /// The place of its row in the roster.
-    pub row: u32,
+    pub(crate) row: u32,
     /// How many births come before it in its block.
-    pub births: u32,
-    pub step: LateStep,
+    pub(crate) births: u32,
+    pub(crate) step: LateStep,
 }
 
 /// The first fault of the late steps, with its line.
-pub fn late_fault<A: Allocator>(roster: &Roster<A>, late: &[Late]) -> Option<CaseError>
+pub(crate) fn late_fault<A: Allocator>(roster: &Roster<A>, late: &[Late]) -> Option<CaseError>
     requires { All (λ l. l.row < length roster.now) late.now }
     ensures { result ≡ late_fault roster.now late.now }
 {
@@ -57,7 +57,12 @@ fn late_cause<A: Allocator>(roster: &Roster<A>, late: Late) -> Option<Cause>
     let births = late.births as usize;
     match late.step {
         LateStep::Fork(child) => fork_fault(roster, row, births, place_of(roster.rows(), child)),
-        LateStep::Thread(child) => thread_fault(roster, row, births, place_of(roster.rows(), child)),
+        LateStep::Thread(child) => thread_fault(
+            roster,
+            row,
+            births,
+            place_of(roster.rows(), child),
+        ),
         LateStep::Exec => {
             if is_alone(roster, row) {
                 None
@@ -69,7 +74,12 @@ fn late_cause<A: Allocator>(roster: &Roster<A>, late: Late) -> Option<Cause>
 }
 
 /// Why a fork cannot create the row at a place, as the next child of a parent that has this many.
-fn fork_fault<A: Allocator>(roster: &Roster<A>, parent: usize, births: usize, child: Option<usize>) -> Option<Cause>
+fn fork_fault<A: Allocator>(
+    roster: &Roster<A>,
+    parent: usize,
+    births: usize,
+    child: Option<usize>,
+) -> Option<Cause>
     requires parent { parent < length roster.now }
     requires child { ForSome child (λ i. i < length roster.now) }
     ensures { result ≡ fork_fault roster.now parent births child }
@@ -84,7 +94,12 @@ fn fork_fault<A: Allocator>(roster: &Roster<A>, parent: usize, births: usize, ch
 }
 
 /// Why the clone of a thread cannot create the row at a place.
-fn thread_fault<A: Allocator>(roster: &Roster<A>, parent: usize, births: usize, child: Option<usize>) -> Option<Cause>
+fn thread_fault<A: Allocator>(
+    roster: &Roster<A>,
+    parent: usize,
+    births: usize,
+    child: Option<usize>,
+) -> Option<Cause>
     requires parent { parent < length roster.now }
     requires child { ForSome child (λ i. i < length roster.now) }
     ensures { result ≡ thread_fault roster.now parent births child }
@@ -99,7 +114,12 @@ fn thread_fault<A: Allocator>(roster: &Roster<A>, parent: usize, births: usize, 
 }
 
 /// The row at a place has to be the next child.
-fn order_fault<A: Allocator>(roster: &Roster<A>, parent: usize, births: usize, child: usize) -> Option<Cause>
+fn order_fault<A: Allocator>(
+    roster: &Roster<A>,
+    parent: usize,
+    births: usize,
+    child: usize,
+) -> Option<Cause>
     requires parent { parent < length roster.now }
     requires child { child < length roster.now }
     ensures { result ≡ unless (is_next_child roster.now parent births (Some child)) cause.ChildOrder }

@@ -14,10 +14,10 @@ use crate::row_words::{id, row_of_words};
 use text_lines::LineFault;
 
 /// How many words of a line are looked at: one more than any line may have.
-pub const WORDS_LOOKED_AT: usize = 14;
+pub(crate) const WORDS_LOOKED_AT: usize = 14;
 
 /// What the words of a line at this place say, or its first fault.
-pub fn read_words<'a>(place: Place, words: &[&'a [u8]]) -> Result<RawLine<'a>, LineFault>
+pub(crate) fn read_words<'a>(place: Place, words: &[&'a [u8]]) -> Result<RawLine<'a>, LineFault>
     ensures line { if_said line_said result ≡ line_of place (map (λ w. w.now) words.now) }
     ensures range { IfOk result IsTested }
 {

@@ -5,7 +5,7 @@ use stop_history::Row;
 
 /// A part of an image.
 #[derive(Clone, Copy)]
-pub enum RawPart<'a> {
+pub(crate) enum RawPart<'a> {
     /// The page at this address.
     Page(u64),
     /// Bytes from an address on.
@@ -16,24 +16,24 @@ pub enum RawPart<'a> {
 
 /// What a call writes.
 #[derive(Clone, Copy)]
-pub struct RawFill<'a> {
-    pub addr: u64,
-    pub bytes: &'a [u8],
+pub(crate) struct RawFill<'a> {
+    pub(crate) addr: u64,
+    pub(crate) bytes: &'a [u8],
 }
 
 /// A `call` line.
 #[derive(Clone, Copy)]
-pub struct RawCall<'a> {
-    pub nr: u64,
-    pub args: [u64; 6],
+pub(crate) struct RawCall<'a> {
+    pub(crate) nr: u64,
+    pub(crate) args: [u64; 6],
     /// The word that the answer is in `rax`.
-    pub answer: u64,
-    pub fill: Option<RawFill<'a>>,
+    pub(crate) answer: u64,
+    pub(crate) fill: Option<RawFill<'a>>,
 }
 
 /// A step. A signal may be any number yet.
 #[derive(Clone, Copy)]
-pub enum RawStep<'a> {
+pub(crate) enum RawStep<'a> {
     Call(RawCall<'a>),
     Fork(u32),
     Thread(u32),
@@ -44,7 +44,7 @@ pub enum RawStep<'a> {
 
 /// What a line says.
 #[derive(Clone, Copy)]
-pub enum RawLine<'a> {
+pub(crate) enum RawLine<'a> {
     /// It is empty or a comment.
     Nothing,
     /// It opens the block of this row.

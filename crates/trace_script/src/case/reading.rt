@@ -13,7 +13,7 @@ use std::alloc::Allocator;
 use text_lines::cut_words;
 
 /// What the lines of a file say, up to its first fault.
-pub fn read_lines<A: Allocator + Copy>(alloc: A, text: &[u8]) -> Result<Draft<A>, CaseError>
+pub(crate) fn read_lines<A: Allocator + Copy>(alloc: A, text: &[u8]) -> Result<Draft<A>, CaseError>
     requires { length text.now ≤ most_bytes }
     ensures ok { IfOk result (λ draft.
         read_after line_read 1 nothing_read (lines_of text.now) ≡ Ok (reading_of draft)) }

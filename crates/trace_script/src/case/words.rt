@@ -10,14 +10,14 @@ use text_lines::{LineFault, number};
 use trace_pages::PAGE_SIZE;
 
 /// A number of 64 bits.
-pub fn any_number(word: &[u8]) -> Result<u64, LineFault>
+pub(crate) fn any_number(word: &[u8]) -> Result<u64, LineFault>
     ensures { result ≡ any_number word.now }
 {
     number(word).ok_or(LineFault::BadNumber)
 }
 
 /// The address of a page: a multiple of its size.
-pub fn page_address(word: &[u8]) -> Result<u64, LineFault>
+pub(crate) fn page_address(word: &[u8]) -> Result<u64, LineFault>
     ensures page { result ≡ page_address word.now }
     ensures whole { IfOk result (λ page. page % PAGE_SIZE ≡ 0) }
 {
@@ -30,7 +30,7 @@ pub fn page_address(word: &[u8]) -> Result<u64, LineFault>
 }
 
 /// The word itself, if it is an even number of hexadecimal digits, at least two.
-pub fn byte_word<'a>(word: &'a [u8]) -> Result<&'a [u8], LineFault>
+pub(crate) fn byte_word<'a>(word: &'a [u8]) -> Result<&'a [u8], LineFault>
     ensures bytes { if_said (λ w. bytes_written w.now) result ≡ bytes_of word.now }
     ensures range { IfOk result (λ w. is_byte_word w.now ≡ true) }
 {

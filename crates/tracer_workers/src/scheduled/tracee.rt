@@ -18,7 +18,7 @@ use trace_script::{Case, Machine, Next};
 
 /// The tracee of a row of a case.
 #[derive(Drop)]
-pub struct Tracee<'a, A: Allocator = Global> {
+pub(crate) struct Tracee<'a, A: Allocator = Global> {
     case: &'a Case<A>,
     row: u32,
     config: Config,
@@ -46,7 +46,7 @@ impl<'a, A: Allocator> Model for Tracee<'a, A> {
 
 impl<'a, A: Allocator + Copy> Tracee<'a, A> {
     /// The tracee of a row before its first turn. It takes no memory.
-    pub fn new(case: &'a Case<A>, row: u32, config: &Config) -> Tracee<'a, A>
+    pub(crate) fn new(case: &'a Case<A>, row: u32, config: &Config) -> Tracee<'a, A>
         requires { row < length case.now.rows }
         ensures { result ≡ opening_of (plan_of config.now case.now) row }
     {
@@ -59,7 +59,7 @@ impl<'a, A: Allocator + Copy> Tracee<'a, A> {
     }
 
     /// Runs on, to the next stop or the death. It takes memory at the first turn alone.
-    pub fn next(
+    pub(crate) fn next(
         &mut self,
         alloc: A,
         how: Resume,

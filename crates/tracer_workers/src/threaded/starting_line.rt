@@ -15,7 +15,7 @@ const LEAVE: u64 = 2;
 /// What the starter has told the threads, and how many workers have told it that they are ready, and that they were
 /// refused memory.
 #[derive(Drop)]
-pub struct StartingLine {
+pub(crate) struct StartingLine {
     told: AtomicU64,
     ready: AtomicU64,
     refused: AtomicU64,
@@ -23,7 +23,7 @@ pub struct StartingLine {
 
 impl StartingLine {
     /// Nothing was told yet.
-    pub fn new() -> StartingLine {
+    pub(crate) fn new() -> StartingLine {
         StartingLine {
             told: AtomicU64::new(NOTHING),
             ready: AtomicU64::new(0),
@@ -32,13 +32,13 @@ impl StartingLine {
     }
 
     /// Counts a worker as ready, or as one that was refused memory.
-    pub fn report(&self, is_ready: bool) {
+    pub(crate) fn report(&self, is_ready: bool) {
         let count = if is_ready { &self.ready } else { &self.refused };
         count.fetch_add(1, Ordering::SeqCst);
     }
 
     /// Waits until this many workers have reported, and returns whether each of them is ready.
-    pub fn await_workers<R: Wait + Clock>(&self, rt: &R, workers: u64) -> bool {
+    pub(crate) fn await_workers<R: Wait + Clock>(&self, rt: &R, workers: u64) -> bool {
         let mut patience = Patience::new();
         for _ in rt.forever() {
             let refused = self.refused.load(Ordering::SeqCst);
@@ -52,13 +52,13 @@ impl StartingLine {
     }
 
     /// Tells all threads to go, or to leave. It is called once.
-    pub fn tell(&self, is_go: bool) {
+    pub(crate) fn tell(&self, is_go: bool) {
         let what = if is_go { GO } else { LEAVE };
         self.told.store(what, Ordering::SeqCst);
     }
 
     /// Waits until the threads are told; whether to go.
-    pub fn is_go<R: Wait + Clock>(&self, rt: &R) -> bool {
+    pub(crate) fn is_go<R: Wait + Clock>(&self, rt: &R) -> bool {
         let mut patience = Patience::new();
         for _ in rt.forever() {
             let told = self.told.load(Ordering::SeqCst);

@@ -17,14 +17,14 @@ use trace_script::Machine;
 
 /// A tracee, and the machine of its row before its first stop.
 #[derive(Drop)]
-pub struct Scripted<A: Allocator> {
-    pub tracee: Tracee<A>,
-    pub machine: Machine<A>,
+pub(crate) struct Scripted<A: Allocator> {
+    pub(crate) tracee: Tracee<A>,
+    pub(crate) machine: Machine<A>,
 }
 
 /// What the thread of a tracee promises of the handle that it gives back.
 #[derive(Drop)]
-pub struct RunsTracee<A: Allocator> {
+pub(crate) struct RunsTracee<A: Allocator> {
     tracee: Snapshot<Tracee<A>>,
     machine: Snapshot<Machine<A>>,
 }
@@ -34,7 +34,7 @@ impl<A: Allocator> Promise<Tracee<A>> for RunsTracee<A> {
 }
 
 /// The thread of a tracee that was started.
-pub type TraceeThread<A> = PromisedHandle<Tracee<A>, RunsTracee<A>>;
+pub(crate) type TraceeThread<A> = PromisedHandle<Tracee<A>, RunsTracee<A>>;
 
 /// What the thread of a tracee does: it waits until it is told, and then runs its row, or leaves it.
 fn run_when_told<A: Allocator, R: Wait + Clock>(
@@ -79,7 +79,12 @@ fn start_tracee<'s, 'e: 's, A: Allocator + Send + Sync + 'e, R: Threads + Wait +
 }
 
 /// Starts the threads of tracees, for which there is room in a list; whether all could be started.
-pub fn start_tracees<'s, 'e: 's, A: Allocator + Send + Sync + 'e, R: Threads + Wait + Clock + Sync>(
+pub(crate) fn start_tracees<
+    's,
+    'e: 's,
+    A: Allocator + Send + Sync + 'e,
+    R: Threads + Wait + Clock + Sync,
+>(
     scope: &Scope<'s, &'e ()>,
     rt: &'e R,
     line: &'e StartingLine,
@@ -102,7 +107,7 @@ pub fn start_tracees<'s, 'e: 's, A: Allocator + Send + Sync + 'e, R: Threads + W
 }
 
 /// Waits for the threads of tracees, and puts the handles that they give back into a list that has room for them.
-pub fn join_tracees<A: Allocator, R: Threads>(
+pub(crate) fn join_tracees<A: Allocator, R: Threads>(
     rt: &R,
     threads: Vec<TraceeThread<A>, A>,
     tracees: &mut Vec<Tracee<A>, A>,

@@ -21,14 +21,14 @@ use trace_calls::Calls;
 
 /// What a worker's thread gives back: its tracer, and what the worker has kept.
 #[derive(Drop)]
-pub struct Served<A: Allocator> {
-    pub tracer: Tracer<A>,
-    pub worked: Worked<A>,
+pub(crate) struct Served<A: Allocator> {
+    pub(crate) tracer: Tracer<A>,
+    pub(crate) worked: Worked<A>,
 }
 
 /// What the thread of a worker promises.
 #[derive(Drop)]
-pub struct Serves<A: Allocator> {
+pub(crate) struct Serves<A: Allocator> {
     tracer: Snapshot<Tracer<A>>,
     config: Config,
 }
@@ -39,7 +39,7 @@ impl<A: Allocator> Promise<Served<A>> for Serves<A> {
 }
 
 /// The thread of a worker that was started.
-pub type WorkerThread<A> = PromisedHandle<Served<A>, Serves<A>>;
+pub(crate) type WorkerThread<A> = PromisedHandle<Served<A>, Serves<A>>;
 
 /// What a worker gives back that has not worked, since it was refused memory or told to leave. It counts as short: it has
 /// kept no piece.
@@ -131,7 +131,7 @@ fn start_worker<
 }
 
 /// Starts the threads of workers, for which there is room in a list; whether all could be started.
-pub fn start_workers<
+pub(crate) fn start_workers<
     's,
     'e: 's,
     A: Allocator + Copy + Send + Sync + 'e,
@@ -164,7 +164,7 @@ pub fn start_workers<
 }
 
 /// Waits for the threads of workers, and puts what they give back into a list that has room for it.
-pub fn join_workers<A: Allocator, R: Threads>(
+pub(crate) fn join_workers<A: Allocator, R: Threads>(
     rt: &R,
     threads: Vec<WorkerThread<A>, A>,
     served: &mut Vec<Served<A>, A>,

@@ -8,14 +8,13 @@
 mod cut;
 mod end;
 mod iovecs;
-mod laws;
+pub mod laws;
 mod runs;
 mod views;
 
 pub use cut::Cut;
 pub use end::End;
 pub use iovecs::{IOV_MAX, Iovecs, Item};
-pub use laws::{numbers_are_fixed, pieces_join_to_the_bytes};
 pub use views::Views;
 
 #[cfg(test)]

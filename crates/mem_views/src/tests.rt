@@ -1,6 +1,7 @@
 //! What the views of a stop's memory show, at the ends of pages, of strings and of the address space.
 
-use crate::{Cut, End, IOV_MAX, Iovecs, Item, Views, numbers_are_fixed, pieces_join_to_the_bytes};
+use crate::laws::{numbers_are_fixed, pieces_join_to_the_bytes};
+use crate::{Cut, End, IOV_MAX, Iovecs, Item, Views};
 use std::alloc::Global;
 use std::test::Fail;
 use trace_options::Errno;

@@ -17,7 +17,7 @@ mod fold_error;
 mod folder;
 mod iovecs;
 mod kept_row;
-mod laws;
+pub mod laws;
 mod note;
 mod notes;
 mod numbers;
@@ -33,10 +33,6 @@ mod text;
 
 pub use fold_error::FoldError;
 pub use folder::Folder;
-pub use laws::{
-    calls_are_said_of_places, lines_are_folded, order_of_arrival_changes_no_answer,
-    quotes_are_one_to_one,
-};
 pub use piece::{Piece, death_piece};
 pub use show::Show;
 pub use stop_piece::piece_of;

@@ -24,7 +24,7 @@ mod boxed;
 mod cells;
 mod claim;
 mod group;
-mod laws;
+pub mod laws;
 mod opening;
 mod order;
 mod rule;
@@ -35,11 +35,6 @@ mod tracee;
 mod tracer;
 
 pub use claim::{Claim, Taken};
-pub use laws::{
-    a_meeting_keeps_events, a_record_is_its_rows, an_event_of_its_own_is_one_more, claims_stay,
-    claims_stay_in_hand, looks_make_no_event, stops_are_counted_by_their_tracee,
-    what_is_seen_is_legal, what_was_lost_is_claimed_or_reaped,
-};
 pub use opening::{Ends, OpenError, open};
 pub use shown::Shown;
 pub use start::Start;

@@ -10,7 +10,7 @@ use std::alloc::Allocator;
 use stop_history::Roster;
 use stop_table::Claim;
 use trace_options::Errno;
-use trace_record::statuses_are_encoded;
+use trace_record::laws::statuses_are_encoded;
 use trace_status::{WaitStatus, decode};
 
 /// Answers what was found, keeps the claim of a stop at the place of its row, and counts the row that is answered.

@@ -2,16 +2,12 @@
 #![tactic(auto)]
 
 mod fault;
-mod laws;
+pub mod laws;
 mod map_error;
 mod memory;
 mod pages;
 
 pub use fault::Fault;
-pub use laws::{
-    changes_determine_memory, runs_are_made_of_pieces, runs_end_where_they_say,
-    stores_keep_addresses,
-};
 pub use map_error::MapError;
 pub use memory::Memory;
 pub use pages::{MOST_PAGES, PAGE_SIZE};

@@ -2,13 +2,12 @@
 #![tactic(auto)]
 
 mod death;
-mod laws;
+pub mod laws;
 mod resume;
 mod stop;
 mod stop_record;
 
 pub use death::Death;
-pub use laws::{a_status_reports_one_death, statuses_are_encoded};
 pub use resume::{Kind, Resume};
 pub use stop::Stop;
 pub use stop_record::{AUDIT_ARCH_X86_64, StopRecord};

@@ -10,7 +10,7 @@ mod effect;
 mod fill;
 mod found;
 mod halts;
-mod laws;
+pub mod laws;
 mod limits;
 mod look_ahead;
 mod machine;
@@ -28,11 +28,6 @@ mod walk;
 pub use calls::{CLONE, CLONE_THREAD_FLAGS, EXECVE, EXIT, FORK};
 pub use case::Case;
 pub use cause::{CaseError, Cause};
-pub use laws::{
-    mapped_fills_never_fault, numbers_are_fixed, runs_are_traces, scripts_of_cases_are_in_range,
-    signals_are_known, steps_are_known_calls, stops_are_in_range, stops_are_numbered,
-    what_a_case_spells_is_read,
-};
 pub use limits::{MOST_BYTES, MOST_STEPS};
 pub use machine::Machine;
 pub use next::Next;

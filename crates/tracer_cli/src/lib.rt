@@ -8,7 +8,7 @@ mod entry;
 mod failure;
 mod grammar;
 mod job;
-mod laws;
+pub mod laws;
 mod order;
 mod parts;
 mod reading;
@@ -18,9 +18,6 @@ mod shown;
 
 pub use entry::{process, program};
 pub use failure::Failure;
-pub use laws::{
-    numbers_are_fixed, plain_words_are_taken, what_is_spelled_is_read, words_are_counted,
-};
 pub use parts::CutOff;
 pub use replay::replay_text;
 pub use trace_script::{CaseError, Cause};

@@ -18,7 +18,7 @@ ghost use Rattle.tracer_workers.specs.Modes.{AgreeButFilter, filtered_trace, pla
 ghost use Rattle.tracer_workers.specs.Plan.{Plan};
 ghost use Rattle.tracer_workers.specs.Printing.{printed_lines};
 
-use record_printer::lines_are_folded;
+use record_printer::laws::lines_are_folded;
 
 /// A legal run whose tracees follow their scripts, whose restarts are the policy's, and in which each row that was born
 /// has been reaped, prints the text of its case, whatever the order of its events.

@@ -5,7 +5,7 @@ mod config;
 mod fault;
 mod gate;
 mod gathering;
-mod laws;
+pub mod laws;
 mod machine;
 mod one_thread;
 mod run_error;
@@ -18,10 +18,6 @@ mod worker_thread;
 pub use config::{Config, policy};
 pub use gate::Gate;
 pub use gathering::gather;
-pub use laws::{
-    pieces_of_a_run_are_whole, runs_print_their_case, seccomp_changes_no_line,
-    the_mode_changes_no_text,
-};
 pub use run_error::RunError;
 pub use scheduled::run_scheduled;
 pub use thread_laws::{claimed_pieces_were_made, what_is_driven_stays_so};

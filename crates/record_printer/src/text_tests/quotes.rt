@@ -1,7 +1,7 @@
 //! Bytes in quotes.
 
 use super::{Call, Scene, line_of};
-use crate::quotes_are_one_to_one;
+use crate::laws::quotes_are_one_to_one;
 use std::test::Fail;
 
 /// All byte values, sixteen a line, as they are in quotes.

@@ -143,11 +143,11 @@ fn a_row_stops_100000_times(rt: HostRuntime) -> Result<(), Fail> {
 
 #[test]
 fn the_laws_are_there() {
-    crate::a_stop_is_claimed_once();
-    crate::births_are_counted();
-    crate::children_are_born_in_order();
-    crate::older_histories_are_legal();
-    crate::rows_are_placed();
-    crate::settled_rows_stay_settled();
-    stop_history::limits_are_fixed();
+    crate::laws::a_stop_is_claimed_once();
+    crate::laws::births_are_counted();
+    crate::laws::children_are_born_in_order();
+    crate::laws::older_histories_are_legal();
+    crate::laws::rows_are_placed();
+    crate::laws::settled_rows_stay_settled();
+    stop_history::laws::limits_are_fixed();
 }

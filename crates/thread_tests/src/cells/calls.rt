@@ -253,12 +253,12 @@ fn three_claims_are_resumed_in_another_order(rt: HostRuntime) -> Result<(), Fail
 
 #[test]
 fn the_laws_are_there() {
-    stop_table::a_meeting_keeps_events();
-    stop_table::a_record_is_its_rows();
-    stop_table::an_event_of_its_own_is_one_more();
-    stop_table::claims_stay();
-    stop_table::claims_stay_in_hand();
-    stop_table::looks_make_no_event();
-    stop_table::stops_are_counted_by_their_tracee();
-    stop_table::what_is_seen_is_legal();
+    stop_table::laws::a_meeting_keeps_events();
+    stop_table::laws::a_record_is_its_rows();
+    stop_table::laws::an_event_of_its_own_is_one_more();
+    stop_table::laws::claims_stay();
+    stop_table::laws::claims_stay_in_hand();
+    stop_table::laws::looks_make_no_event();
+    stop_table::laws::stops_are_counted_by_their_tracee();
+    stop_table::laws::what_is_seen_is_legal();
 }

@@ -10,7 +10,8 @@ ghost use Rattle.stop_table.specs.View.{View};
 
 use crate::cells::runner::AtRest;
 use std::alloc::{Allocator, Global};
-use stop_table::{Claim, Shown, Taken, Tracer, claims_stay_in_hand};
+use stop_table::laws::claims_stay_in_hand;
+use stop_table::{Claim, Shown, Taken, Tracer};
 use trace_record::{Death, Kind, Resume};
 
 /// How the tests resume what they have claimed, if they say nothing else.

@@ -10,9 +10,8 @@ ghost use Rattle.stop_table.specs.Entry.{cell_after};
 use std::alloc::{Allocator, Global};
 use std::test::Fail;
 use stop_history::{LAST_NUMBER, Roster, place_of};
-use stop_table::{
-    GroupAlive, Start, Tracee, a_record_is_its_rows, stops_are_counted_by_their_tracee,
-};
+use stop_table::laws::{a_record_is_its_rows, stops_are_counted_by_their_tracee};
+use stop_table::{GroupAlive, Start, Tracee};
 use trace_record::{Death, Resume, Stop, StopRecord};
 
 /// A tracee that does not have its row taken up.

@@ -13,6 +13,14 @@ ghost use Rattle.stop_history.specs.declared.limits.TheConstants.{TRACERS};
 ghost use Rattle.stop_history.specs.declared.roster.Row.{Row};
 ghost use Rattle.stop_history.specs.declared.state.State.TheVariants as state;
 
+/// Those of the histories that a board and a World stand at.
+pub use stop_history::laws::{
+    a_claim_is_its_tracers, a_stop_is_claimed_once, a_waiting_row_is_as_it_was_or_was_claimed,
+    an_event_changes_its_row_alone, atomic_steps_keep_words, births_are_counted, births_only_grow,
+    children_are_born_in_order, older_histories_are_legal, only_its_mover_moves_a_row,
+    rows_are_placed, settled_rows_stay_settled, words_are_in_range, words_are_one_to_one,
+};
+
 /// What a claim got is what one thread alone would be answered: the stop or the death that the word shows.
 pub fn a_claim_gets_the_sequential_answer()
     ensures { (rows : List Row) (tracers : ℕ) (m : Moment)
@@ -22,5 +30,3 @@ pub fn a_claim_gets_the_sequential_answer()
         Replies rows tracers m number (action.Claim row) (reply.Got word) →
         claim_answer rows m.history row tracer ≡ claim_state (shown true word.number word.phase) }
 {}
-
-//ADD pub use stop_history::laws::{a_claim_is_its_tracers, a_stop_is_claimed_once, a_waiting_row_is_as_it_was_or_was_claimed, an_event_changes_its_row_alone, atomic_steps_keep_words, births_are_counted, births_only_grow, children_are_born_in_order, older_histories_are_legal, only_its_mover_moves_a_row, rows_are_placed, settled_rows_stay_settled, words_are_in_range, words_are_one_to_one};

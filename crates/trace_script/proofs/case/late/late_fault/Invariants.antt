@@ -4,4 +4,4 @@ use Rattle.trace_script.specs.CaseFile.{late_fault}
 use Rattle.trace_script.proofs.case.late.late_fault.Given as goal
 
 abbrev pub invariant-loop-step : goal.invariant-loop-step
-invariant-loop-step l = late_fault l.rows (drop l.step-index l.late) ≡ late_fault l.rows l.late
+invariant-loop-step g l = late_fault l.roster (drop l.step-index l.late) ≡ late_fault l.roster l.late

@@ -100,9 +100,3 @@ pub less_room : {Z : Type 0} (fold : RowFold Z) (lines behind fewer nearer : ℕ
     → fewer ≤ lines → nearer ≤ behind → HasRoom fold fewer nearer
 less_room fold lines behind fewer nearer room less near =
     record { text_fits = omega (arith, room.text_fits); behind_fits = omega (arith, room.behind_fits) }
-
--- what one note leaves of the room for all
-pub room_of_first : {Z : Type 0} (fold : RowFold Z) (first more : List Note)
-    → HasRoom fold (notes_len (first ++ more)) (notes_behind (first ++ more))
-    → HasRoom fold (notes_len first + notes_len more) (notes_behind first + notes_behind more)
-room_of_first fold first more room = rw (notes_len-append, notes_behind-append) at room

@@ -1,8 +1,6 @@
 //! The stops that came before their turn and follow one another from a number on.
 
-ghost use Rattle.std.specs.Prelude.{◌≡◌, ◌+◌, ◌<◌, ◌≤◌, ◌^◌, ℕ, None, IfSome, option_map};
-ghost use Rattle.std.specs.Option.{option_to_list};
-ghost use Rattle.record_printer.specs.NoteOf.{note_of};
+ghost use Rattle.std.specs.Prelude.{◌≡◌, ◌+◌, ◌<◌, ◌≤◌, ◌^◌, ℕ, None, IfSome};
 ghost use Rattle.record_printer.specs.Chain.{IsChain, notes_behind, notes_len, notes_until};
 ghost use Rattle.record_printer.specs.KeptFold.{HasRoom, fold_of};
 ghost use Rattle.record_printer.specs.Early.{note_at};
@@ -72,19 +70,8 @@ pub(crate) fn fold_chain<A: Allocator>(
     ensures left { (n : ℕ) → next ≤ n → note_at early.new n ≡ note_at early.old n }
 {
     for number in first..next {
-        take_if_some(fold, early.remove(&number));
-    }
-}
-
-fn take_if_some<A: Allocator>(fold: &mut RowFold<A>, note: Option<Note<A>>)
-    requires { let notes = option_to_list (option_map note_of note) in
-        HasRoom fold.old (notes_len notes) (notes_behind notes) }
-    ensures fold { fold_of fold.new
-        ≡ fold_after_all (fold_of fold.old) (option_to_list (option_map note_of note)) }
-    ensures room { (lines behind : ℕ) → let notes = option_to_list (option_map note_of note) in
-        HasRoom fold.old (notes_len notes + lines) (notes_behind notes + behind) → HasRoom fold.new lines behind }
-{
-    if let Some(note) = note {
-        fold.take(note);
+        if let Some(note) = early.remove(&number) {
+            fold.take(note);
+        }
     }
 }

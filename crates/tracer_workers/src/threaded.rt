@@ -19,6 +19,7 @@ ghost use Rattle.tracer_workers.specs.Threaded.{CanRun, HasRun, HasWorked};
 ghost use Rattle.tracer_workers.specs.TraceeThread.{IsToStart};
 ghost use Rattle.tracer_workers.specs.declared.run_error.RunError.TheVariants as run_error;
 
+mod shared;
 mod starting_line;
 mod tracee_threads;
 mod worker_threads;
@@ -29,6 +30,7 @@ use crate::gathering::gather;
 use crate::laws::{runs_print_their_case, the_mode_changes_no_text};
 use crate::machine::new_machine;
 use crate::run_error::RunError;
+use crate::threaded::shared::Shared;
 use crate::threaded::starting_line::StartingLine;
 use crate::threaded::tracee_threads::{Scripted, TraceeThread, join_tracees, start_tracees};
 use crate::threaded::worker_threads::{Served, WorkerThread, join_workers, start_workers};
@@ -38,7 +40,7 @@ use std::sync::Wait;
 use std::thread;
 use std::thread::{Scope, Threads};
 use std::time::Clock;
-use stop_history::{Roster, TRACERS};
+use stop_history::TRACERS;
 use stop_table::{Tracee, Tracer, open};
 use trace_options::NoMemory;
 use trace_script::Case;
@@ -65,32 +67,18 @@ fn with_machines<A: Allocator + Copy>(
     Ok(all)
 }
 
-/// The lists of a run, which have room for all that comes into them.
+/// What the threads of a run are handed: each tracee with its machine, and the tracers of the workers.
 #[derive(Drop)]
-struct Room<A: Allocator> {
-    tracee_threads: Vec<TraceeThread<A>, A>,
-    worker_threads: Vec<WorkerThread<A>, A>,
-    tracees: Vec<Tracee<A>, A>,
-    served: Vec<Served<A>, A>,
+struct Handed<A: Allocator> {
+    scripted: Vec<Scripted<A>, A>,
+    tracers: Vec<Tracer<A>, A>,
 }
 
-/// Makes the lists of a run with this many tracees and workers.
-fn make_room<A: Allocator + Copy>(
-    alloc: A,
-    rows: usize,
-    workers: usize,
-) -> Result<Room<A>, NoMemory>
-    ensures tracees { IfOk result (λ r. (r.tracee_threads.items ≡ []) × (rows ≤ vec_capacity r.tracee_threads)
-        × (r.tracees.items ≡ []) × (rows ≤ vec_capacity r.tracees)) }
-    ensures workers { IfOk result (λ r. (r.worker_threads.items ≡ []) × (workers ≤ vec_capacity r.worker_threads)
-        × (r.served.items ≡ []) × (workers ≤ vec_capacity r.served)) }
-{
-    Ok(Room {
-        tracee_threads: Vec::with_capacity(alloc, rows)?,
-        worker_threads: Vec::with_capacity(alloc, workers)?,
-        tracees: Vec::with_capacity(alloc, rows)?,
-        served: Vec::with_capacity(alloc, workers)?,
-    })
+/// The threads of a run that were started.
+#[derive(Drop)]
+struct Started<A: Allocator> {
+    tracees: Vec<TraceeThread<A>, A>,
+    workers: Vec<WorkerThread<A>, A>,
 }
 
 /// What the threads of a run have given back.
@@ -100,7 +88,36 @@ struct Back<A: Allocator> {
     served: Vec<Served<A>, A>,
 }
 
-/// Starts the threads of all tracees and workers, for which there is room in two lists; whether all could be started.
+/// The lists of a run, which have room for all that comes into them.
+#[derive(Drop)]
+struct Room<A: Allocator> {
+    started: Started<A>,
+    back: Back<A>,
+}
+
+/// Makes the lists of a run with this many tracees and workers.
+fn make_room<A: Allocator + Copy>(
+    alloc: A,
+    rows: usize,
+    workers: usize,
+) -> Result<Room<A>, NoMemory>
+    ensures started { IfOk result (λ r. (r.started.tracees.items ≡ []) × (rows ≤ vec_capacity r.started.tracees)
+        × (r.started.workers.items ≡ []) × (workers ≤ vec_capacity r.started.workers)) }
+    ensures back { IfOk result (λ r. (r.back.tracees.items ≡ []) × (rows ≤ vec_capacity r.back.tracees)
+        × (r.back.served.items ≡ []) × (workers ≤ vec_capacity r.back.served)) }
+{
+    let started = Started {
+        tracees: Vec::with_capacity(alloc, rows)?,
+        workers: Vec::with_capacity(alloc, workers)?,
+    };
+    let back = Back {
+        tracees: Vec::with_capacity(alloc, rows)?,
+        served: Vec::with_capacity(alloc, workers)?,
+    };
+    Ok(Room { started, back })
+}
+
+/// Starts the threads of all tracees and workers, for which there is room; whether all could be started.
 fn start_all<
     's,
     'e: 's,
@@ -110,40 +127,27 @@ fn start_all<
 >(
     scope: &Scope<'s, &'e ()>,
     rt: &'e R,
-    alloc: A,
-    line: &'e StartingLine,
-    roster: &'e Roster<A>,
-    config: &'e Config,
-    gate: &'e G,
-    all: Vec<Scripted<A>, A>,
-    tracers: Vec<Tracer<A>, A>,
-    tracee_threads: &mut Vec<TraceeThread<A>, A>,
-    worker_threads: &mut Vec<WorkerThread<A>, A>,
+    shared: &'e Shared<'e, A, G>,
+    handed: Handed<A>,
+    started: &mut Started<A>,
 ) -> bool
-    requires tracees { All (λ s. CanRun s.tracee s.machine) all.items }
-    requires tracers { All (λ e. (roster.now ≡ e.view.roster) × (held_rows e.view ≡ [])) tracers.items }
-    requires room { (tracee_threads.old.items ≡ []) × (vec_len all ≤ vec_capacity tracee_threads.old)
-        × (worker_threads.old.items ≡ []) × (vec_len tracers ≤ vec_capacity worker_threads.old) }
-    ensures few { (vec_len tracee_threads.new ≤ vec_len all) × (vec_len worker_threads.new ≤ vec_len tracers) }
+    requires tracees { All (λ s. CanRun s.tracee s.machine) handed.scripted.items }
+    requires tracers { All (λ e. (shared.now.roster.now ≡ e.view.roster) × (held_rows e.view ≡ []))
+        handed.tracers.items }
+    requires room { (started.old.tracees.items ≡ []) × (vec_len handed.scripted ≤ vec_capacity started.old.tracees)
+        × (started.old.workers.items ≡ []) × (vec_len handed.tracers ≤ vec_capacity started.old.workers) }
+    ensures few { (vec_len started.new.tracees ≤ vec_len handed.scripted)
+        × (vec_len started.new.workers ≤ vec_len handed.tracers) }
     ensures tracees { result ≡ true → AllZip (λ s h. (h.promise.tracee.value ≡ s.tracee)
-        × (h.promise.machine.value ≡ s.machine)) all.items tracee_threads.new.items }
-    ensures workers { result ≡ true → AllZip (λ e h. (h.promise.tracer.value ≡ e) × (h.promise.config ≡ config.now))
-        tracers.items worker_threads.new.items }
+        × (h.promise.machine.value ≡ s.machine)) handed.scripted.items started.new.tracees.items }
+    ensures workers { result ≡ true → AllZip (λ e h. (h.promise.tracer.value ≡ e)
+        × (h.promise.config ≡ shared.now.config.now)) handed.tracers.items started.new.workers.items }
 {
-    if !start_tracees(scope, rt, line, all, tracee_threads) {
+    let Handed { scripted, tracers } = handed;
+    if !start_tracees(scope, rt, shared.line, scripted, &mut started.tracees) {
         return false;
     }
-    start_workers(
-        scope,
-        rt,
-        alloc,
-        line,
-        tracers,
-        roster,
-        config,
-        gate,
-        worker_threads,
-    )
+    start_workers(scope, rt, shared, tracers, &mut started.workers)
 }
 
 /// Starts all threads, tells them to go once all have what they need, and otherwise to leave, and joins them.
@@ -156,57 +160,43 @@ fn run_threads<
 >(
     scope: &Scope<'s, &'e ()>,
     rt: &'e R,
-    alloc: A,
-    line: &'e StartingLine,
-    roster: &'e Roster<A>,
-    config: &'e Config,
-    gate: &'e G,
-    all: Vec<Scripted<A>, A>,
-    tracers: Vec<Tracer<A>, A>,
+    shared: &'e Shared<'e, A, G>,
+    handed: Handed<A>,
     room: Room<A>,
 ) -> Result<Back<A>, RunError>
-    requires tracees { All (λ s. CanRun s.tracee s.machine) all.items }
-    requires tracers { All (λ e. (roster.now ≡ e.view.roster) × (held_rows e.view ≡ [])) tracers.items }
-    requires tracee_room { (room.tracee_threads.items ≡ []) × (vec_len all ≤ vec_capacity room.tracee_threads)
-        × (room.tracees.items ≡ []) × (vec_len all ≤ vec_capacity room.tracees) }
-    requires worker_room { (room.worker_threads.items ≡ []) × (vec_len tracers ≤ vec_capacity room.worker_threads)
-        × (room.served.items ≡ []) × (vec_len tracers ≤ vec_capacity room.served) }
-    ensures tracees { IfOk result (λ back. AllZip (λ s t. HasRun s.tracee s.machine t) all.items back.tracees.items) }
+    requires tracees { All (λ s. CanRun s.tracee s.machine) handed.scripted.items }
+    requires tracers { All (λ e. (shared.now.roster.now ≡ e.view.roster) × (held_rows e.view ≡ []))
+        handed.tracers.items }
+    requires started { (room.started.tracees.items ≡ [])
+        × (vec_len handed.scripted ≤ vec_capacity room.started.tracees)
+        × (room.started.workers.items ≡ []) × (vec_len handed.tracers ≤ vec_capacity room.started.workers) }
+    requires back { (room.back.tracees.items ≡ []) × (vec_len handed.scripted ≤ vec_capacity room.back.tracees)
+        × (room.back.served.items ≡ []) × (vec_len handed.tracers ≤ vec_capacity room.back.served) }
+    ensures tracees { IfOk result (λ back. AllZip (λ s t. HasRun s.tracee s.machine t)
+        handed.scripted.items back.tracees.items) }
     ensures workers { IfOk result (λ back. AllZip (λ e s.
-        HasWorked config.now e s.tracer s.worked.pieces.items s.worked.short) tracers.items back.served.items) }
+        HasWorked shared.now.config.now e s.tracer s.worked.pieces.items s.worked.short)
+        handed.tracers.items back.served.items) }
     ensures kept { IfErr result (λ error. error ≢ run_error.Lost) }
 {
     let Room {
-        mut tracee_threads,
-        mut worker_threads,
-        mut tracees,
-        mut served,
+        mut started,
+        mut back,
     } = room;
-    let workers = tracers.len() as u64;
-    let are_started = start_all(
-        scope,
-        rt,
-        alloc,
-        line,
-        roster,
-        config,
-        gate,
-        all,
-        tracers,
-        &mut tracee_threads,
-        &mut worker_threads,
-    );
-    let are_ready = are_started && line.await_workers(rt, workers);
-    line.tell(are_ready);
-    join_tracees(rt, tracee_threads, &mut tracees);
-    join_workers(rt, worker_threads, &mut served);
+    let count = handed.tracers.len() as u64;
+    let are_started = start_all(scope, rt, shared, handed, &mut started);
+    let are_ready = are_started && shared.line.await_workers(rt, count);
+    shared.line.tell(are_ready);
+    let Started { tracees, workers } = started;
+    join_tracees(rt, tracees, &mut back.tracees);
+    join_workers(rt, workers, &mut back.served);
     if !are_started {
         return Err(RunError::Threads);
     }
     if !are_ready {
         return Err(RunError::NoMemory);
     }
-    Ok(Back { tracees, served })
+    Ok(back)
 }
 
 /// The same in a scope of its own, at whose end all threads have ended.
@@ -214,53 +204,45 @@ fn run_in_scope<
     A: Allocator + Copy + Send + Sync,
     R: Threads + Wait + Clock + Sync,
     G: Gate + Sync,
->(
-    rt: &R,
-    alloc: A,
-    roster: &Roster<A>,
-    config: &Config,
-    gate: &G,
-    all: Vec<Scripted<A>, A>,
-    tracers: Vec<Tracer<A>, A>,
-    room: Room<A>,
-) -> Result<Back<A>, RunError>
-    requires tracees { All (λ s. CanRun s.tracee s.machine) all.items }
-    requires tracers { All (λ e. (roster.now ≡ e.view.roster) × (held_rows e.view ≡ [])) tracers.items }
-    requires tracee_room { (room.tracee_threads.items ≡ []) × (vec_len all ≤ vec_capacity room.tracee_threads)
-        × (room.tracees.items ≡ []) × (vec_len all ≤ vec_capacity room.tracees) }
-    requires worker_room { (room.worker_threads.items ≡ []) × (vec_len tracers ≤ vec_capacity room.worker_threads)
-        × (room.served.items ≡ []) × (vec_len tracers ≤ vec_capacity room.served) }
-    ensures tracees { IfOk result (λ back. AllZip (λ s t. HasRun s.tracee s.machine t) all.items back.tracees.items) }
+>(rt: &R, shared: &Shared<'_, A, G>, handed: Handed<A>, room: Room<A>) -> Result<Back<A>, RunError>
+    requires tracees { All (λ s. CanRun s.tracee s.machine) handed.scripted.items }
+    requires tracers { All (λ e. (shared.now.roster.now ≡ e.view.roster) × (held_rows e.view ≡ []))
+        handed.tracers.items }
+    requires started { (room.started.tracees.items ≡ [])
+        × (vec_len handed.scripted ≤ vec_capacity room.started.tracees)
+        × (room.started.workers.items ≡ []) × (vec_len handed.tracers ≤ vec_capacity room.started.workers) }
+    requires back { (room.back.tracees.items ≡ []) × (vec_len handed.scripted ≤ vec_capacity room.back.tracees)
+        × (room.back.served.items ≡ []) × (vec_len handed.tracers ≤ vec_capacity room.back.served) }
+    ensures tracees { IfOk result (λ back. AllZip (λ s t. HasRun s.tracee s.machine t)
+        handed.scripted.items back.tracees.items) }
     ensures workers { IfOk result (λ back. AllZip (λ e s.
-        HasWorked config.now e s.tracer s.worked.pieces.items s.worked.short) tracers.items back.served.items) }
+        HasWorked shared.now.config.now e s.tracer s.worked.pieces.items s.worked.short)
+        handed.tracers.items back.served.items) }
     ensures kept { IfErr result (λ error. error ≢ run_error.Lost) }
 {
-    let line = StartingLine::new();
-    let line = &line;
     thread::scope(
         thread::scope_env(),
         rt,
         move |scope| -> Result<Back<A>, RunError>
             requires shared { IsSend A.row × IsSync A.row × IsSync R.row × IsSync G.row
                 × Frees A.Allocator A.dealloc_token }
-            requires tracees { All (λ s. CanRun s.tracee s.machine) all.items }
-            requires tracers { All (λ e. (roster.now ≡ e.view.roster) × (held_rows e.view ≡ [])) tracers.items }
-            requires tracee_room { (room.tracee_threads.items ≡ []) × (vec_len all ≤ vec_capacity room.tracee_threads)
-                × (room.tracees.items ≡ []) × (vec_len all ≤ vec_capacity room.tracees) }
-            requires worker_room { (room.worker_threads.items ≡ [])
-                × (vec_len tracers ≤ vec_capacity room.worker_threads)
-                × (room.served.items ≡ []) × (vec_len tracers ≤ vec_capacity room.served) }
+            requires tracees { All (λ s. CanRun s.tracee s.machine) handed.scripted.items }
+            requires tracers { All (λ e. (shared.now.roster.now ≡ e.view.roster) × (held_rows e.view ≡ []))
+                handed.tracers.items }
+            requires started { (room.started.tracees.items ≡ [])
+                × (vec_len handed.scripted ≤ vec_capacity room.started.tracees)
+                × (room.started.workers.items ≡ [])
+                × (vec_len handed.tracers ≤ vec_capacity room.started.workers) }
+            requires back { (room.back.tracees.items ≡ [])
+                × (vec_len handed.scripted ≤ vec_capacity room.back.tracees)
+                × (room.back.served.items ≡ []) × (vec_len handed.tracers ≤ vec_capacity room.back.served) }
             ensures tracees { IfOk result (λ back. AllZip (λ s t. HasRun s.tracee s.machine t)
-                all.items back.tracees.items) }
+                handed.scripted.items back.tracees.items) }
             ensures workers { IfOk result (λ back. AllZip (λ e s.
-                HasWorked config.entry.now e s.tracer s.worked.pieces.items s.worked.short)
-                tracers.items back.served.items) }
+                HasWorked shared.entry.now.config.now e s.tracer s.worked.pieces.items s.worked.short)
+                handed.tracers.items back.served.items) }
             ensures kept { IfErr result (λ error. error ≢ run_error.Lost) }
-        {
-            run_threads(
-                scope, rt, alloc, line, roster, config, gate, all, tracers, room,
-            )
-        },
+        { run_threads(scope, rt, shared, handed, room) },
     )
 }
 
@@ -326,15 +308,24 @@ pub fn run_case<
 {
     runs_print_their_case();
     the_mode_changes_no_text();
-    let Ok(ends) = open(alloc, case.roster(), TRACERS) else {
+    let roster = case.roster();
+    let Ok(ends) = open(alloc, roster, TRACERS) else {
         return Err(RunError::NoMemory);
     };
-    let all = with_machines(alloc, case, config, ends.tracees)?;
+    let scripted = with_machines(alloc, case, config, ends.tracees)?;
     let mut tracers = ends.tracers;
     let mut spare = split_spare(alloc, &mut tracers, config.workers)?;
-    let room = make_room(alloc, all.len(), tracers.len())?;
-    let back = run_in_scope(rt, alloc, case.roster(), config, gate, all, tracers, room)?;
+    let room = make_room(alloc, scripted.len(), tracers.len())?;
+    let line = StartingLine::new();
+    let shared = Shared {
+        alloc,
+        line: &line,
+        roster,
+        config,
+        gate,
+    };
+    let back = run_in_scope(rt, &shared, Handed { scripted, tracers }, room)?;
     let pieces = take_apart(alloc, back.served, &mut spare)?;
-    let (_tracer, text) = gather(alloc, case.roster(), spare, back.tracees, pieces)?;
+    let (_tracer, text) = gather(alloc, roster, spare, back.tracees, pieces)?;
     Ok(text)
 }

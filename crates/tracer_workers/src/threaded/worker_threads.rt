@@ -8,14 +8,13 @@ ghost use Rattle.tracer_workers.specs.Threaded.{HasWorked};
 
 use crate::config::Config;
 use crate::gate::Gate;
-use crate::threaded::starting_line::StartingLine;
+use crate::threaded::shared::Shared;
 use crate::worker_thread::{Worked, run_worker};
 use std::alloc::Allocator;
 use std::snapshot::Snapshot;
 use std::sync::Wait;
 use std::thread::{Promise, PromisedHandle, Scope, Threads};
 use std::time::Clock;
-use stop_history::Roster;
 use stop_table::Tracer;
 use trace_calls::Calls;
 
@@ -67,30 +66,27 @@ fn spend<A: Allocator>(calls: Calls<A>) -> Tracer<A>
 /// What the thread of a worker does: it makes its calls, waits until it is told, and then works, or leaves.
 fn work_when_told<A: Allocator + Copy, R: Wait + Clock, G: Gate>(
     rt: &R,
-    alloc: A,
-    line: &StartingLine,
+    shared: &Shared<'_, A, G>,
     tracer: Tracer<A>,
-    roster: &Roster<A>,
-    config: &Config,
-    gate: &G,
 ) -> Served<A>
-    requires roster { roster.now ≡ tracer.view.roster }
+    requires roster { shared.now.roster.now ≡ tracer.view.roster }
     requires idle { held_rows tracer.view ≡ [] }
-    ensures { HasWorked config.now tracer result.tracer result.worked.pieces.items result.worked.short }
+    ensures { HasWorked shared.now.config.now tracer result.tracer result.worked.pieces.items result.worked.short }
 {
+    let alloc = shared.alloc;
     let worker = tracer.number();
-    let mut calls = match Calls::new(alloc, tracer, roster) {
+    let mut calls = match Calls::new(alloc, tracer, shared.roster) {
         Ok(calls) => calls,
         Err(tracer) => {
-            line.report(false);
+            shared.line.report(false);
             return idle(alloc, tracer);
         }
     };
-    line.report(true);
-    if !line.is_go(rt) {
+    shared.line.report(true);
+    if !shared.line.is_go(rt) {
         return idle(alloc, spend(calls));
     }
-    let worked = run_worker(rt, alloc, &mut calls, config, worker, gate);
+    let worked = run_worker(rt, alloc, &mut calls, shared.config, worker, shared.gate);
     Served {
         tracer: spend(calls),
         worked,
@@ -107,26 +103,23 @@ fn start_worker<
 >(
     scope: &Scope<'s, &'e ()>,
     rt: &'e R,
-    alloc: A,
-    line: &'e StartingLine,
+    shared: &'e Shared<'e, A, G>,
     tracer: Tracer<A>,
-    roster: &'e Roster<A>,
-    config: &'e Config,
-    gate: &'e G,
 ) -> Option<WorkerThread<A>>
-    requires roster { roster.now ≡ tracer.view.roster }
+    requires roster { shared.now.roster.now ≡ tracer.view.roster }
     requires idle { held_rows tracer.view ≡ [] }
-    ensures { IfSome result (λ h. (h.promise.tracer.value ≡ tracer) × (h.promise.config ≡ config.now)) }
+    ensures { IfSome result (λ h. (h.promise.tracer.value ≡ tracer) × (h.promise.config ≡ shared.now.config.now)) }
 {
     let promise = Serves {
         tracer: Snapshot::of(&tracer),
-        config: *config,
+        config: *shared.config,
     };
     let work = move || -> Served<A>
-        requires roster { roster.now ≡ tracer.view.roster }
+        requires roster { shared.now.roster.now ≡ tracer.view.roster }
         requires idle { held_rows tracer.view ≡ [] }
-        ensures { HasWorked config.entry.now tracer result.tracer result.worked.pieces.items result.worked.short }
-    { work_when_told(rt, alloc, line, tracer, roster, config, gate) };
+        ensures { HasWorked shared.entry.now.config.now tracer result.tracer result.worked.pieces.items
+            result.worked.short }
+    { work_when_told(rt, shared, tracer) };
     scope.spawn_with(promise, work).ok()
 }
 
@@ -140,22 +133,18 @@ pub(crate) fn start_workers<
 >(
     scope: &Scope<'s, &'e ()>,
     rt: &'e R,
-    alloc: A,
-    line: &'e StartingLine,
+    shared: &'e Shared<'e, A, G>,
     tracers: Vec<Tracer<A>, A>,
-    roster: &'e Roster<A>,
-    config: &'e Config,
-    gate: &'e G,
     threads: &mut Vec<WorkerThread<A>, A>,
 ) -> bool
     requires room { (threads.old.items ≡ []) × (vec_len tracers ≤ vec_capacity threads.old) }
-    requires ready { All (λ e. (roster.now ≡ e.view.roster) × (held_rows e.view ≡ [])) tracers.items }
+    requires ready { All (λ e. (shared.now.roster.now ≡ e.view.roster) × (held_rows e.view ≡ [])) tracers.items }
     ensures few { vec_len threads.new ≤ vec_len tracers }
-    ensures all { result ≡ true → AllZip (λ e h. (h.promise.tracer.value ≡ e) × (h.promise.config ≡ config.now))
-        tracers.items threads.new.items }
+    ensures all { result ≡ true → AllZip (λ e h. (h.promise.tracer.value ≡ e)
+        × (h.promise.config ≡ shared.now.config.now)) tracers.items threads.new.items }
 {
     for tracer in tracers {
-        match start_worker(scope, rt, alloc, line, tracer, roster, config, gate) {
+        match start_worker(scope, rt, shared, tracer) {
             Some(thread) => threads.push_reserved(thread),
             None => return false,
         }

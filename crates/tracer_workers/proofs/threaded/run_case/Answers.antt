@@ -21,8 +21,8 @@ pub with_machines-requires : goal.with_machines-requires
 with_machines-requires g c =
     let ok = c.in-Ok.ensures.ok in (
       ok.0,
-      subst (λ rows. AreTracees ok.0 rows c.in-Ok.ends.tracees.items) c.roster.ensures.rows ok.3,
-      ok.1 ∙ ap length c.roster.ensures.rows,
+      subst (λ rows. AreTracees ok.0 rows c.in-Ok.ends.tracees.items) c.roster-roster.ensures.rows ok.3,
+      ok.1 ∙ ap length c.roster-roster.ensures.rows,
     )
 
 pub run_in_scope-requires-clause-tracees : goal.run_in_scope-requires-clause-tracees
@@ -30,89 +30,89 @@ run_in_scope-requires-clause-tracees g c κs within =
     let ok = c.in-Ok.ensures.ok in
     let rows = c.args.case.now.rows in
     all_can_run ok.0 c.args.config.now c.args.case.now (λ (s : Scripted g.row.A.Denot). s.tracee)
-    (λ (s : Scripted g.row.A.Denot). s.machine) c.in-Ok.ends.tracees.items c.in_ok-all.all.items
+    (λ (s : Scripted g.row.A.Denot). s.machine) c.in-Ok.ends.tracees.items c.in_ok-scripted.scripted.items
     (new_tracees ok.0 rows c.in-Ok.ends.tracees.items
-    (subst (λ rows. AreTracees ok.0 rows c.in-Ok.ends.tracees.items) c.roster.ensures.rows ok.3))
-    c.in_ok-all.ensures
+    (subst (λ rows. AreTracees ok.0 rows c.in-Ok.ends.tracees.items) c.roster-roster.ensures.rows ok.3))
+    c.in_ok-scripted.ensures
 
 pub run_in_scope-requires-clause-tracers : goal.run_in_scope-requires-clause-tracers
 run_in_scope-requires-clause-tracers g c κs within =
     let ok = c.in-Ok.ensures.ok in
     let rows = c.args.case.now.rows in
-    all_ready ok.0 rows c.roster-2.result.now c.roster-2.ensures.rows c.in-Ok.ends.tracers.items
+    all_ready ok.0 rows c.roster-roster.result.now c.roster-roster.ensures.rows c.in-Ok.ends.tracers.items
     c.split_spare.new.tracers.items c.in_ok-spare.spare.items c.in_ok-spare.ensures.all
-    (subst (λ rows. AreTracers ok.0 rows c.in-Ok.ends.tracers.items) c.roster.ensures.rows ok.4)
+    (subst (λ rows. AreTracers ok.0 rows c.in-Ok.ends.tracers.items) c.roster-roster.ensures.rows ok.4)
 
 pub gather-requires-clause-at_least_one : goal.gather-requires-clause-at_least_one
 gather-requires-clause-at_least_one g c =
     let ok = c.in-Ok.ensures.ok in
-    let first = subst (λ rows. AreTracees ok.0 rows c.in-Ok.ends.tracees.items) c.roster.ensures.rows ok.3 in
-    let second = subst (λ rows. AreTracers ok.0 rows c.in-Ok.ends.tracers.items) c.roster.ensures.rows ok.4 in
+    let first = subst (λ rows. AreTracees ok.0 rows c.in-Ok.ends.tracees.items) c.roster-roster.ensures.rows ok.3 in
+    let second = subst (λ rows. AreTracers ok.0 rows c.in-Ok.ends.tracers.items) c.roster-roster.ensures.rows ok.4 in
     let many : length c.in-Ok.ends.tracers.items ≡ TRACERS = sym c.in-Ok.ends.tracers.ok.0 ∙ ok.2 in
-    let some = case_some ok.0 c.args.config.now c.args.case.now c.in_ok-all.all.items c.in_ok-back.back.served.items
+    let some = case_some ok.0 c.args.config.now c.args.case.now c.in_ok-scripted.scripted.items c.in_ok-back.back.served.items
     (λ (s : Scripted g.row.A.Denot). s.tracee) (λ (s : Scripted g.row.A.Denot). s.machine)
     (λ (s : Served g.row.A.Denot). s.tracer) (λ (s : Served g.row.A.Denot). s.worked.pieces.items)
     (λ (s : Served g.row.A.Denot). s.worked.short) c.in-Ok.ends.tracees.items c.in-Ok.ends.tracers.items
     c.split_spare.new.tracers.items c.in_ok-spare.spare.items c.in_ok-back.back.tracees.items c.take_apart.new.tracers.items
-    first (sym c.in-Ok.ends.tracees.ok.0 ∙ ok.1 ∙ ap length c.roster.ensures.rows) second many c.in_ok-spare.ensures.all c.in_ok-all.ensures
+    first (sym c.in-Ok.ends.tracees.ok.0 ∙ ok.1 ∙ ap length c.roster-roster.ensures.rows) second many c.in_ok-spare.ensures.all c.in_ok-scripted.ensures
     c.in_ok-back.ensures.tracees c.in_ok-back.ensures.workers c.in_ok-pieces.ensures.tracers in
     omega (arith, some, c.take_apart.new.tracers.ok)
 
 pub gather-requires-clause-handles : goal.gather-requires-clause-handles
 gather-requires-clause-handles g c =
     let ok = c.in-Ok.ensures.ok in
-    let first = subst (λ rows. AreTracees ok.0 rows c.in-Ok.ends.tracees.items) c.roster.ensures.rows ok.3 in
-    let second = subst (λ rows. AreTracers ok.0 rows c.in-Ok.ends.tracers.items) c.roster.ensures.rows ok.4 in
+    let first = subst (λ rows. AreTracees ok.0 rows c.in-Ok.ends.tracees.items) c.roster-roster.ensures.rows ok.3 in
+    let second = subst (λ rows. AreTracers ok.0 rows c.in-Ok.ends.tracers.items) c.roster-roster.ensures.rows ok.4 in
     let many : length c.in-Ok.ends.tracers.items ≡ TRACERS = sym c.in-Ok.ends.tracers.ok.0 ∙ ok.2 in (
       ok.0,
-      subst (λ rows. All (IsFreeTracer ok.0 rows) c.take_apart.new.tracers.items) (sym c.roster-3.ensures.rows)
-          (case_tracers ok.0 c.args.config.now c.args.case.now c.in_ok-all.all.items c.in_ok-back.back.served.items
+      subst (λ rows. All (IsFreeTracer ok.0 rows) c.take_apart.new.tracers.items) (sym c.roster-roster.ensures.rows)
+          (case_tracers ok.0 c.args.config.now c.args.case.now c.in_ok-scripted.scripted.items c.in_ok-back.back.served.items
           (λ (s : Scripted g.row.A.Denot). s.tracee) (λ (s : Scripted g.row.A.Denot). s.machine)
           (λ (s : Served g.row.A.Denot). s.tracer) (λ (s : Served g.row.A.Denot). s.worked.pieces.items)
           (λ (s : Served g.row.A.Denot). s.worked.short) c.in-Ok.ends.tracees.items c.in-Ok.ends.tracers.items
           c.split_spare.new.tracers.items c.in_ok-spare.spare.items c.in_ok-back.back.tracees.items c.take_apart.new.tracers.items
-          first (sym c.in-Ok.ends.tracees.ok.0 ∙ ok.1 ∙ ap length c.roster.ensures.rows) second many c.in_ok-spare.ensures.all c.in_ok-all.ensures
+          first (sym c.in-Ok.ends.tracees.ok.0 ∙ ok.1 ∙ ap length c.roster-roster.ensures.rows) second many c.in_ok-spare.ensures.all c.in_ok-scripted.ensures
           c.in_ok-back.ensures.tracees c.in_ok-back.ensures.workers c.in_ok-pieces.ensures.tracers),
-      subst (λ rows. All (IsFreeTracee ok.0 rows) c.in_ok-back.back.tracees.items) (sym c.roster-3.ensures.rows)
-          (case_tracees ok.0 c.args.config.now c.args.case.now c.in_ok-all.all.items c.in_ok-back.back.served.items
+      subst (λ rows. All (IsFreeTracee ok.0 rows) c.in_ok-back.back.tracees.items) (sym c.roster-roster.ensures.rows)
+          (case_tracees ok.0 c.args.config.now c.args.case.now c.in_ok-scripted.scripted.items c.in_ok-back.back.served.items
           (λ (s : Scripted g.row.A.Denot). s.tracee) (λ (s : Scripted g.row.A.Denot). s.machine)
           (λ (s : Served g.row.A.Denot). s.tracer) (λ (s : Served g.row.A.Denot). s.worked.pieces.items)
           (λ (s : Served g.row.A.Denot). s.worked.short) c.in-Ok.ends.tracees.items c.in-Ok.ends.tracers.items
           c.split_spare.new.tracers.items c.in_ok-spare.spare.items c.in_ok-back.back.tracees.items c.take_apart.new.tracers.items
-          first (sym c.in-Ok.ends.tracees.ok.0 ∙ ok.1 ∙ ap length c.roster.ensures.rows) second many c.in_ok-spare.ensures.all c.in_ok-all.ensures
+          first (sym c.in-Ok.ends.tracees.ok.0 ∙ ok.1 ∙ ap length c.roster-roster.ensures.rows) second many c.in_ok-spare.ensures.all c.in_ok-scripted.ensures
           c.in_ok-back.ensures.tracees c.in_ok-back.ensures.workers c.in_ok-pieces.ensures.tracers),
     )
 
 pub returns : goal.returns
 returns g c =
     let ok = c.in-Ok.ensures.ok in
-    let first = subst (λ rows. AreTracees ok.0 rows c.in-Ok.ends.tracees.items) c.roster.ensures.rows ok.3 in
-    let second = subst (λ rows. AreTracers ok.0 rows c.in-Ok.ends.tracers.items) c.roster.ensures.rows ok.4 in
+    let first = subst (λ rows. AreTracees ok.0 rows c.in-Ok.ends.tracees.items) c.roster-roster.ensures.rows ok.3 in
+    let second = subst (λ rows. AreTracers ok.0 rows c.in-Ok.ends.tracers.items) c.roster-roster.ensures.rows ok.4 in
     let many : length c.in-Ok.ends.tracers.items ≡ TRACERS = sym c.in-Ok.ends.tracers.ok.0 ∙ ok.2 in
     let config = c.args.config.now in
     let content = c.args.case.now in
-    let rows = c.roster-3.ensures.rows in
+    let rows = c.roster-roster.ensures.rows in
     let told = c.in_ok-_tracer.ensures in
     let h = c.in_ok-_tracer._tracer.view.seen in
     let print = printed_lines (show_of config) in
     let on : GoesOnFrom (views_of c.take_apart.new.tracers.items c.in_ok-back.back.tracees.items) h =
     λ k d within. (told.taken_in k d within).seen in
     let legal : AreLegal content.rows h = subst (λ rs. AreLegal rs h) rows told.legal in
-    let seen = case_seen ok.0 c.args.config.now c.args.case.now c.in_ok-all.all.items c.in_ok-back.back.served.items
+    let seen = case_seen ok.0 c.args.config.now c.args.case.now c.in_ok-scripted.scripted.items c.in_ok-back.back.served.items
     (λ (s : Scripted g.row.A.Denot). s.tracee) (λ (s : Scripted g.row.A.Denot). s.machine)
     (λ (s : Served g.row.A.Denot). s.tracer) (λ (s : Served g.row.A.Denot). s.worked.pieces.items)
     (λ (s : Served g.row.A.Denot). s.worked.short) c.in-Ok.ends.tracees.items c.in-Ok.ends.tracers.items
     c.split_spare.new.tracers.items c.in_ok-spare.spare.items c.in_ok-back.back.tracees.items c.take_apart.new.tracers.items
-    first (sym c.in-Ok.ends.tracees.ok.0 ∙ ok.1 ∙ ap length c.roster.ensures.rows) second many c.in_ok-spare.ensures.all c.in_ok-all.ensures
+    first (sym c.in-Ok.ends.tracees.ok.0 ∙ ok.1 ∙ ap length c.roster-roster.ensures.rows) second many c.in_ok-spare.ensures.all c.in_ok-scripted.ensures
     c.in_ok-back.ensures.tracees c.in_ok-back.ensures.workers c.in_ok-pieces.ensures.tracers h legal on in
     let kept = subst (λ ps. AreSeen (show_of config) content.rows (views_of c.take_apart.new.tracers.items c.in_ok-back.back.tracees.items) ps)
     (sym c.in_ok-pieces.ensures.pieces) seen in
-    let driven = case_driven ok.0 c.args.config.now c.args.case.now c.in_ok-all.all.items c.in_ok-back.back.served.items
+    let driven = case_driven ok.0 c.args.config.now c.args.case.now c.in_ok-scripted.scripted.items c.in_ok-back.back.served.items
     (λ (s : Scripted g.row.A.Denot). s.tracee) (λ (s : Scripted g.row.A.Denot). s.machine)
     (λ (s : Served g.row.A.Denot). s.tracer) (λ (s : Served g.row.A.Denot). s.worked.pieces.items)
     (λ (s : Served g.row.A.Denot). s.worked.short) c.in-Ok.ends.tracees.items c.in-Ok.ends.tracers.items
     c.split_spare.new.tracers.items c.in_ok-spare.spare.items c.in_ok-back.back.tracees.items c.take_apart.new.tracers.items
-    first (sym c.in-Ok.ends.tracees.ok.0 ∙ ok.1 ∙ ap length c.roster.ensures.rows) second many c.in_ok-spare.ensures.all c.in_ok-all.ensures
+    first (sym c.in-Ok.ends.tracees.ok.0 ∙ ok.1 ∙ ap length c.roster-roster.ensures.rows) second many c.in_ok-spare.ensures.all c.in_ok-scripted.ensures
     c.in_ok-back.ensures.tracees c.in_ok-back.ensures.workers c.in_ok-pieces.ensures.tracers h legal on in
     let reaped : AreReaped content.rows h = subst (λ rs. AreReaped rs h) rows told.reaped in
     record {
@@ -120,7 +120,7 @@ returns g c =
           (subst (λ rs. AreSeen (show_of config) rs (views_of c.take_apart.new.tracers.items c.in_ok-back.back.tracees.items)
           c.in_ok-pieces.pieces.items) (sym rows) kept)
           ∙ ap (λ rs. history_text print rs h) rows
-          ∙ c.runs_print_their_case.ensures print (plan_of config content) h c.roster.ensures.case.roster legal driven reaped
+          ∙ c.runs_print_their_case.ensures print (plan_of config content) h c.roster-roster.ensures.case.roster legal driven reaped
           ∙ c.the_mode_changes_no_text.ensures config content;
       kept = tt;
     }
@@ -128,23 +128,23 @@ returns g c =
 pub returns-in_err-_tracer-clause-kept : goal.returns-in_err-_tracer-clause-kept
 returns-in_err-_tracer-clause-kept g c =
     let ok = c.in-Ok.ensures.ok in
-    let first = subst (λ rows. AreTracees ok.0 rows c.in-Ok.ends.tracees.items) c.roster.ensures.rows ok.3 in
-    let second = subst (λ rows. AreTracers ok.0 rows c.in-Ok.ends.tracers.items) c.roster.ensures.rows ok.4 in
+    let first = subst (λ rows. AreTracees ok.0 rows c.in-Ok.ends.tracees.items) c.roster-roster.ensures.rows ok.3 in
+    let second = subst (λ rows. AreTracers ok.0 rows c.in-Ok.ends.tracers.items) c.roster-roster.ensures.rows ok.4 in
     let many : length c.in-Ok.ends.tracers.items ≡ TRACERS = sym c.in-Ok.ends.tracers.ok.0 ∙ ok.2 in
     let views = views_of c.take_apart.new.tracers.items c.in_ok-back.back.tracees.items in
     let some : 0 < length c.split_spare.new.tracers.items =
     omega (arith, c.in_ok-spare.ensures.left, ok.2, c.requires.0, c.split_spare.new.tracers.ok) in
     let told = err_from_is_err_and c.from_residual-in_err-_tracer.result c.from_residual-in_err-_tracer.ensures.1 in
     subst (λ r. IfErr r (λ error. error ≢ run_error.Lost)) (sym told.1) (λ is.
-    case_keeps ok.0 c.args.config.now c.args.case.now c.in_ok-all.all.items c.in_ok-back.back.served.items
+    case_keeps ok.0 c.args.config.now c.args.case.now c.in_ok-scripted.scripted.items c.in_ok-back.back.served.items
     (λ (s : Scripted g.row.A.Denot). s.tracee) (λ (s : Scripted g.row.A.Denot). s.machine)
     (λ (s : Served g.row.A.Denot). s.tracer) (λ (s : Served g.row.A.Denot). s.worked.pieces.items)
     (λ (s : Served g.row.A.Denot). s.worked.short) c.in-Ok.ends.tracees.items c.in-Ok.ends.tracers.items
     c.split_spare.new.tracers.items c.in_ok-spare.spare.items c.in_ok-back.back.tracees.items c.take_apart.new.tracers.items
-    first (sym c.in-Ok.ends.tracees.ok.0 ∙ ok.1 ∙ ap length c.roster.ensures.rows) second many c.in_ok-spare.ensures.all
-    c.in_ok-all.ensures c.in_ok-back.ensures.tracees c.in_ok-back.ensures.workers c.in_ok-pieces.ensures.tracers
-    c.roster.ensures.case.roster c.in_ok-pieces.ensures.whole some
+    first (sym c.in-Ok.ends.tracees.ok.0 ∙ ok.1 ∙ ap length c.roster-roster.ensures.rows) second many c.in_ok-spare.ensures.all
+    c.in_ok-scripted.ensures c.in_ok-back.ensures.tracees c.in_ok-back.ensures.workers c.in_ok-pieces.ensures.tracers
+    c.roster-roster.ensures.case.roster c.in_ok-pieces.ensures.whole some
     (subst (λ rows. IsLost rows views (flat_map (λ (s : Served g.row.A.Denot). s.worked.pieces.items)
-    c.in_ok-back.back.served.items)) c.roster-3.ensures.rows
-    (subst (IsLost c.roster-3.result.now views) c.in_ok-pieces.ensures.pieces
+    c.in_ok-back.back.served.items)) c.roster-roster.ensures.rows
+    (subst (IsLost c.roster-roster.result.now views) c.in_ok-pieces.ensures.pieces
     (c.in_err-_tracer.ensures.lost (ap Err (sym told.2 ∙ is))))))

@@ -18,9 +18,9 @@ scoped-requires g c =
           (
             c.requires.tracers,
             (
-              c.requires.tracee_room,
+              c.requires.started,
               (
-                c.requires.worker_room,
+                c.requires.back,
                 (
                   types.send-A,
                   types.sync-A,

@@ -14,5 +14,5 @@ pub returns-clause-workers : goal.returns-clause-workers
 returns-clause-workers g c =
     zip_through _ _ _ _ _ _ (c.start_all-are_started.ensures.workers c.if-not-are_started.false) c.join_workers.ensures
     (λ e h s given done.
-    subst (λ t. HasWorked c.args.config.now t s.tracer s.worked.pieces.items s.worked.short) given.0
+    subst (λ t. HasWorked c.args.shared.now.config.now t s.tracer s.worked.pieces.items s.worked.short) given.0
     (subst (λ config. HasWorked config h.promise.tracer.value s.tracer s.worked.pieces.items s.worked.short) given.1 done))

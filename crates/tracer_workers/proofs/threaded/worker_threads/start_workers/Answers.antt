@@ -15,7 +15,7 @@ start_worker-requires-clause-roster g c κs within =
     (YieldsList-from_vec {s = c.into_iter-tracer-iterator.result} c.args.tracers.items begun.0 (begun.1 ∙ c.args.tracers.ok.0))
     c.loop-tracer.yielded c.loop-tracer.tracer-iterator c.loop-tracer.yielded_by c.next.result c.next.new.self
     c.in-Some.tracer c.in-Some.is c.next.ensures.steps in
-    (next_holds (λ e. (c.args.roster.now ≡ e.view.roster) × (held_rows e.view ≡ [])) c.args.tracers.items (length c.loop-tracer.yielded) c.in-Some.tracer
+    (next_holds (λ e. (c.args.shared.now.roster.now ≡ e.view.roster) × (held_rows e.view ≡ [])) c.args.tracers.items (length c.loop-tracer.yielded) c.in-Some.tracer
     c.requires.ready turn).0
 
 pub start_worker-requires-clause-idle : goal.start_worker-requires-clause-idle
@@ -25,7 +25,7 @@ start_worker-requires-clause-idle g c κs within =
     (YieldsList-from_vec {s = c.into_iter-tracer-iterator.result} c.args.tracers.items begun.0 (begun.1 ∙ c.args.tracers.ok.0))
     c.loop-tracer.yielded c.loop-tracer.tracer-iterator c.loop-tracer.yielded_by c.next.result c.next.new.self
     c.in-Some.tracer c.in-Some.is c.next.ensures.steps in
-    (next_holds (λ e. (c.args.roster.now ≡ e.view.roster) × (held_rows e.view ≡ [])) c.args.tracers.items (length c.loop-tracer.yielded) c.in-Some.tracer
+    (next_holds (λ e. (c.args.shared.now.roster.now ≡ e.view.roster) × (held_rows e.view ≡ [])) c.args.tracers.items (length c.loop-tracer.yielded) c.in-Some.tracer
     c.requires.ready turn).1
 
 pub push_reserved-requires : goal.push_reserved-requires

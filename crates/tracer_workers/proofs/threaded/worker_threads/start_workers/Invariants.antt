@@ -6,7 +6,7 @@ use Rattle.tracer_workers.proofs.threaded.worker_threads.start_workers.Given as 
 
 abbrev pub invariant-loop-tracer : goal.invariant-loop-tracer
 invariant-loop-tracer g l = record {
-  zip : AllZip (λ e h. (h.promise.tracer.value ≡ e) × (h.promise.config ≡ l.fn.config)) l.yielded
+  zip : AllZip (λ e h. (h.promise.tracer.value ≡ e) × (h.promise.config ≡ l.fn.shared.config.now)) l.yielded
       l.threads.items;
   room : vec_capacity l.threads ≡ vec_capacity l.fn.threads;
 }

@@ -104,6 +104,16 @@ impl<'a, A: Allocator + Copy> TracedRow<'a, A> {
         let next = self.tracee.next(alloc, self.how, &mut self.content)?;
         Ok(next)
     }
+
+    /// The piece of the stop in its record. It is compiled into its caller, so that the piece is moved less often.
+    #[inline(always)]
+    fn piece(&self, alloc: A, show: &Show) -> Result<Piece<A>, NoMemory>
+        requires { self.now.content.number ≤ LAST_NUMBER }
+        ensures { IfOk result (λ piece. piece ≡ stop_piece show.now self.now.content) }
+    {
+        let piece = piece_of(alloc, &self.content, show)?;
+        Ok(piece)
+    }
 }
 
 /// A run of a case.
@@ -163,30 +173,28 @@ fn finish<A: Allocator + Copy>(folder: Folder<A>) -> Result<Text<A>, NoMemory>
     }
 }
 
-/// Publishes the stop in the record of a row, and adds its piece.
+/// Publishes the stop in the record of a row, and adds its piece. It is compiled into its caller, as `add` is.
+#[inline(always)]
 fn publish_stop<A: Allocator + Copy>(
-    alloc: A,
     world: &mut World<A>,
     folder: &mut Folder<A>,
     traced: &mut TracedRow<'_, A>,
     row: u32,
-    show: &Show,
+    piece: Piece<A>,
 ) -> Result<(), NoMemory>
-    requires number { traced.old.content.number ≤ LAST_NUMBER }
     requires stop { IsStop traced.old.content.stop }
     requires answer { (h : History) × CameTo world.old h
         × (publish_answer world.old.rows h row traced.old.content.stop ≡ Ok (last_number h row + 1)) }
     requires taken { (came : List pieces.Piece) × HasCome folder.old came
-        × (refusal folder.old.rows came (stop_piece show.now traced.old.content) ≡ None) }
+        × (refusal folder.old.rows came piece ≡ None) }
     ensures made { (h : History) → CameTo world.old h →
         publish_answer world.old.rows h row traced.old.content.stop ≡ Ok (last_number h row + 1) →
         OnOk result (CameTo world.new (event.Publish row (last_number h row + 1) traced.old.content.stop ∷ h)
         × (traced.new ≡ with_number traced.old (last_number h row + 1))) }
     ensures came { (came : List pieces.Piece) → HasCome folder.old came →
-        OnOk result (HasCome folder.new (stop_piece show.now traced.old.content ∷ came)) }
+        OnOk result (HasCome folder.new (piece ∷ came)) }
     ensures rows { (world.new.rows ≡ world.old.rows) × (folder.new.rows ≡ folder.old.rows) }
 {
-    let piece = piece_of(alloc, &traced.content, show)?;
     let number = one_thread::publish(world, row, traced.content.stop);
     traced.number = number;
     add(folder, piece)
@@ -239,14 +247,8 @@ impl<'a, A: Allocator + Copy> Run<'a, A> {
         ensures config { self.new.config ≡ self.old.config }
     {
         let traced = &mut self.rows[row as usize];
-        publish_stop(
-            self.alloc,
-            &mut self.world,
-            &mut self.folder,
-            traced,
-            row,
-            &self.show,
-        )?;
+        let piece = traced.piece(self.alloc, &self.show)?;
+        publish_stop(&mut self.world, &mut self.folder, traced, row, piece)?;
         Ok(())
     }
 

@@ -1,7 +1,7 @@
 -- The stop is the row's next one, and the folder takes its piece.
 use Rattle.std.proofs.Common.{◌≡◌, ◌≤◌, ◌+◌, ◌∷◌, ◌∙◌, Ok, None, refl, sym, ap, subst, slice_set}
 use Rattle.record_printer.specs.FolderAnswers.{refusal}
-use Rattle.record_printer.specs.declared.show.Show.{Show}
+use Rattle.record_printer.specs.Piece.{Piece}
 use Rattle.record_printer.specs.Represents.{Represents as HasCome}
 use Rattle.tracer_workers.specs.Scheduled.{CameTo}
 use Rattle.stop_history.specs.Event as event
@@ -17,8 +17,8 @@ use Rattle.tracer_workers.specs.Turn.{HasStopped, with_number}
 use Rattle.tracer_workers.proofs.TurnEnds.{can_publish, found_row, publish_moves, stopped_there}
 use Rattle.tracer_workers.proofs.scheduled.Run.publish.Goals as goal
 
-pub publish_stop-requires-clause-number : goal.publish_stop-requires-clause-number
-publish_stop-requires-clause-number g c =
+pub piece-requires : goal.piece-requires
+piece-requires g c =
     let s = subst (λ r. HasStopped c.requires.0 r c.requires.1 c.args.row c.requires.2) (sym c.self.view_is) c.requires.3 in
     let is = found_row c.self.inside.rows.items c.args.row c.index_mut-traced.result.now _ c.index_mut-traced.ensures.value
     (stopped_there c.requires.0 _ c.requires.1 c.args.row c.requires.2 s) in
@@ -54,8 +54,8 @@ publish_stop-requires-clause-taken g c =
     let came = pieces_of (show_of c.self.inside.config) c.requires.0.rows c.requires.1 in (
       came,
       can.folder,
-      subst (λ (p : Show × KeptRow). refusal c.self.inside.folder.rows came (stop_piece p.0 p.1.content)
-          ≡ None) (λ i. (sym c.self.invariant i, sym is i)) can.taken,
+      subst (λ (p : Piece). refusal c.self.inside.folder.rows came p ≡ None)
+          (sym (c.in_ok-piece.ensures ∙ (λ i. stop_piece (c.self.invariant i) (is i).content))) can.taken,
     )
 
 pub returns-clause-moved : goal.returns-clause-moved
@@ -73,8 +73,8 @@ returns-clause-moved g c =
     (subst (λ (k : KeptRow). CameTo c.publish_stop.new.world
     (event.Publish c.args.row number k.content.stop ∷ history_of h)) is made.0)
     c.in_ok-publish_stop.ensures.rows.0
-    (subst (λ (p : Show × KeptRow). HasCome c.publish_stop.new.folder
-    (stop_piece p.0 p.1.content ∷ pieces_of (show_of c.self.inside.config) content.rows h))
-    (λ i. (c.self.invariant i, is i)) came)
+    (subst (λ (p : Piece). HasCome c.publish_stop.new.folder
+    (p ∷ pieces_of (show_of c.self.inside.config) content.rows h))
+    (c.in_ok-piece.ensures ∙ (λ i. stop_piece (c.self.invariant i) (is i).content)) came)
     c.in_ok-publish_stop.ensures.rows.1
     (ap (λ k. slice_set c.self.inside.rows.items c.args.row k) (made.1 ∙ ap (λ k. with_number k number) is)))

@@ -18,6 +18,7 @@ ghost use Rattle.tracer_workers.specs.Gathering.{AreSeen, AreWhole, HasLooked, I
 ghost use Rattle.tracer_workers.specs.Gathering.{IsFreeTracer, IsLost, TakesIn, is_over, run_error_of, views_of};
 ghost use Rattle.tracer_workers.specs.Printing.{printed_lines};
 
+use crate::invariants;
 use crate::run_error::RunError;
 use record_printer::{FoldError, Folder, Piece, Text};
 use std::alloc::Allocator;
@@ -120,8 +121,7 @@ fn are_reaped<A: Allocator>(tracer: &mut Tracer<A>, rows: u32) -> bool
     ensures handle { (tracer.new.table_id ≡ tracer.old.table_id) × Looked tracer.old.view tracer.new.view }
     ensures looked { HasLooked tracer.old.view tracer.new.view result }
 {
-    // What a handle has seen is legal.
-    let _number = tracer.number();
+    invariants::of_tracer(tracer);
     for row in 0..rows {
         if !is_over(tracer.look(row)) {
             return false;

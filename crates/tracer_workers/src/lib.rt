@@ -5,6 +5,7 @@ mod config;
 mod fault;
 mod gate;
 mod gathering;
+mod invariants;
 pub mod laws;
 mod machine;
 mod one_thread;

@@ -27,6 +27,7 @@ mod worker_threads;
 use crate::config::Config;
 use crate::gate::Gate;
 use crate::gathering::gather;
+use crate::invariants;
 use crate::laws::{runs_print_their_case, the_mode_changes_no_text};
 use crate::machine::new_machine;
 use crate::run_error::RunError;
@@ -57,7 +58,7 @@ fn with_machines<A: Allocator + Copy>(
         × IsToStart (plan_of config.now case.now) s.tracee s.machine) tracees.items all.items) }
 {
     let mut all = Vec::with_capacity(alloc, tracees.len())?;
-    let _rows = case.roster().len();
+    invariants::of_case(case);
     let mut row = 0;
     for tracee in tracees {
         let machine = new_machine(alloc, case, row, config)?;

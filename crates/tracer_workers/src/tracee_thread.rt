@@ -15,6 +15,7 @@ ghost use Rattle.tracer_workers.specs.TraceeThread.{HasLooked, HasTaken, IsDue, 
 ghost use Rattle.tracer_workers.specs.TraceeThread.{IsToStart};
 
 use crate::fault::FAULT_DEATH;
+use crate::invariants;
 use std::alloc::Allocator;
 use std::sync::Wait;
 use std::time::Clock;
@@ -42,7 +43,7 @@ pub fn run_tracee<A: Allocator, R: Wait + Clock>(
         AreDrivenBy (actors_of tracee.new.view) plan tracee.new.view.seen }
     ensures through { IsThrough tracee.new }
 {
-    let _idle = tracee.holds();
+    invariants::of_tracee(tracee);
     if !await_birth(rt, tracee) {
         return;
     }

@@ -16,6 +16,7 @@ ghost use Rattle.tracer_workers.specs.WorkerThread.{AreOverForGood, death_in, ow
 
 use crate::config::{Config, policy};
 use crate::gate::Gate;
+use crate::invariants;
 use record_printer::{Piece, death_piece, piece_of};
 use std::alloc::{Allocator, Global};
 use std::sync::Wait;
@@ -60,7 +61,7 @@ pub fn run_worker<A: Allocator + Copy, R: Wait + Clock, G: Gate>(
         pieces: Vec::new(alloc),
         short: false,
     };
-    let _number = calls.number();
+    invariants::of_calls(calls);
     for _ in rt.forever() {
         let Ok(waited) = calls.wait_row_blocking(rt, Id::All, WaitFlags::WEXITED) else {
             return worked;
@@ -124,7 +125,7 @@ impl<A: Allocator + Copy> Worked<A> {
             AreKept before (after ++ stop_piece (show_of config.now) (published calls.now row) ∷ [])
             self.new.pieces.items self.new.short }
     {
-        let _number = calls.number();
+        invariants::of_calls(calls);
         let Some(stop) = calls.claimed_row(row) else {
             unreachable!()
         };
@@ -150,7 +151,7 @@ fn restart<A: Allocator, G: Gate>(
     ensures table { KeepsTable calls.old calls.new }
     ensures restarts { Restarts config.now calls.old.view calls.new.view row }
 {
-    let _number = calls.number();
+    invariants::of_calls(calls);
     let Some(stop) = calls.claimed_row(row) else {
         unreachable!()
     };

@@ -53,7 +53,7 @@ loop-row-preserved g c =
     record {
       table = c.look.ensures.handle ∙ c.loop-row.invariant.table;
       looked = looked_on u v w before look.0;
-      over = over_next u.roster c.number-number.ensures.handle.placed c.loop-row.row within v.seen point w.seen legal
+      over = over_next u.roster c.of_tracer.ensures.placed c.loop-row.row within v.seen point w.seen legal
           (look.1.sooner.0, look.1.sooner.1) look.1.later c.loop-row.invariant.over shown;
     }
 

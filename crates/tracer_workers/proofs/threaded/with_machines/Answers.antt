@@ -37,8 +37,7 @@ overflow_add-row g c =
     (YieldsList-from_vec {s = c.into_iter-tracee-iterator.result} c.args.tracees.items begun.0 (begun.1 ∙ c.args.tracees.ok.0))
     c.loop-tracee.yielded c.loop-tracee.tracee-iterator c.loop-tracee.yielded_by c.next.result c.next.new.self
     c.in-Some.tracee c.in-Some.is c.next.ensures.steps in
-    let rows = c.len-rows.ensures ∙ ap length c.roster.ensures.rows in
-    omega (arith, turn.0, c.loop-tracee.invariant.row, rows, c.args.tracees.ok, c.requires.2)
+    omega (arith, turn.0, c.loop-tracee.invariant.row, c.of_case.ensures.few, c.args.tracees.ok, c.requires.2)
 
 pub loop-tracee-preserved : goal.loop-tracee-preserved
 loop-tracee-preserved g c =
@@ -52,7 +51,7 @@ loop-tracee-preserved g c =
     (slice_get-get_or c.args.tracees.items row c.in-Some.tracee turn.0 ∙ ap Some (sym turn.1)) in
     let plan = plan_of c.args.config.now c.args.case.now in
     let start = to_start plan c.requires.0 row c.in-Some.tracee c.in_ok-machine.machine
-    (config_plan c.args.config.now c.args.case.now c.roster.ensures.case) is
+    (config_plan c.args.config.now c.args.case.now c.of_case.ensures.case) is
     (c.in_ok-machine.ensures ∙ ap (opening_of plan) c.loop-tracee.invariant.row) in
     record {
       zip = zip_same _ _ _ _ _ refl c.push_reserved.ensures.items

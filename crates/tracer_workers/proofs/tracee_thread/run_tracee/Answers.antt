@@ -6,9 +6,9 @@ pub returns-then-not-await_birth-clause-driven : goal.returns-then-not-await_bir
 returns-then-not-await_birth-clause-driven g c = λ plan s.
     let e = c.args.tracee.now in
     let looked = c.await_birth.ensures.handle in
-    (script_on plan e c.await_birth.new.tracee c.args.machine c.holds-idle.ensures.handle looked.1
+    (script_on plan e c.await_birth.new.tracee c.args.machine c.of_tracee.ensures looked.1
     looked.2.grows.same looked.2.grows.goes_on
-    (script_begins plan e c.args.machine c.holds-idle.ensures.handle s)).driven
+    (script_begins plan e c.args.machine c.of_tracee.ensures s)).driven
 
 pub returns-then-not-await_birth-clause-through : goal.returns-then-not-await_birth-clause-through
 returns-then-not-await_birth-clause-through g c =
@@ -22,8 +22,8 @@ run_row-requires-clause-script g c =
     let s = c.requires.new in
     let looked = c.await_birth.ensures.handle in (
       s.0,
-      script_on s.0 e c.await_birth.new.tracee c.args.machine c.holds-idle.ensures.handle looked.1 looked.2.grows.same
-          looked.2.grows.goes_on (script_begins s.0 e c.args.machine c.holds-idle.ensures.handle s.1),
+      script_on s.0 e c.await_birth.new.tracee c.args.machine c.of_tracee.ensures looked.1 looked.2.grows.same
+          looked.2.grows.goes_on (script_begins s.0 e c.args.machine c.of_tracee.ensures s.1),
     )
 
 pub returns-clause-driven : goal.returns-clause-driven
@@ -31,6 +31,6 @@ returns-clause-driven g c = λ plan s.
     let e = c.args.tracee.now in
     let looked = c.await_birth.ensures.handle in
     c.run_row.ensures.driven plan
-    (script_on plan e c.await_birth.new.tracee c.args.machine c.holds-idle.ensures.handle looked.1
+    (script_on plan e c.await_birth.new.tracee c.args.machine c.of_tracee.ensures looked.1
     looked.2.grows.same looked.2.grows.goes_on
-    (script_begins plan e c.args.machine c.holds-idle.ensures.handle s))
+    (script_begins plan e c.args.machine c.of_tracee.ensures s))

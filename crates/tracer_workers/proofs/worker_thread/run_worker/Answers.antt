@@ -12,7 +12,7 @@ loop-init g c =
     let v = c.args.calls.now.view in (
       tt,
       tt,
-      c.number-number.ensures.handle,
+      c.of_calls.ensures,
       refl,
       subst (λ (kept : List Piece). HasServed c.args.config.now v v kept false) (sym c.new.ensures.items)
           (served_none c.args.config.now v c.requires),

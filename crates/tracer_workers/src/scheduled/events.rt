@@ -19,7 +19,7 @@ use crate::scheduled::traced_row::TracedRow;
 use record_printer::{FoldError, Folder, Piece, Text, death_piece};
 use std::alloc::Allocator;
 use stop_board::World;
-use trace_pages::NoMemory;
+use trace_options::NoMemory;
 use trace_record::Death;
 
 /// Adds a piece that no folder refuses. It is compiled into its callers, so that a piece is moved less often.

@@ -9,7 +9,7 @@ ghost use Rattle.tracer_workers.specs.Turn.{HasGone, HasRunOut};
 
 use crate::scheduled::run::Run;
 use std::alloc::Allocator;
-use trace_pages::NoMemory;
+use trace_options::NoMemory;
 
 impl<'a, A: Allocator + Copy> Run<'a, A> {
     /// Turns of a row's tracee and of worker 0 in that row, until no event comes of them; whether one did.

@@ -16,7 +16,7 @@ use std::alloc::{Allocator, Global};
 use std::marker::Model;
 use stop_board::World;
 use stop_history::TRACERS;
-use trace_pages::NoMemory;
+use trace_options::NoMemory;
 use trace_script::Case;
 
 /// A run of a case.

@@ -14,7 +14,7 @@ use crate::scheduled::tracee::Tracee;
 use record_printer::{Piece, Show, piece_of};
 use std::alloc::{Allocator, Global};
 use std::marker::Model;
-use trace_pages::NoMemory;
+use trace_options::NoMemory;
 use trace_record::{Kind, Resume, StopRecord};
 use trace_script::{Case, Next};
 

@@ -18,7 +18,7 @@ use crate::scheduled::events::{end_row, publish_stop};
 use crate::scheduled::run::Run;
 use std::alloc::Allocator;
 use stop_history::{Got, State};
-use trace_pages::NoMemory;
+use trace_options::NoMemory;
 use trace_record::Death;
 use trace_script::Next;
 

@@ -3,6 +3,7 @@ ghost use Rattle.record_printer.specs.Note.{Enter, Exit, Quiet, Seccomp, Signal}
 ghost use Rattle.record_printer.specs.PrintedRow.{row_lines};
 ghost use Rattle.record_printer.specs.WorkedRows.{exit_line, getpid, hundred, line, signal_line};
 
+use super::laws::{calls_are_said_of_places, lines_are_folded, order_of_arrival_changes_no_answer};
 use super::*;
 
 /// The lines of rows that were worked out by hand: a signal inside a call is printed after it; a second start in place

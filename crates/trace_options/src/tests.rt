@@ -1,6 +1,7 @@
 use super::ArgumentKind::{
     Address, CString, Hexadecimal, InBuffer, InIovecs, Int, Mode, OutBuffer, OutIovecs, Unsigned,
 };
+use super::laws::{errors_rise, signals_have_names, syscalls_are_one_to_one};
 use super::*;
 
 /// The events and their numbers, from ptrace(2) and `<sys/ptrace.h>`.

@@ -1,3 +1,7 @@
+use super::laws::{
+    changes_determine_memory, runs_are_made_of_pieces, runs_end_where_they_say,
+    stores_keep_addresses,
+};
 use super::*;
 use std::test::Fail;
 

@@ -1,3 +1,4 @@
+use super::laws::{a_status_reports_one_death, statuses_are_encoded};
 use super::*;
 use trace_regs::Regs;
 use trace_status::{Part, SyscallInfo, WaitStatus, decode};

@@ -1,3 +1,4 @@
+use super::laws::{fields_are_in_place, one_to_one};
 use super::*;
 
 /// Raw values of pid 9, worked out by hand from wait(2) and ptrace(2).

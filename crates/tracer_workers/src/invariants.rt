@@ -1,6 +1,6 @@
-//! What holds of each handle and of each case. The functions of this module are for the prover alone, and do nothing when
-//! they run: a proof sees the invariant of a type of another crate only where a method's contract states it, so each of
-//! them calls such a method.
+//! What holds of each handle and of each case. The functions of this module are for the prover alone, and do nothing
+//! when they run: a proof sees the invariant of a type of another crate only where a method's contract states it, so
+//! each of them calls such a method.
 
 ghost use Rattle.std.specs.Prelude.{◌<◌, ◌^◌, length};
 ghost use Rattle.stop_table.specs.Tracee.{IsTraceeHandle};

@@ -4,7 +4,7 @@
 //! a restart to the next stop or the death; a worker's turn is a wait and the restart.
 
 ghost use Rattle.tracer_workers.specs.declared.run_error.RunError.TheVariants as run_error;
-ghost use Rattle.std.specs.Prelude.{◌≡◌, ◌<◌, ◌≤◌, IfOk, IsOkUnless, ◌+◌, ◌-◌, Ok};
+ghost use Rattle.std.specs.Prelude.{◌≡◌, ◌≤◌, IfOk, IsOkUnless};
 ghost use Rattle.stop_history.specs.declared.limits.TheConstants.{TRACERS};
 ghost use Rattle.tracer_workers.specs.Config.{plain, text_of};
 

@@ -2,7 +2,7 @@
 
 ghost use Rattle.record_printer.specs.Piece as pieces;
 ghost use Rattle.stop_history.specs.Event as event;
-ghost use Rattle.std.specs.Prelude.{◌≡◌, ◌<◌, ◌≤◌, ◌∷◌, List, None, true, false, IfOk, OnOk, ◌+◌, ◌-◌, IsErr, Ok};
+ghost use Rattle.std.specs.Prelude.{◌≡◌, ◌≤◌, ◌∷◌, List, None, true, false, IfOk, OnOk, ◌+◌, IsErr, Ok};
 ghost use Rattle.record_printer.specs.FolderAnswers.{lost, pieces_text, refusal};
 ghost use Rattle.record_printer.specs.Represents.{Represents as HasCome};
 ghost use Rattle.stop_history.specs.Event.{History};

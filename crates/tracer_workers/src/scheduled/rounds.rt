@@ -1,7 +1,6 @@
 //! Rounds of turns, which run each row out until nothing happens any more.
 
-ghost use Rattle.stop_history.specs.Event as event;
-ghost use Rattle.std.specs.Prelude.{◌≡◌, ◌<◌, List, true, false, IfOk, OnOk, length, ◌+◌, ◌-◌, Ok};
+ghost use Rattle.std.specs.Prelude.{◌≡◌, ◌<◌, List, IfOk, OnOk, length};
 ghost use Rattle.stop_table.specs.Entry.{Entry};
 ghost use Rattle.trace_script.specs.CaseFile.{CaseContent};
 ghost use Rattle.tracer_workers.specs.Scheduled.{IsOver, Stands};

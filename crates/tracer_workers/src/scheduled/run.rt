@@ -1,12 +1,10 @@
 //! A run of a case: the World of its rows, what is kept of each row, and the pieces so far.
 
-ghost use Rattle.stop_history.specs.Event as event;
-ghost use Rattle.std.specs.Prelude.{[], ◌≡◌, ◌<◌, List, IfOk, ◌+◌, ◌-◌, Ok};
-ghost use Rattle.stop_history.specs.declared.limits.TheConstants.{TRACERS};
+ghost use Rattle.std.specs.Prelude.{[], ◌≡◌, List, IfOk};
 ghost use Rattle.stop_table.specs.Entry.{Entry};
 ghost use Rattle.trace_script.specs.CaseFile.{CaseContent};
 ghost use Rattle.tracer_workers.specs.Config.{text_of};
-ghost use Rattle.tracer_workers.specs.Scheduled.{IsOver, RunState, Stands};
+ghost use Rattle.tracer_workers.specs.Scheduled.{IsOver, Stands};
 
 use crate::config::Config;
 use crate::scheduled::events;

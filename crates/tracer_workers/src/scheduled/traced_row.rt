@@ -1,6 +1,6 @@
 //! What is kept of a row beside its stop cell.
 
-ghost use Rattle.std.specs.Prelude.{◌≡◌, ◌<◌, ◌≤◌, ℕ, Some, IfOk, length, ◌+◌, ◌-◌, Ok, slice_get};
+ghost use Rattle.std.specs.Prelude.{◌≡◌, ◌<◌, ◌≤◌, ℕ, Some, IfOk, length, slice_get};
 ghost use Rattle.stop_history.specs.declared.limits.TheConstants.{LAST_NUMBER};
 ghost use Rattle.trace_record.specs.Content.{Content};
 ghost use Rattle.trace_script.specs.Machine.{IsAnswer};

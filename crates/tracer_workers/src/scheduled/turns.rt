@@ -1,15 +1,15 @@
 //! The turns of actors in a run: a tracee's, from a restart to the next stop or the death, and a worker's, a wait and
 //! the restart.
 
-ghost use Rattle.stop_history.specs.Event as event;
 ghost use Rattle.stop_history.specs.declared.actor.Actor.TheVariants as actors;
-ghost use Rattle.std.specs.Prelude.{◌≡◌, ◌<◌, ◌≤◌, List, true, false, IfOk, OnOk, length, ◌+◌, ◌-◌, Bool, Ok};
+ghost use Rattle.std.specs.Prelude.{◌≡◌, ◌<◌, ◌≤◌, List, IfOk, OnOk, length, ◌+◌, ◌-◌, Bool};
 ghost use Rattle.stop_history.specs.declared.limits.TheConstants.{TRACERS};
 ghost use Rattle.stop_table.specs.Entry.{Entry};
 ghost use Rattle.trace_record.specs.Content.{Content};
 ghost use Rattle.trace_script.specs.CaseFile.{CaseContent};
 ghost use Rattle.tracer_workers.specs.Scheduled.{MovedBy, Stands};
-ghost use Rattle.tracer_workers.specs.Turn.{HasClaimed, HasDied, HasHeld, HasRunOn, HasStopped, HasTurned, HasWorked, IsToRun};
+ghost use Rattle.tracer_workers.specs.Turn.{HasClaimed, HasDied, HasHeld, HasRunOn, HasStopped, HasTurned};
+ghost use Rattle.tracer_workers.specs.Turn.{HasWorked, IsToRun};
 
 use crate::config::policy;
 use crate::fault::FAULT_DEATH;

@@ -81,7 +81,7 @@ impl From<NoMemory> for RosterError {
 #[derive(Drop)]
 pub struct Roster<A: Allocator = Global> {
     rows: Vec<Row, A>,
-    /// What each row is to the others, looked up once, when it is added. Nothing is asked for behind the last row.
+    /// The parent and the rank of each row, found once, when the row is added. Entries past the last row are unused.
     families: [Family; MOST_ROWS],
 }
 

@@ -10,8 +10,9 @@ PREFIX ?= /usr/local
 OUT = bench/out
 COMMA = ,
 
-.PHONY: all kit demo examples scarce-memory man-page one-source refused-code check wrong-bodies wrong-bodies-changed \
-	wrong-bodies-test test bench bench-case bench-cells bench-pages bench-fold bench-run bench-threads tools install clean
+.PHONY: all kit demo examples scarce-memory man-page documents one-source one-meaning refused-code check wrong-bodies \
+	wrong-bodies-changed wrong-bodies-test test bench bench-case bench-cells bench-pages bench-fold bench-run \
+	bench-threads tools install clean
 
 all: kit
 	@echo "make: proving the program and what it stands on, over what earlier runs kept (the first time: 45 minutes)"
@@ -52,10 +53,21 @@ man-page: kit
 	@$(PYTHON) tools/man_page.py compare man/tracer.1 $(OUT)/man_page.txt
 	@echo "man-page: the page has the options of the help, and its examples print what it says"
 
+# PROGRAM=FILE runs the commands of the pages too, with a program that is built already, as bin/tracer.
+documents:
+	@echo "documents: width of the pages$(if $(PROGRAM),$(COMMA) and what their commands print) (some seconds)"
+	@$(PYTHON) tools/documents.py --self-test
+	@$(PYTHON) tools/documents.py $(if $(PROGRAM),--program $(PROGRAM))
+
 one-source:
 	@echo "one-source: comparing what is written in several places with the place that decides (a second)"
 	@$(PYTHON) tools/one_source.py --self-test
 	@$(PYTHON) tools/one_source.py
+
+one-meaning:
+	@echo "one-meaning: looking for names that are given to two things (a second)"
+	@$(PYTHON) tools/one_meaning.py --self-test
+	@$(PYTHON) tools/one_meaning.py
 
 refused-code:
 	@echo "refused-code: compiling programs that must not compile, and one that must (a minute and a half)"
@@ -73,15 +85,18 @@ endef
 check: kit
 	@echo "check: docs/STATUS.md has the time"
 	@$(MAKE) --no-print-directory one-source
+	@$(MAKE) --no-print-directory one-meaning
+	@$(MAKE) --no-print-directory documents
 	$(call part,proofs from nothing$(COMMA) must-fail edits$(COMMA) tests and programs)
 	@$(RT) ci
 	$(call part,wrong bodies)
 	@$(MAKE) --no-print-directory wrong-bodies-test
 	@$(MAKE) --no-print-directory wrong-bodies-changed
-	$(call part,examples$(COMMA) scarce memory$(COMMA) the manual page$(COMMA) programs that must not compile)
+	$(call part,examples$(COMMA) scarce memory$(COMMA) the pages$(COMMA) programs that must not compile)
 	@$(MAKE) --no-print-directory examples PROGRAM=crates/tracer/out/tracer
 	@$(MAKE) --no-print-directory scarce-memory PROGRAM=crates/tracer/out/tracer
 	@$(MAKE) --no-print-directory man-page
+	@$(MAKE) --no-print-directory documents PROGRAM=crates/tracer/out/tracer
 	@$(MAKE) --no-print-directory refused-code
 	$(call part,done)
 
@@ -178,7 +193,7 @@ bench-threads: tools all
 	@echo "bench-threads: timing bin/tracer run and a plain Rust program with threads in turn (a minute)"
 	@mkdir -p $(OUT)
 	@$(RUSTC) -O --edition 2024 -o $(OUT)/plain_threads bench/plain_threads.rs
-	@$(PYTHON) bench/threads.py "bin/tracer run" $(OUT)/plain_threads
+	@$(PYTHON) bench/threads.py --rows 1.3 "bin/tracer run" $(OUT)/plain_threads
 
 tools:
 	@for command in $(RUSTC) $(PYTHON); do \

@@ -6,8 +6,9 @@ const MOST: usize = 16_777_216;
 const FAMILIES: u32 = 4;
 const THREADS: u32 = 5;
 const PROCESSES: u32 = 10;
-/// How many bytes a row has, its last lines aside, so that 64 rows do not exceed the most that a file may have.
-const ROW_BYTES: usize = MOST / 64 - 256;
+const ROWS: u32 = FAMILIES * (1 + THREADS + PROCESSES);
+/// How many bytes a row has, its last lines aside, so that all rows do not exceed the most that a file may have.
+const ROW_BYTES: usize = MOST / ROWS as usize - 256;
 /// How many steps lie between two execs, or two births.
 const APART: u32 = 500;
 

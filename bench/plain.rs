@@ -5,7 +5,7 @@ use std::io::{self, Read, Write};
 use std::process::ExitCode;
 
 const MOST_BYTES: usize = 16_777_216;
-const MOST_ROWS: usize = 64;
+const MOST_ROWS: usize = 256;
 const LAST_NUMBER: u32 = 16_777_215;
 const LAST_ID: u32 = 4_194_303;
 /// The tracers are 0 to 15.
@@ -201,7 +201,7 @@ impl Replies {
 
 struct Board {
     rows: Vec<Row>,
-    /// By thread id: the row's place and 1, or 0 where no row has it.
+    /// By thread id: the row's place, or 0 where no row has it. So it counts only where that row has the id.
     places: Vec<u8>,
     replies: Replies,
 }
@@ -216,7 +216,8 @@ impl Board {
     }
 
     fn place(&self, tid: u32) -> Option<u8> {
-        self.places[tid as usize].checked_sub(1)
+        let place = self.places[tid as usize];
+        self.rows.get(usize::from(place)).filter(|row| row.tid == tid).map(|_| place)
     }
 
     fn row_of(&mut self, tid: u32) -> Result<&mut Row, Cause> {
@@ -268,7 +269,7 @@ impl Board {
             number: 0,
             state,
         });
-        self.places[tid as usize] = self.rows.len() as u8;
+        self.places[tid as usize] = (self.rows.len() - 1) as u8;
         Ok(())
     }
 

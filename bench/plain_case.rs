@@ -10,7 +10,7 @@ use std::io::{self, Read, Write};
 use std::process::ExitCode;
 
 pub const MOST_BYTES: usize = 16_777_216;
-const MOST_ROWS: usize = 64;
+const MOST_ROWS: usize = 256;
 const MOST_STEPS: usize = 65_536;
 const MOST_PAGES: usize = 256;
 pub const PAGE_SIZE: usize = 4096;
@@ -365,7 +365,7 @@ pub struct Case {
 struct Reading {
     case: Case,
     place: Place,
-    /// By thread id: the row's place and 1, or 0 where no row has it.
+    /// By thread id: the row's place, or 0 where no row has it. So it counts only where that row has the id.
     places: Vec<u8>,
     /// How many children the open block has created.
     births: u32,
@@ -388,7 +388,8 @@ impl Reading {
     }
 
     fn place(&self, tid: u32) -> Option<u8> {
-        self.places[tid as usize].checked_sub(1)
+        let place = self.places[tid as usize];
+        self.case.rows.get(usize::from(place)).filter(|row| row.tid == tid).map(|_| place)
     }
 
     /// The script of the block that is open.
@@ -431,7 +432,7 @@ impl Reading {
             children: 0,
         });
         self.case.scripts.push(Script::default());
-        self.places[tid as usize] = self.case.rows.len() as u8;
+        self.places[tid as usize] = (self.case.rows.len() - 1) as u8;
         self.place = Place::Loading;
         self.births = 0;
         Ok(())

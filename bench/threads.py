@@ -1,12 +1,13 @@
 """Times a run on threads beside a plain Rust program with threads, in turn in one run, and prints a table.
 
-Usage: threads.py [--stop MICROSECONDS] [--time RATIO] TRACER PLAIN
+Usage: threads.py [--stop MICROSECONDS] [--time RATIO] [--rows RATIO] TRACER PLAIN
 
 TRACER is the program with its arguments after spaces, without the number of workers; PLAIN takes that number as its
 argument. Both read a case on standard input, and have to print the same text. First one row with 65,536 calls is run by
-one worker, and the time of each of its stops is told; then 64 rows with 1,000 calls each by 1 to 16 workers. Each time
-is the best of RUNS. With --stop a stop of the first case may take at most so long; with --time the tracer's time
-by 4 workers may be at most so many times the plain program's.
+one worker, and the time of each of its stops is told; then 64 rows with 1,000 calls each by 1 to 16 workers; then 256
+rows, the most, with 250 calls each beside those 64 rows, in turn by 4 workers. Each time is the best of RUNS. With
+--stop a stop of the first case may take at most so long; with --time the tracer's time by 4 workers may be at most so
+many times the plain program's; with --rows the tracer may take at most so many times as long for 256 rows as for 64.
 """
 
 import argparse
@@ -41,11 +42,11 @@ def seconds_of(words, path):
     return time.perf_counter() - start
 
 
-def best_of(programs, path):
-    """The best time of each program on a case, in turn."""
-    best = [seconds_of(words, path) for words in programs]
+def best_of(runs):
+    """The best time of each of these programs on its case, in turn."""
+    best = [seconds_of(*run) for run in runs]
     for _ in range(RUNS - 1):
-        best = [min(old, seconds_of(words, path)) for old, words in zip(best, programs)]
+        best = [min(old, seconds_of(*run)) for old, run in zip(best, runs)]
     return best
 
 
@@ -62,9 +63,15 @@ def arguments():
     parser = argparse.ArgumentParser()
     parser.add_argument("--stop", type=float)
     parser.add_argument("--time", type=float)
+    parser.add_argument("--rows", type=float)
     parser.add_argument("tracer", type=str.split)
     parser.add_argument("plain")
     return parser.parse_args()
+
+
+def is_above(found, most):
+    """Whether a number is above the most that was allowed, if anything was said of it."""
+    return most is not None and found > most
 
 
 def main():
@@ -73,22 +80,33 @@ def main():
     def programs(workers):
         return [[*asked.tracer, "-w", str(workers)], [asked.plain, str(workers)]]
 
+    def both(workers, path):
+        return best_of([(words, path) for words in programs(workers)])
+
     with tempfile.NamedTemporaryFile("w") as file:
         write_case(file, 1, MOST_STEPS)
         check_texts(programs(1), file.name)
         # Beside two stops of each call, one at the start.
         stops = 2 * MOST_STEPS + 1
-        tracer, plain = (seconds * 1e6 / stops for seconds in best_of(programs(1), file.name))
+        tracer, plain = (seconds * 1e6 / stops for seconds in both(1, file.name))
         print(f"one row, {stops} stops, one worker: {tracer:.1f} us a stop, plain Rust {plain:.1f} us")
-    too_slow = asked.stop is not None and tracer > asked.stop
-    with tempfile.NamedTemporaryFile("w") as file:
-        write_case(file, 64, 1000)
-        check_texts(programs(4), file.name)
+    too_slow = is_above(tracer, asked.stop)
+    with tempfile.NamedTemporaryFile("w") as few, tempfile.NamedTemporaryFile("w") as most:
+        write_case(few, 64, 1000)
+        write_case(most, 256, 250)
+        check_texts(programs(4), few.name)
+        check_texts(programs(4), most.name)
         print("64 rows, 1000 calls each, by so many workers: tracer, plain Rust, ratio")
         for workers in WORKERS:
-            tracer, plain = best_of(programs(workers), file.name)
+            tracer, plain = both(workers, few.name)
             print(f"{workers:3} {tracer * 1000:7.0f} ms {plain * 1000:7.0f} ms {tracer / plain:6.2f}")
-            too_slow = too_slow or (asked.time is not None and workers == 4 and tracer / plain > asked.time)
+            too_slow = too_slow or (workers == 4 and is_above(tracer / plain, asked.time))
+        print("256 rows, 250 calls each, beside those 64 rows, by 4 workers: 256 rows, 64 rows, ratio")
+        for words in programs(4):
+            rows256, rows64 = best_of([(words, most.name), (words, few.name)])
+            name = os.path.basename(words[0])
+            print(f"{rows256 * 1000:11.0f} ms {rows64 * 1000:7.0f} ms {rows256 / rows64:6.2f}  {name}")
+            too_slow = too_slow or (words[0] == asked.tracer[0] and is_above(rows256 / rows64, asked.rows))
     if too_slow:
         sys.exit("a time is above what was allowed")
 

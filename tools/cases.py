@@ -10,7 +10,8 @@ The program is built once, without proofs, by `rt try --cases` (the environment 
 calls the program `program`, so a usage begins with `Usage: program`. A program that is built already is called so too.
 
 An example NAME has NAME.args, its words after the name of its folder, one a line; NAME.stdout, NAME.stderr and
-NAME.status are what it prints and its exit status. One that is not there stands for nothing, and for 0.
+NAME.status are what it prints and its exit status. One that is not there stands for nothing, and for 0. Of an example
+of examples/explore outcomes.py says what else is run.
 
 A file of cases has lines of these kinds. Spaces before them do not matter.
 
@@ -46,6 +47,8 @@ import subprocess
 import sys
 import tempfile
 import time
+
+import outcomes
 
 TOP = pathlib.Path(__file__).resolve().parent.parent
 TEXT = re.compile(r"(?:(\d+) )?([|+])(?: (.*))?")
@@ -209,6 +212,14 @@ def example(path):
     return run
 
 
+def followed(run):
+    """What else is run of an example of examples/explore."""
+    for words, given, stdout, stderr, status in outcomes.follow(run.given, run.wanted["stdout"]):
+        more = Run(f"{run.where}, tracer {' '.join(words)}", [word.encode() for word in words], given)
+        more.wanted, more.status = {"stdout": stdout, "stderr": stderr}, status
+        yield more
+
+
 def report_of(runs):
     """What rt prints on its two streams of these runs, which it makes under the names of `name_of`."""
     with tempfile.TemporaryDirectory(prefix="cases-") as folder:
@@ -297,10 +308,15 @@ def compare(runs, answers):
 def all_runs():
     """The runs of all examples and of all files of cases; it says how many each folder and file has."""
     runs = []
-    for folder in ("replay", "run"):
+    for folder in ("replay", "run", "explore"):
         paths = sorted(it for it in (TOP / "examples" / folder).iterdir() if it.suffix not in BESIDE)
-        runs += map(example, paths)
+        found = [*map(example, paths)]
+        runs += found
         print(f"  {len(paths):4} files of examples/{folder}")
+        if folder == "explore":
+            more = [it for run in found for it in followed(run)]
+            runs += more
+            print(f"  {len(more):4} more runs of these, with options and as replays")
     paths = sorted((TOP / "tests/cases").glob("*.cases"))
     for path in paths:
         found = runs_of_file(path)
@@ -363,7 +379,7 @@ case The first column
 
 
 def self_test():
-    """Compares a report that was written by hand, with one right run and a fault of each kind."""
+    """Compares a report that was written by hand, with one right run and a fault of each kind; and an outcome, too."""
     reader = Reader("self-test")
     runs = [run for case in reader.read(SELF_TEST) for run in runs_of(case, reader.named)]
     answers = [("out", "an err", 3), ("ou", "an err", 3), ("out", "none", 3), ("out", "an err", 2)]
@@ -374,7 +390,7 @@ def self_test():
     first = [it[0].split()[0] if it else "" for it in found]
     wanted = ["", "stdout,", "stderr,", "status,", "it", "it"]
     inputs = {run.given for run in runs} == {b"row 1 1 1 0\nA3\n6\n"} and runs[0].words == [b"replay", b" 4"]
-    right = first == wanted and [len(it) for it in found] == [0, 1, 1, 1, 1, 1] and inputs
+    right = first == wanted and [len(it) for it in found] == [0, 1, 1, 1, 1, 1] and inputs and outcomes.is_right()
     print("cases: the self-test " + ("passed" if right else f"FAILED: {first}, {runs[0].given}, {runs[0].words}"))
     return 0 if right else 1
 

@@ -10,7 +10,7 @@ import pathlib
 import re
 import sys
 
-COMMANDS = ["tracer", "tracer replay", "tracer run"]
+COMMANDS = ["tracer", "tracer explore", "tracer replay", "tracer run"]
 EVERYWHERE = {"-h, --help", "-V, --version"}
 
 

@@ -6,12 +6,17 @@
 
 | What | Decides | Compared |
 |---|---|---|
-| the library example | crates/system_tests/src/readme.rt | README.md |
-| the loop of a small tracer | crates/thread_tests/src/waits/small_tracer.rt | docs/calls.md |
+| the library example | crates/system_tests/src/readme.rt | README.md, its first block of Rust |
+| the same on two threads | crates/thread_tests/src/waits/two_tracers.rt | README.md, its second block of Rust |
+| the loop of a small tracer | crates/thread_tests/src/waits/small_tracer.rt | docs/calls.md, its first block of Rust |
+| a debugger that changes a call | crates/thread_tests/src/waits/small_debugger.rt | docs/calls.md, its second one |
 | the version | crates/tracer_cli/src/arguments.rt | man/tracer.1 |
 | the system calls, with their arguments | crates/trace_options/src/syscall.rt | docs/formats/tables.md, man/tracer.1 |
 | the options of ptrace(2) | crates/trace_options/specs/Options.antt | options.rt, docs/formats/tables.md |
 | the messages of a run | crates/tracer_cli/specs/Failure.antt | failure.rt, run_error.rt, docs/FORMATS.md |
+| the most rows | crates/stop_history/src/limits.rt | README.md, FORMATS.md, case-files.md, man/tracer.1, bench/ |
+| the bits of a word | layout.rt and Layout.antt of stop_history | its word.rt, docs/formats/layouts.md |
+| the word of an example | docs/formats/layouts.md | docs/definitions/words.md |
 """
 
 import pathlib
@@ -22,10 +27,28 @@ ROOT = pathlib.Path(__file__).resolve().parent.parent
 README, CALLS = "README.md", "docs/calls.md"
 TABLES, FORMATS, PAGE = "docs/formats/tables.md", "docs/FORMATS.md", "man/tracer.1"
 EXAMPLE, LOOP = "crates/system_tests/src/readme.rt", "crates/thread_tests/src/waits/small_tracer.rt"
+THREADS = "crates/thread_tests/src/waits/two_tracers.rt"
+CHANGE = "crates/thread_tests/src/waits/small_debugger.rt"
 ARGUMENTS, SYSCALLS = "crates/tracer_cli/src/arguments.rt", "crates/trace_options/src/syscall.rt"
 OPTIONS, OPTION_BITS = "crates/trace_options/specs/Options.antt", "crates/trace_options/src/options.rt"
 MESSAGES, FAILURE = "crates/tracer_cli/specs/Failure.antt", "crates/tracer_cli/src/failure.rt"
 RUN_ERROR = "crates/tracer_workers/src/run_error.rt"
+LIMITS, WORD = "crates/stop_history/src/limits.rt", "crates/stop_history/src/word.rt"
+CASE_FILES, LAYOUTS = "docs/formats/case-files.md", "docs/formats/layouts.md"
+WORDS = "docs/definitions/words.md"
+WIDTHS, TRACER_WIDTH = "crates/stop_history/src/word/layout.rt", "crates/stop_history/specs/Layout.antt"
+PLAIN, PLAIN_CASE = "bench/plain.rs", "bench/plain_case.rs"
+
+# What is said of the most rows, and where: {rows} stands for that number, {more} for one more.
+MOST_ROWS = [
+    (README, "{rows} rows, 16 tracers"),
+    (FORMATS, "First come rows, at most {rows},"),
+    (FORMATS, "more than {rows} rows, at the {more}th"),
+    (CASE_FILES, "A file is a list of blocks, at most {rows}."),
+    (PAGE, "and {rows} tracees."),
+    (PLAIN, "const MOST_ROWS: usize = {rows};"),
+    (PLAIN_CASE, "const MOST_ROWS: usize = {rows};"),
+]
 
 
 def lines_of(text):
@@ -33,9 +56,9 @@ def lines_of(text):
     return [line.rstrip() for line in text.splitlines() if line.strip()]
 
 
-def first_block(text):
-    """The first block of Rust in a page."""
-    return lines_of(re.search(r"^```rust\n(.*?)^```", text, re.M | re.S)[1])
+def rust_blocks(text):
+    """The blocks of Rust in a page."""
+    return [lines_of(block) for block in re.findall(r"^```rust\n(.*?)^```", text, re.M | re.S)]
 
 
 def is_within(part, whole):
@@ -44,9 +67,13 @@ def is_within(part, whole):
 
 
 def code_faults(read):
-    for page, source in [(README, EXAMPLE), (CALLS, LOOP)]:
-        if not is_within(first_block(read(page)), lines_of(read(source))):
-            yield f"{page}: its first block of Rust is not in {source}"
+    for page, sources in [(README, [EXAMPLE, THREADS]), (CALLS, [LOOP, CHANGE])]:
+        blocks = rust_blocks(read(page))
+        if len(blocks) != len(sources):
+            yield f"{page}: it has {len(blocks)} blocks of Rust, and {len(sources)} are known"
+        for number, (block, source) in enumerate(zip(blocks, sources), 1):
+            if not is_within(block, lines_of(read(source))):
+                yield f"{page}: its block of Rust number {number} is not in {source}"
 
 
 def version_faults(read):
@@ -95,12 +122,42 @@ def message_faults(read):
             yield f"{RUN_ERROR}: {message!r} is no message of {MESSAGES}"
 
 
-PARTS = [code_faults, version_faults, syscall_faults, option_faults, message_faults]
+def row_faults(read):
+    rows = int(re.search(r"pub const MOST_ROWS: usize = (\d+);", read(LIMITS))[1])
+    for page, text in MOST_ROWS:
+        wanted = text.format(rows=rows, more=rows + 1)
+        if wanted not in read(page):
+            yield f"{page}: does not say {wanted!r}, as {LIMITS} has it"
+
+
+def places_of(widths):
+    """Which bits fields of these widths have, and which are left of 64, as a table of bits says it."""
+    ends = [sum(widths[:n]) for n in range(len(widths) + 1)] + [64]
+    return [f"{low}" if low + 1 == high else f"{low} to {high - 1}" for low, high in zip(ends, ends[1:])]
+
+
+def bit_faults(read):
+    widths = re.findall(r"^pub\(crate\) const \w+_BITS: u32 = (\d+);$", read(WIDTHS), re.M)
+    tracer = re.search(r"^tracer_bits = (\d+)$", read(TRACER_WIDTH), re.M)[1]
+    wanted = places_of([*map(int, widths), int(tracer)])
+    layout = read(LAYOUTS).split("\n## The word of a stop cell\n")[1].split("\n## ")[0]
+    for page, text in [(WORD, read(WORD)), (LAYOUTS, layout)]:
+        if re.findall(r"^(?:/// )?\| (\d+(?: to \d+)?) \|", text, re.M) != wanted:
+            yield f"{page}: the bits of a word are not those of {WIDTHS} and {TRACER_WIDTH}"
+    for bits in re.findall(r"`(0x[0-9a-f]{16})`", read(WORDS)):
+        if bits not in layout:
+            yield f"{WORDS}: {bits} is no word of {LAYOUTS}"
+
+
+PARTS = [code_faults, version_faults, syscall_faults, option_faults, message_faults, row_faults, bit_faults]
 
 # What the self-test changes: in this file this text, which is there once, to that one.
 CHANGES = [
-    (README, "board.publish(0, Stop::Start)", "board.publish(1, Stop::Start)"),
+    (README, "world.step(1, Action::Claim(0))", "world.step(0, Action::Claim(0))"),
+    (README, "end(rt, calls, &[100])", "end(rt, calls, &[101])"),
+    (CALLS, "```rust\n/// Serves a stop", "```\n/// Serves a stop"),
     (CALLS, "calls.syscall(pid, signal)", "calls.cont(pid, signal)"),
+    (CALLS, "regs.rdx = len", "regs.rsi = len"),
     (PAGE, '"tracer 0', '"tracer 9'),
     (TABLES, "| 80 | chdir |", "| 81 | chdir |"),
     (TABLES, "| 83 | mkdir | `CString`, `Mode` |", "| 83 | mkdir | `CString` |"),
@@ -110,6 +167,14 @@ CHANGES = [
     (FAILURE, "tracer: lost stop", "tracer: lost a stop"),
     (FORMATS, "`tracer: cannot start threads`", "`tracer: cannot start a thread`"),
     (RUN_ERROR, "tracer: no memory", "tracer: out of memory"),
+    (README, "256 rows, 16 tracers", "64 rows, 16 tracers"),
+    (FORMATS, "more than 256 rows, at the 257th", "more than 256 rows, at the 65th"),
+    (CASE_FILES, "blocks, at most 256.", "blocks, at most 64."),
+    (PAGE, "and 256 tracees.", "and 64 tracees."),
+    (PLAIN_CASE, "MOST_ROWS: usize = 256;", "MOST_ROWS: usize = 64;"),
+    (WORD, "| 3 to 10 | births", "| 3 to 8 | births"),
+    (LAYOUTS, "| 59 to 62 | tracer", "| 57 to 60 | tracer"),
+    (WORDS, "0x0004002800000803", "0x0001000a00000203"),
 ]
 
 

@@ -3,10 +3,11 @@
 
     scarce_memory.py PROGRAM
 
-It runs a case of 64 tracees with 256 pages each. At every limit the program has to end in one of three ways: it prints
-the whole text, with status 0; or it prints nothing, and says on standard error, with status 3, that it is out of memory
-or that it cannot start its threads. The limits go down from an ample one until the program is out of memory, and then
-into the gaps between limits at which it ended in different ways.
+It runs a case of the most tracees, with 64 pages each, by the most workers, so that the run asks for as many threads as
+any: 272. At every limit the program has to end in one of three ways: it prints the whole text, with status 0; or it
+prints nothing, and says on standard error, with status 3, that it is out of memory or that it cannot start its threads.
+The limits go down from an ample one until the program is out of memory, and then into the gaps between limits at which
+it ended in different ways.
 
 Each of the three ways has to come. At one of the limits at which the program is out of memory it has to have enough to
 read the file, so that the run was refused: there it refuses the same file with a faulty line at its end by that line.
@@ -16,13 +17,15 @@ import resource
 import subprocess
 import sys
 
-TRACEES = range(100, 164)
-PAGES = 256
+# The most tracees, how many pages each has, and the most workers.
+TRACEES = range(100, 356)
+PAGES = 64
+WORKERS = 16
 AMPLE = 16 << 30
 # How far down a limit is below the last one, and how often a gap is halved.
 STEP, HALVINGS = 0.8, 6
 # The most that a run may take, in seconds.
-SECONDS = 20
+SECONDS = 60
 
 PRINTED, NO_MEMORY, NO_THREADS = "prints the text", "out of memory", "cannot start threads"
 
@@ -42,7 +45,7 @@ def run(program, given, limit):
 
     try:
         how = {"input": given, "capture_output": True, "env": {}, "timeout": SECONDS, "preexec_fn": within}
-        ran = subprocess.run([program, "run"], **how)
+        ran = subprocess.run([program, "run", "-w", str(WORKERS)], **how)
     except subprocess.TimeoutExpired:
         sys.exit(f"scarce-memory: FAILED: with {limit} bytes it did not end in {SECONDS} seconds")
     return ran.returncode, ran.stdout, ran.stderr

@@ -8,12 +8,12 @@ use Rattle.std.specs.List.{Contains, flat_map, range_with_len}
 use Rattle.std.specs.List.Sorted.{IsPermutation}
 use Rattle.record_printer.proofs.Options.{some_none}
 use Rattle.record_printer.specs.Came.{ending_of, is_of, last_of, names, stop_of}
-use Rattle.record_printer.specs.FolderAnswers.{first_of, lost, lost_at, of_row, pieces_text, refusal, row_text}
+use Rattle.record_printer.specs.FolderAnswers.{first_row_fault, lost, lost_at, of_row, pieces_text, refusal, row_text}
 use Rattle.record_printer.specs.Note.{Note}
 use Rattle.record_printer.specs.Piece.{Piece, Stopped, Died}
 use Rattle.record_printer.specs.Represents.{AreTaken}
 use Rattle.record_printer.specs.RowAnswers.{death_fault, is_past, stop_fault}
-use Rattle.record_printer.specs.declared.ending.Ending.{Ending}
+use Rattle.record_printer.specs.declared.fold.ending.Ending.{Ending}
 use Rattle.stop_history.specs.Roster.{row_at, row_of}
 use Rattle.stop_history.specs.declared.roster.Row.{Row}
 use Rattle.trace_record.specs.declared.death.Death.{Death}
@@ -240,7 +240,7 @@ same_lost rows came other taken moved =
       ← list_any-IsPermutation (is_of tid) came other moved,
     ) refl in
     let f : lost_at rows other ≡ lost_at rows came = λ i row. e row i in
-    ap (λ fault. first_of fault (range_with_len 0 (length rows))) f
+    ap (λ fault. first_row_fault fault (range_with_len 0 (length rows))) f
 
 pub same_refusal : (rows : List Row) (came other : List Piece) → AreTaken rows came → IsPermutation came other
     → (piece : Piece) → refusal rows other piece ≡ refusal rows came piece

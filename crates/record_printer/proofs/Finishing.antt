@@ -8,14 +8,14 @@ use Rattle.std.proofs.lemmas.Bool.{cases_eq}
 use Rattle.std.specs.List.{flat_map, range_with_len}
 use Rattle.record_printer.proofs.Options.{or_true}
 use Rattle.record_printer.specs.Came.{stop_of}
-use Rattle.record_printer.specs.FolderAnswers.{first_of, lost, lost_at, lost_if, or_next}
+use Rattle.record_printer.specs.FolderAnswers.{first_row_fault, lost, lost_at, lost_if, or_next}
 use Rattle.record_printer.specs.FolderAnswers.{row_text}
 use Rattle.record_printer.specs.Kept.{Kept, has_any}
 use Rattle.record_printer.specs.Piece.{Piece}
 use Rattle.record_printer.specs.Represents.{Represents, kept_at}
 use Rattle.record_printer.specs.RowAnswers.{missing_in}
-use Rattle.record_printer.specs.declared.ending.Ending.{Ending}
-use Rattle.record_printer.specs.declared.fold_error.FoldError.{FoldError}
+use Rattle.record_printer.specs.declared.fold.ending.Ending.{Ending}
+use Rattle.record_printer.specs.declared.fold.error.FoldError.{FoldError}
 use Rattle.stop_history.specs.Roster.{is_root, nobody, row_at}
 use Rattle.stop_history.specs.declared.roster.Row.{Row}
 
@@ -48,27 +48,28 @@ flat_map_push f (y ∷ xs) x = ap (λ t. f y ++ t) (flat_map_push f xs x) ∙ sy
 -- ---- the first row that has lost something
 
 pub first_here : (fault : ℕ → Option FoldError) (place count : ℕ) → place < count → is_some (fault place) ≡ true
-    → first_of fault (range_with_len place (count - place)) ≡ fault place
+    → first_row_fault fault (range_with_len place (count - place)) ≡ fault place
 first_here fault place count before some =
     let e : count - place ≡ suc (count - (place + 1)) = omega arith in
-    rw e (or_some (fault place) (first_of fault (range_with_len (place + 1) (count - (place + 1)))) some)
+    rw e (or_some (fault place) (first_row_fault fault (range_with_len (place + 1) (count - (place + 1)))) some)
 
 pub first_later : (fault : ℕ → Option FoldError) (place count : ℕ) → place < count → is_some (fault place) ≡ false
-    → first_of fault (range_with_len place (count - place))
-    ≡ first_of fault (range_with_len (place + 1) (count - (place + 1)))
+    → first_row_fault fault (range_with_len place (count - place))
+    ≡ first_row_fault fault (range_with_len (place + 1) (count - (place + 1)))
 first_later fault place count before none =
     let e : count - place ≡ suc (count - (place + 1)) = omega arith in
-    rw e (or_none (fault place) (first_of fault (range_with_len (place + 1) (count - (place + 1)))) none)
+    rw e (or_none (fault place) (first_row_fault fault (range_with_len (place + 1) (count - (place + 1)))) none)
 
 pub first_over : (fault : ℕ → Option FoldError) (place count : ℕ) → count ≤ place
-    → first_of fault (range_with_len place (count - place)) ≡ None
+    → first_row_fault fault (range_with_len place (count - place)) ≡ None
 first_over fault place count over = let e : count - place ≡ 0 = omega (arith, over) in rw e refl
 
-none_each : (fault : ℕ → Option FoldError) (from count place : ℕ) → first_of fault (range_with_len from count) ≡ None
+none_each : (fault : ℕ → Option FoldError) (from count place : ℕ)
+    → first_row_fault fault (range_with_len from count) ≡ None
     → from ≤ place → place < from + count → fault place ≡ None
 none_each fault from zero place none low high = absurd (omega (arith, low, high))
 none_each fault from (suc count) place none low high =
-    let both = or_both (fault from) (first_of fault (range_with_len (from + 1) count)) none in
+    let both = or_both (fault from) (first_row_fault fault (range_with_len (from + 1) count)) none in
     elim (cases_eq from place) [
       | inl same ↦ rw (← same) both.0
       | inr apart ↦ none_each fault (from + 1) count place both.1 (omega (arith, low, apart)) (omega (arith, high))

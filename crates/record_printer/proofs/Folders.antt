@@ -4,8 +4,8 @@ use Rattle.std.proofs.Common.{eqb, true, false, is_some, cond, inl, inr, slice_s
 use Rattle.std.proofs.Common.{is_ok, zero, suc, ◌++◌, OnOk, OnErr, IsOkUnless, slice_index_or}
 use Rattle.record_printer.proofs.Options.{some_none}
 use Rattle.record_printer.specs.PieceOf.{piece_of}
-use Rattle.record_printer.specs.declared.fold_error.FoldError.{FoldError}
-use Rattle.record_printer.specs.declared.fold_error.FoldError.TheVariants as refused
+use Rattle.record_printer.specs.declared.fold.error.FoldError.{FoldError}
+use Rattle.record_printer.specs.declared.fold.error.FoldError.TheVariants as refused
 use Rattle.record_printer.specs.declared.piece.Given.{Given}
 use Rattle.record_printer.specs.declared.piece.Given.TheVariants as gives
 use Rattle.std.proofs.lemmas.Bool.{cases_eq}
@@ -15,7 +15,7 @@ use Rattle.record_printer.proofs.Pieces.{keeps_death, keeps_other, keeps_other_d
 use Rattle.record_printer.specs.Came.{is_child, stop_of}
 use Rattle.record_printer.specs.RowAnswers.{death_fault, stop_fault}
 use Rattle.record_printer.specs.FolderAnswers.{refusal}
-use Rattle.record_printer.specs.Kept.{Kept, new_row}
+use Rattle.record_printer.specs.Kept.{Kept, empty_row}
 use Rattle.record_printer.specs.Note.{Note}
 use Rattle.record_printer.specs.Piece.{Piece, Stopped, Died}
 use Rattle.record_printer.specs.Represents.{AddsStopAt, Folded, KeepsRow, Represents, kept_at, with_name}
@@ -29,8 +29,8 @@ pub kept_set : (kept : List Kept) (row r : ℕ) (x : Kept) → row < length kept
 kept_set kept row r x within =
     elim (cases_eq row r) [
       | inl same ↦ rw (← same)
-          (get_or-set_same kept row x new_row within ∙ sym (at_same row row x (kept_at kept row) refl))
-      | inr apart ↦ get_or-set_other kept row r x new_row (λ e. apart (sym e)) ∙ sym
+          (get_or-set_same kept row x empty_row within ∙ sym (at_same row row x (kept_at kept row) refl))
+      | inr apart ↦ get_or-set_other kept row r x empty_row (λ e. apart (sym e)) ∙ sym
           (at_other row r x (kept_at kept r) apart)
     ]
 
@@ -155,8 +155,8 @@ none_if_ok (Some error) result answers ok = absurd (err_not_ok error (rw (answer
 
 -- ---- new rows
 
-pub new_push : (kept : List Kept) → ((r : ℕ) → kept_at kept r ≡ new_row) → (r : ℕ)
-    → kept_at (kept ++ new_row ∷ []) r ≡ new_row
+pub new_push : (kept : List Kept) → ((r : ℕ) → kept_at kept r ≡ empty_row) → (r : ℕ)
+    → kept_at (kept ++ empty_row ∷ []) r ≡ empty_row
 new_push [] new zero = refl
 new_push [] new (suc r) = refl
 new_push (row ∷ kept) new zero = new 0
@@ -210,4 +210,4 @@ folded_back rows old new written (Err error) is same = rw (is, same) refl
 -- what an index reads
 pub kept_read : (kept : List Kept) (place : ℕ) (x : Kept) → x ≡ slice_index_or kept place x → place < length kept
     → x ≡ kept_at kept place
-kept_read kept place x read within = read ∙ get_or_default kept place x new_row within
+kept_read kept place x read within = read ∙ get_or_default kept place x empty_row within

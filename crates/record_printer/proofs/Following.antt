@@ -9,10 +9,10 @@ use Rattle.record_printer.proofs.Options.{some_none}
 use Rattle.record_printer.proofs.Early.{at_other, at_same}
 use Rattle.record_printer.proofs.Stops.{fold_after_all-append, notes_join, notes_same}
 use Rattle.record_printer.specs.Chain.{IsChain, notes_until}
-use Rattle.record_printer.specs.Kept.{Follows, Kept, note_in, with_stop}
+use Rattle.record_printer.specs.Kept.{KeepsStops, Kept, note_in, stops_with}
 use Rattle.record_printer.specs.DeathLine.{death_text}
 use Rattle.record_printer.specs.Note.{Note, Stops}
-use Rattle.record_printer.specs.declared.ending.Ending.{Ending}
+use Rattle.record_printer.specs.declared.fold.ending.Ending.{Ending}
 use Rattle.record_printer.proofs.RowLines.{lines_folded}
 use Rattle.record_printer.specs.RowAnswers.{due, missing_in, notes_from, text_in}
 use Rattle.record_printer.specs.RowFold.{empty_fold, fold_after, fold_after_all, fold_text}
@@ -20,10 +20,10 @@ use Rattle.record_printer.specs.RowFold.{empty_fold, fold_after, fold_after_all,
 -- the notes up to the next stop, with it, and with those that follow it
 notes_on : (stops early : ℕ → Option Note) (done next : ℕ) (note : Note) → done + 2 ≤ next
     → ((n : ℕ) → done + 2 ≤ n → n < next → early n ≡ stops n)
-    → notes_from (with_stop stops (done + 1) note) 1 (next - 1)
+    → notes_from (stops_with stops (done + 1) note) 1 (next - 1)
     ≡ notes_from stops 1 done ++ (note ∷ notes_until early (done + 2) next)
 notes_on stops early done next note forward waiting =
-    let more = with_stop stops (done + 1) note in
+    let more = stops_with stops (done + 1) note in
     let rest = next - (done + 2) in
     let e : next - 1 ≡ done + suc rest = omega arith in
     let f : 1 + done ≡ done + 1 = omega arith in
@@ -37,15 +37,15 @@ notes_on stops early done next note forward waiting =
     rw (e, notes_join more 1 done (suc rest), before, f, here, g, after) refl
 
 -- a fold that goes on with the next stop and those that follow it
-pub folds_on : (old new : Kept) (stops early left : ℕ → Option Note) (next : ℕ) (note : Note) → Follows old stops
+pub folds_on : (old new : Kept) (stops early left : ℕ → Option Note) (next : ℕ) (note : Note) → KeepsStops old stops
     → ((n : ℕ) → note_in old.early n ≡ early n) → ((n : ℕ) → note_in new.early n ≡ left n)
     → IsChain early (old.done + 2) next → new.done ≡ next - 1
     → new.fold ≡ fold_after_all (fold_after old.fold note) (notes_until early (old.done + 2) next)
-    → ((n : ℕ) → next ≤ n → left n ≡ early n) → Follows new (with_stop stops (old.done + 1) note)
+    → ((n : ℕ) → next ≤ n → left n ≡ early n) → KeepsStops new (stops_with stops (old.done + 1) note)
 folds_on old new stops early left next note follows old_seen new_seen chain done fold rest =
     let forward = chain.forward in
     let waiting : (n : ℕ) → old.done < n → early n ≡ stops n = λ n late. sym (old_seen n) ∙ follows.waiting n late in
-    let other : (n : ℕ) → (old.done + 1 ≡ n → ⊥) → with_stop stops (old.done + 1) note n ≡ stops n =
+    let other : (n : ℕ) → (old.done + 1 ≡ n → ⊥) → stops_with stops (old.done + 1) note n ≡ stops n =
     λ n apart. at_other (old.done + 1) n (Some note) (stops n) apart in
     record {
       folded = rw (
@@ -69,18 +69,18 @@ folds_on old new stops early left next note follows old_seen new_seen chain done
     }
 
 -- a stop that waits
-pub waits : (old new : Kept) (stops : ℕ → Option Note) (number : ℕ) (note : Note) → Follows old stops
+pub waits : (old new : Kept) (stops : ℕ → Option Note) (number : ℕ) (note : Note) → KeepsStops old stops
     → old.done + 1 < number → new.done ≡ old.done → new.fold ≡ old.fold
     → ((n : ℕ) → note_in new.early n ≡ cond (eqb number n) (Some note) (note_in old.early n))
-    → Follows new (with_stop stops number note)
+    → KeepsStops new (stops_with stops number note)
 waits old new stops number note follows later done fold put =
-    let other : (n : ℕ) → n ≤ old.done + 1 → with_stop stops number note n ≡ stops n =
+    let other : (n : ℕ) → n ≤ old.done + 1 → stops_with stops number note n ≡ stops n =
     λ n low. at_other number n (Some note) (stops n) (λ same. omega (arith, same, low, later)) in
     record {
       folded = rw (
         fold,
         done,
-        notes_same (with_stop stops number note) stops 1 old.done
+        notes_same (stops_with stops number note) stops 1 old.done
             (λ n low high. other n (omega (arith, high))),
       ) follows.folded;
       each = λ n low high. rw (other n (omega (arith, high, done))) (follows.each n low (omega (arith, high, done)));
@@ -90,7 +90,7 @@ waits old new stops number note follows later done fold put =
     }
 
 -- a stop has come where it is folded or waits
-pub held_is : (kept : Kept) (stops : ℕ → Option Note) (number : ℕ) → Follows kept stops → 1 ≤ number
+pub held_is : (kept : Kept) (stops : ℕ → Option Note) (number : ℕ) → KeepsStops kept stops → 1 ≤ number
     → (nat_le number kept.done || is_some (note_in kept.early number)) ≡ is_some (stops number)
 held_is kept stops number follows positive =
     elim (cases_lt kept.done number) [
@@ -122,7 +122,7 @@ first_hole stops from (suc count) hole low high none all =
           rw (e, none) refl
     ]
 
-pub missing_is : (kept : Kept) (stops : ℕ → Option Note) (number : ℕ) → Follows kept stops
+pub missing_is : (kept : Kept) (stops : ℕ → Option Note) (number : ℕ) → KeepsStops kept stops
     → find (λ n. not (is_some (stops n))) (range_with_len 1 number)
     ≡ cond (nat_lt kept.done number) (Some (kept.done + 1)) None
 missing_is kept stops number follows =
@@ -134,19 +134,21 @@ missing_is kept stops number follows =
           (no_hole stops 1 number (λ n low high. follows.each n low (omega (arith, high, all))))
     ]
 
-pub missing_some : (kept : Kept) (stops : Stops) (number : ℕ) (ending : Option Ending) (last : ℕ) → Follows kept stops
+pub missing_some : (kept : Kept) (stops : Stops) (number : ℕ) (ending : Option Ending) (last : ℕ)
+    → KeepsStops kept stops
     → number ≡ due ending last → kept.done < number → Some (kept.done + 1) ≡ missing_in stops ending last
 missing_some kept stops number ending last follows is less =
     sym (missing_is kept stops (due ending last) follows ∙ rw (← is, lt-ltb kept.done number less) refl)
 
-pub missing_none : (kept : Kept) (stops : Stops) (number : ℕ) (ending : Option Ending) (last : ℕ) → Follows kept stops
+pub missing_none : (kept : Kept) (stops : Stops) (number : ℕ) (ending : Option Ending) (last : ℕ)
+    → KeepsStops kept stops
     → number ≡ due ending last → number ≤ kept.done → None ≡ missing_in stops ending last
 missing_none kept stops number ending last follows is all =
     sym (missing_is kept stops (due ending last) follows ∙ rw (← is, le-ltb kept.done number all) refl)
 
 -- the text of a row that lacks no stop
 pub text_is : (kept : Kept) (tid : ℕ) (stops : Stops) (ending : Ending) → kept.done ≤ kept.last
-    → kept.last ≤ ending.number → Follows kept stops → missing_in stops (Some ending) kept.last ≡ None
+    → kept.last ≤ ending.number → KeepsStops kept stops → missing_in stops (Some ending) kept.last ≡ None
     → fold_text kept.fold (Some (death_text tid ending.death)) ≡ text_in tid stops (Some ending)
 text_is kept tid stops ending done last follows complete =
     let all : kept.done ≡ ending.number = elim (cases_lt kept.done ending.number) [

@@ -6,14 +6,14 @@ use Rattle.std.specs.Ordering.{nat_cmp}
 use Rattle.record_printer.proofs.Early.{note_seen, note_set}
 use Rattle.record_printer.proofs.Following.{folds_on, waits}
 use Rattle.record_printer.specs.Chain.{IsChain, notes_until}
-use Rattle.record_printer.specs.Early.{note_at}
+use Rattle.record_printer.specs.Early.{early_note}
 use Rattle.record_printer.specs.Kept.{AddsStop}
 use Rattle.record_printer.specs.KeptFold.{fold_of}
 use Rattle.record_printer.specs.KeptRow.{kept_of}
 use Rattle.record_printer.specs.NoteOf.{note_of}
 use Rattle.record_printer.specs.RowFold.{fold_after, fold_after_all}
-use Rattle.record_printer.specs.declared.kept_row.KeptRow.TheInside.{Inside}
-use Rattle.record_printer.specs.declared.note.Note.{Note as KeptNote}
+use Rattle.record_printer.specs.declared.fold.kept_row.KeptRow.TheInside.{Inside}
+use Rattle.record_printer.specs.declared.piece.note.Note.{Note as KeptNote}
 
 pub waits_kept : {Z : Type 0} (old new : Inside Z) (number : ℕ) (note : KeptNote Z) → old.done + 1 < number
     → new.named ≡ old.named → new.ending ≡ old.ending → new.last ≡ max old.last number → new.done ≡ old.done
@@ -32,16 +32,17 @@ waits_kept old new number note later named ending last done fold put = record {
 
 pub folds_kept : {Z : Type 0} (old new : Inside Z) (next : ℕ) (note : KeptNote Z)
     → new.named ≡ old.named → new.ending ≡ old.ending → new.last ≡ max old.last (old.done + 1)
-    → IsChain (note_at old.early) (old.done + 2) next → new.done ≡ next - 1
+    → IsChain (early_note old.early) (old.done + 2) next → new.done ≡ next - 1
     → fold_of new.fold
     ≡ fold_after_all (fold_after (fold_of old.fold) (note_of note))
-    (notes_until (note_at old.early) (old.done + 2) next)
-    → ((n : ℕ) → next ≤ n → note_at new.early n ≡ note_at old.early n)
+    (notes_until (early_note old.early) (old.done + 2) next)
+    → ((n : ℕ) → next ≤ n → early_note new.early n ≡ early_note old.early n)
     → AddsStop (kept_of old) (kept_of new) (old.done + 1) (note_of note)
 folds_kept old new next note named ending last chain done fold left = record {
   named = named;
   ending = ending;
   last = last;
-  follows = λ stops follows. folds_on (kept_of old) (kept_of new) stops (note_at old.early) (note_at new.early) next
+  follows = λ stops follows. folds_on (kept_of old) (kept_of new) stops (early_note old.early)
+      (early_note new.early) next
       (note_of note) follows (note_seen old.early) (note_seen new.early) chain done fold left;
 }

@@ -9,7 +9,7 @@ use Rattle.std.proofs.lemmas.List.Folds.{list_any-append}
 use Rattle.record_printer.specs.Note.{CallStart, Note, Enter, Seccomp, Exit, Signal, Birth, Quiet}
 use Rattle.record_printer.specs.CallStarts.{is_bound, is_call_start, is_enter, is_entered, is_exit}
 use Rattle.record_printer.specs.CallStarts.{next_bound, note_at, starts_after}
-use Rattle.record_printer.specs.PrintedRow.{call_line, line_at, line_of}
+use Rattle.record_printer.specs.PrintedRow.{call_line, line_at, stop_line}
 use Rattle.record_printer.proofs.FoldedLines.{bound_in, line_until, lines_from}
 
 -- ---- one stop more
@@ -178,7 +178,7 @@ call_at all before note rest i death start entered at is =
     (placed_length at) ∙ ap (λ (e : Bool). bound_in e rest) (entered-push before note ∙ is))
 
 hidden : (all : List Note) (i : ℕ) (death : Option (List ℕ)) (start : CallStart) → is_call_start all i ≡ false
-    → line_of all death i (Seccomp start) ≡ []
+    → stop_line all death i (Seccomp start) ≡ []
 hidden all i death start none = rw none refl
 
 pub lines_found : (all rest before : List Note) (i : ℕ) (death : Option (List ℕ)) → before ++ rest ≡ all
@@ -188,7 +188,7 @@ lines_found all [] before i death whole place = refl
 lines_found all (Enter start ∷ rest) before i death whole place =
     let at : Placed all before (Enter start) rest i = record { whole = whole; place = place } in
     ap (λ (line : List ℕ). line ++ flat_map (line_at all death) (range_with_len (i + 1) (length rest)))
-    (ap (line_of all death i) (placed_note at) ∙ call_at all before (Enter start) rest i death start true at refl)
+    (ap (stop_line all death i) (placed_note at) ∙ call_at all before (Enter start) rest i death start true at refl)
     ∙ ap (λ (lines : List ℕ). line_until death start (bound_in true rest) ++ lines)
     (lines_found all rest (before ++ Enter start ∷ []) (i + 1) death (placed_next at) (placed_length at)
     ∙ ap (λ (e : Bool). lines_from death e rest) (entered-push before (Enter start)))
@@ -200,13 +200,13 @@ lines_found all (Seccomp start ∷ rest) before i death whole place =
       | true ↦ λ is.
           let none : is_call_start all i ≡ false = placed_start at ∙ ap not is in
           ap (λ (line : List ℕ). line ++ flat_map (line_at all death) (range_with_len (i + 1) (length rest)))
-          (ap (line_of all death i) (placed_note at) ∙ hidden all i death start none)
+          (ap (stop_line all death i) (placed_note at) ∙ hidden all i death start none)
           ∙ lines_found all rest (before ++ Seccomp start ∷ []) (i + 1) death (placed_next at) (placed_length at)
           ∙ ap (λ (e : Bool). lines_from death e rest) (entered-push before (Seccomp start) ∙ is)
       | false ↦ λ is.
           let some : is_call_start all i ≡ true = placed_start at ∙ ap not is in
           ap (λ (line : List ℕ). line ++ flat_map (line_at all death) (range_with_len (i + 1) (length rest)))
-          (ap (line_of all death i) (placed_note at) ∙ rw some
+          (ap (stop_line all death i) (placed_note at) ∙ rw some
           (call_at all before (Seccomp start) rest i death start false at is))
           ∙ ap (λ (lines : List ℕ). line_until death start (bound_in false rest) ++ lines)
           (lines_found all rest (before ++ Seccomp start ∷ []) (i + 1) death (placed_next at) (placed_length at)
@@ -215,25 +215,25 @@ lines_found all (Seccomp start ∷ rest) before i death whole place =
 lines_found all (Exit end ∷ rest) before i death whole place =
     let at : Placed all before (Exit end) rest i = record { whole = whole; place = place } in
     ap (λ (line : List ℕ). line ++ flat_map (line_at all death) (range_with_len (i + 1) (length rest)))
-    (ap (line_of all death i) (placed_note at))
+    (ap (stop_line all death i) (placed_note at))
     ∙ lines_found all rest (before ++ Exit end ∷ []) (i + 1) death (placed_next at) (placed_length at)
     ∙ ap (λ (e : Bool). lines_from death e rest) (entered-push before (Exit end))
 lines_found all (Signal line ∷ rest) before i death whole place =
     let at : Placed all before (Signal line) rest i = record { whole = whole; place = place } in
     ap (λ (l : List ℕ). l ++ flat_map (line_at all death) (range_with_len (i + 1) (length rest)))
-    (ap (line_of all death i) (placed_note at))
+    (ap (stop_line all death i) (placed_note at))
     ∙ ap (λ (lines : List ℕ). line ++ lines)
     (lines_found all rest (before ++ Signal line ∷ []) (i + 1) death (placed_next at) (placed_length at)
     ∙ ap (λ (e : Bool). lines_from death e rest) (entered-push before (Signal line)))
 lines_found all (Birth child ∷ rest) before i death whole place =
     let at : Placed all before (Birth child) rest i = record { whole = whole; place = place } in
     ap (λ (line : List ℕ). line ++ flat_map (line_at all death) (range_with_len (i + 1) (length rest)))
-    (ap (line_of all death i) (placed_note at))
+    (ap (stop_line all death i) (placed_note at))
     ∙ lines_found all rest (before ++ Birth child ∷ []) (i + 1) death (placed_next at) (placed_length at)
     ∙ ap (λ (e : Bool). lines_from death e rest) (entered-push before (Birth child))
 lines_found all (Quiet ∷ rest) before i death whole place =
     let at : Placed all before Quiet rest i = record { whole = whole; place = place } in
     ap (λ (line : List ℕ). line ++ flat_map (line_at all death) (range_with_len (i + 1) (length rest)))
-    (ap (line_of all death i) (placed_note at))
+    (ap (stop_line all death i) (placed_note at))
     ∙ lines_found all rest (before ++ Quiet ∷ []) (i + 1) death (placed_next at) (placed_length at)
     ∙ ap (λ (e : Bool). lines_from death e rest) (entered-push before Quiet)

@@ -8,7 +8,7 @@ use Rattle.record_printer.specs.Note.{Note}
 use Rattle.record_printer.specs.RowAnswers.{notes_from}
 use Rattle.record_printer.specs.RowFold.{Fold, fold_after, fold_after_all}
 use Rattle.record_printer.specs.KeptFold.{HasRoom, behind_len, note_len}
-use Rattle.record_printer.specs.declared.row_fold.RowFold.{RowFold}
+use Rattle.record_printer.specs.declared.fold.row_fold.RowFold.{RowFold}
 
 -- the notes of more stops are those of the first and of the others
 pub notes_join : (stops : ℕ → Option Note) (first a b : ℕ)

@@ -3,7 +3,7 @@
 use Rattle.std.specs.Prelude.{◌==◌, ◌&&◌, ℕ, Bool, false, Option, Some, None, List, [], ◌∷◌, max, if◌then◌else◌}
 use Rattle.record_printer.specs.Note.{Note, Birth}
 use Rattle.record_printer.specs.Piece.{Piece, Stopped, Died}
-use Rattle.record_printer.specs.declared.ending.Ending.{Ending}
+use Rattle.record_printer.specs.declared.fold.ending.Ending.{Ending}
 
 -- the note of its stop with a number
 abbrev pub stop_of : ℕ → List Piece → ℕ → Option Note
@@ -26,9 +26,9 @@ last_of tid (Stopped t n note ∷ pieces) = if t == tid then max (last_of tid pi
 last_of tid (Died t n death ∷ pieces) = last_of tid pieces
 
 -- the child that a stop creates
-abbrev pub child_of : Note → Option ℕ
-child_of (Birth child) = Some child
-child_of _ = None
+abbrev pub child_noted : Note → Option ℕ
+child_noted (Birth child) = Some child
+child_noted _ = None
 
 abbrev pub is_child : ℕ → Option ℕ → Bool
 is_child tid None = false
@@ -36,7 +36,7 @@ is_child tid (Some child) = child == tid
 
 -- a stop that creates the thread
 abbrev pub names : ℕ → Piece → Bool
-names tid (Stopped t n note) = is_child tid (child_of note)
+names tid (Stopped t n note) = is_child tid (child_noted note)
 names tid (Died t n death) = false
 
 abbrev pub is_of : ℕ → Piece → Bool

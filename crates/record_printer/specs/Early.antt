@@ -5,12 +5,12 @@ use Rattle.std.specs.BTreeMap as tree
 use Rattle.std.specs.Ordering.{nat_cmp}
 use Rattle.record_printer.specs.Note.{Note}
 use Rattle.record_printer.specs.NoteOf.{note_of}
-use Rattle.record_printer.specs.declared.note.Note.{Note as KeptNote}
+use Rattle.record_printer.specs.declared.piece.note.Note.{Note as KeptNote}
 
 -- the notes by their numbers
 abbrev pub early_of : {Z : Type 0} → BTreeMap ℕ (KeptNote Z) → List (ℕ × Note)
 early_of early = map (λ e. (e.0, note_of e.1)) early.entries
 
 -- the note of a number
-abbrev pub note_at : {Z : Type 0} → BTreeMap ℕ (KeptNote Z) → ℕ → Option Note
-note_at early number = option_map note_of (tree.get nat_cmp early number)
+abbrev pub early_note : {Z : Type 0} → BTreeMap ℕ (KeptNote Z) → ℕ → Option Note
+early_note early number = option_map note_of (tree.get nat_cmp early number)

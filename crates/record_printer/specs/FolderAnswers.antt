@@ -6,8 +6,8 @@ use Rattle.std.specs.List.{flat_map, list_any, range_with_len}
 use Rattle.record_printer.specs.Came.{ending_of, is_of, last_of, names, stop_of}
 use Rattle.record_printer.specs.Piece.{Piece, Stopped, Died}
 use Rattle.record_printer.specs.RowAnswers.{death_fault, missing_in, stop_fault, text_in}
-use Rattle.record_printer.specs.declared.fold_error.FoldError.{FoldError}
-use Rattle.record_printer.specs.declared.fold_error.FoldError.TheVariants as error
+use Rattle.record_printer.specs.declared.fold.error.FoldError.{FoldError}
+use Rattle.record_printer.specs.declared.fold.error.FoldError.TheVariants as error
 use Rattle.stop_history.specs.Roster.{is_root, row_at, row_of}
 use Rattle.stop_history.specs.declared.roster.Row.{Row}
 
@@ -43,13 +43,13 @@ or_next None next = next
 or_next (Some fault) next = Some fault
 
 -- the fault of the first row that has one
-abbrev pub first_of : (ℕ → Option FoldError) → List ℕ → Option FoldError
-first_of fault [] = None
-first_of fault (row ∷ rows) = or_next (fault row) (first_of fault rows)
+abbrev pub first_row_fault : (ℕ → Option FoldError) → List ℕ → Option FoldError
+first_row_fault fault [] = None
+first_row_fault fault (row ∷ rows) = or_next (fault row) (first_row_fault fault rows)
 
 -- what is lost: of the first row in the roster's order that must be whole and is not
 abbrev pub lost : List Row → List Piece → Option FoldError
-lost rows pieces = first_of (lost_at rows pieces) (range_with_len 0 (length rows))
+lost rows pieces = first_row_fault (lost_at rows pieces) (range_with_len 0 (length rows))
 
 -- the text: the lines of the rows in the roster's order
 abbrev pub row_text : List Piece → Row → List ℕ

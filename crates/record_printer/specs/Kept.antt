@@ -8,7 +8,7 @@ use Rattle.std.specs.Ordering.{nat_cmp}
 use Rattle.record_printer.specs.Note.{Note, Stops}
 use Rattle.record_printer.specs.RowAnswers.{notes_from}
 use Rattle.record_printer.specs.RowFold.{Fold, empty_fold, fold_after_all}
-use Rattle.record_printer.specs.declared.ending.Ending.{Ending}
+use Rattle.record_printer.specs.declared.fold.ending.Ending.{Ending}
 
 -- whether a creation names the row, its death, the greatest number of its stops, the number up to which its stops are
 -- folded, their fold, and the notes of later stops by their numbers
@@ -20,8 +20,8 @@ pub record Kept : Type 0 where
   pub fold : Fold
   pub early : List (ℕ × Note)
 
-abbrev pub new_row : Kept
-new_row = record { named = false; ending = None; last = 0; done = 0; fold = empty_fold; early = [] }
+abbrev pub empty_row : Kept
+empty_row = record { named = false; ending = None; last = 0; done = 0; fold = empty_fold; early = [] }
 
 -- a stop or the death of the row has come
 abbrev pub has_any : Kept → Bool
@@ -32,19 +32,19 @@ abbrev pub note_in : List (ℕ × Note) → ℕ → Option Note
 note_in early number = lookup (is_at (nat_cmp number)) early
 
 -- these are the stops of the row: those up to a number are folded, the next one has not come, the others wait
-pub record Follows (kept : Kept) (stops : Stops) : Type 0 where
+pub record KeepsStops (kept : Kept) (stops : Stops) : Type 0 where
   pub folded : kept.fold ≡ fold_after_all empty_fold (notes_from stops 1 kept.done)
   pub each : (n : ℕ) → 1 ≤ n → n ≤ kept.done → IsSome (stops n)
   pub next : stops (kept.done + 1) ≡ None
   pub waiting : (n : ℕ) → kept.done < n → note_in kept.early n ≡ stops n
 
 -- the stops and one more
-abbrev pub with_stop : Stops → ℕ → Note → Stops
-with_stop stops number note n = if number == n then Some note else stops n
+abbrev pub stops_with : Stops → ℕ → Note → Stops
+stops_with stops number note n = if number == n then Some note else stops n
 
 -- a row after one more stop
 pub record AddsStop (old new : Kept) (number : ℕ) (note : Note) : Type 0 where
   pub named : new.named ≡ old.named
   pub ending : new.ending ≡ old.ending
   pub last : new.last ≡ max old.last number
-  pub follows : (stops : Stops) → Follows old stops → Follows new (with_stop stops number note)
+  pub follows : (stops : Stops) → KeepsStops old stops → KeepsStops new (stops_with stops number note)

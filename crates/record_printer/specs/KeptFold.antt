@@ -3,7 +3,7 @@ use Rattle.std.specs.Prelude.{◌+◌, ◌≤◌, ℕ, Option, Some, None, List,
 use Rattle.std.specs.Vec.{vec_capacity, vec_len}
 use Rattle.record_printer.specs.Note.{CallStart, CallEnd, Note, Enter, Seccomp, Exit, Signal, Birth, Quiet}
 use Rattle.record_printer.specs.RowFold.{Fold}
-use Rattle.record_printer.specs.declared.row_fold.RowFold.{RowFold}
+use Rattle.record_printer.specs.declared.fold.row_fold.RowFold.{RowFold}
 
 abbrev pub fold_of : {Z : Type 0} → RowFold Z → Fold
 fold_of fold = record {

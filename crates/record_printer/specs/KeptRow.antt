@@ -1,10 +1,10 @@
 -- What a folder keeps of a row, as the program keeps it.
 use Rattle.std.specs.Prelude.{◌≡◌, ◌+◌, ◌<◌, ◌≤◌, ℕ, Some, None}
-use Rattle.record_printer.specs.Early.{early_of, note_at}
+use Rattle.record_printer.specs.Early.{early_note, early_of}
 use Rattle.record_printer.specs.Kept.{Kept}
 use Rattle.record_printer.specs.KeptFold.{fold_of}
-use Rattle.record_printer.specs.declared.ending.Ending.{Ending}
-use Rattle.record_printer.specs.declared.kept_row.KeptRow.TheInside.{Inside}
+use Rattle.record_printer.specs.declared.fold.ending.Ending.{Ending}
+use Rattle.record_printer.specs.declared.fold.kept_row.KeptRow.TheInside.{Inside}
 use Rattle.stop_history.specs.declared.limits.TheConstants.{LAST_NUMBER}
 
 abbrev pub kept_of : {Z : Type 0} → Inside Z → Kept
@@ -24,5 +24,5 @@ pub record IsKept {Z : Type 0} (kept : Inside Z) : Type 0 where
   pub done_in : kept.done ≤ kept.last
   pub ended_in : (ending : Ending) → kept.ending ≡ Some ending → (kept.last ≤ ending.number) ×
       (ending.number ≤ LAST_NUMBER)
-  pub below : (n : ℕ) → n ≤ kept.done + 1 → note_at kept.early n ≡ None
-  pub above : (n : ℕ) → kept.last < n → note_at kept.early n ≡ None
+  pub below : (n : ℕ) → n ≤ kept.done + 1 → early_note kept.early n ≡ None
+  pub above : (n : ℕ) → kept.last < n → early_note kept.early n ≡ None

@@ -1,8 +1,8 @@
 -- The note of a stop as the program keeps it, read as plain data.
 use Rattle.record_printer.specs.Note.{Note}
 use Rattle.record_printer.specs.Note as note
-use Rattle.record_printer.specs.declared.note.Note.{Note as KeptNote}
-use Rattle.record_printer.specs.declared.note.Note.TheVariants as kept
+use Rattle.record_printer.specs.declared.piece.note.Note.{Note as KeptNote}
+use Rattle.record_printer.specs.declared.piece.note.Note.TheVariants as kept
 
 abbrev pub note_of : {Z : Type 0} → KeptNote Z → Note
 note_of (kept.Enter start) = note.Enter start

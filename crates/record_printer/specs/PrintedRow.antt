@@ -20,17 +20,17 @@ call_line notes death start None = line_left death start
 call_line notes death start (Some j) = line_to start (note_at notes j)
 
 -- the line of a stop: that of a call at its start, that of a signal
-abbrev pub line_of : List Note → Option (List ℕ) → ℕ → Note → List ℕ
-line_of notes death i (Enter start) = call_line notes death start (next_bound notes i)
-line_of notes death i (Seccomp start) =
+abbrev pub stop_line : List Note → Option (List ℕ) → ℕ → Note → List ℕ
+stop_line notes death i (Enter start) = call_line notes death start (next_bound notes i)
+stop_line notes death i (Seccomp start) =
     if is_call_start notes i then call_line notes death start (next_bound notes i) else []
-line_of notes death i (Exit end) = []
-line_of notes death i (Signal line) = line
-line_of notes death i (Birth child) = []
-line_of notes death i Quiet = []
+stop_line notes death i (Exit end) = []
+stop_line notes death i (Signal line) = line
+stop_line notes death i (Birth child) = []
+stop_line notes death i Quiet = []
 
 abbrev pub line_at : List Note → Option (List ℕ) → ℕ → List ℕ
-line_at notes death i = line_of notes death i (note_at notes i)
+line_at notes death i = stop_line notes death i (note_at notes i)
 
 abbrev pub death_line : Option (List ℕ) → List ℕ
 death_line None = []

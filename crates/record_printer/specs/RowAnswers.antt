@@ -6,9 +6,9 @@ use Rattle.std.specs.Option.{option_to_list}
 use Rattle.record_printer.specs.DeathLine.{death_text}
 use Rattle.record_printer.specs.Note.{Note, Stops}
 use Rattle.record_printer.specs.PrintedRow.{row_lines}
-use Rattle.record_printer.specs.declared.ending.Ending.{Ending}
-use Rattle.record_printer.specs.declared.fold_error.FoldError.{FoldError}
-use Rattle.record_printer.specs.declared.fold_error.FoldError.TheVariants as error
+use Rattle.record_printer.specs.declared.fold.ending.Ending.{Ending}
+use Rattle.record_printer.specs.declared.fold.error.FoldError.{FoldError}
+use Rattle.record_printer.specs.declared.fold.error.FoldError.TheVariants as error
 
 -- the number is above that of the death
 abbrev pub is_past : Option Ending → ℕ → Bool

@@ -24,8 +24,8 @@ abbrev pub pending_line : Option CallStart → CallEnd → List ℕ
 pending_line None end = []
 pending_line (Some start) end = ended_line start end
 
-abbrev pub ended : Fold → CallEnd → Fold
-ended fold end = record {
+abbrev pub ended_fold : Fold → CallEnd → Fold
+ended_fold fold end = record {
   text = fold.text ++ (pending_line fold.pending end ++ fold.behind);
   pending = None;
   behind = [];
@@ -35,7 +35,7 @@ ended fold end = record {
 abbrev pub fold_after : Fold → Note → Fold
 fold_after fold (Enter start) = started fold true start
 fold_after fold (Seccomp start) = if fold.entered then fold else started fold false start
-fold_after fold (Exit end) = ended fold end
+fold_after fold (Exit end) = ended_fold fold end
 fold_after fold (Signal line) = record fold { behind = fold.behind ++ line }
 fold_after fold (Birth child) = fold
 fold_after fold Quiet = fold

@@ -16,7 +16,7 @@ use Rattle.record_printer.specs.Arguments.{arguments_text, bytes_out, is_out, se
 use Rattle.record_printer.specs.Note.{CallStart, CallEnd, Note, Enter, Seccomp, Exit, Signal, Birth, Quiet}
 use Rattle.record_printer.specs.Numbers.{address_text, hexadecimal, result_text}
 use Rattle.record_printer.specs.SignalText.{signal_text}
-use Rattle.record_printer.specs.declared.show.Show.{Show}
+use Rattle.record_printer.specs.declared.call.show.Show.{Show}
 
 -- ---- calls by their numbers
 
@@ -124,6 +124,7 @@ note_by show content (stop.Fork child) = Birth child
 note_by show content (stop.Clone child) = Birth child
 note_by show content (stop.Exec former) = Quiet
 note_by show content (stop.Signal signal) = Signal (signal_line content.tid signal)
+note_by show content (stop.Ending death) = Quiet
 
 abbrev pub stop_note : Show → Content → Note
 stop_note show content = note_by show content content.stop

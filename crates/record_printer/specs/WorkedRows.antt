@@ -13,8 +13,8 @@ hundred = record { number = 39; out = None; result = codes "100" }
 abbrev pub line : List ℕ → List ℕ
 line text = text ++ 10 ∷ []
 
-abbrev pub signal_line : List ℕ
-signal_line = line (codes "100 --- SIGUSR1 ---")
+abbrev pub sigusr1_line : List ℕ
+sigusr1_line = line (codes "100 --- SIGUSR1 ---")
 
-abbrev pub exit_line : List ℕ
-exit_line = line (codes "100 +++ exited with 0 +++")
+abbrev pub exited_line : List ℕ
+exited_line = line (codes "100 +++ exited with 0 +++")

@@ -6,7 +6,11 @@ ghost use Rattle.record_printer.specs.Piece.{Died, Stopped};
 ghost use Rattle.record_printer.specs.PieceOf.{piece_of};
 ghost use Rattle.stop_history.specs.declared.limits.TheConstants.{LAST_NUMBER};
 
-use crate::note::Note;
+pub(crate) mod note;
+pub(crate) mod stop_note;
+pub(crate) mod stop_piece;
+
+use crate::piece::note::Note;
 use std::alloc::{Allocator, Global};
 use std::marker::Model;
 use trace_record::Death;

@@ -1,7 +1,7 @@
 ghost use Rattle.std.specs.Prelude.{◌≡◌, ◌++◌, ◌∷◌, [], None, Some, codes};
 ghost use Rattle.record_printer.specs.Note.{Enter, Exit, Quiet, Seccomp, Signal};
 ghost use Rattle.record_printer.specs.PrintedRow.{row_lines};
-ghost use Rattle.record_printer.specs.WorkedRows.{exit_line, getpid, hundred, line, signal_line};
+ghost use Rattle.record_printer.specs.WorkedRows.{exited_line, getpid, hundred, line, sigusr1_line};
 
 use super::laws::{calls_are_said_of_places, lines_are_folded, order_of_arrival_changes_no_answer};
 use super::*;
@@ -11,14 +11,14 @@ use super::*;
 /// none; a row that lives has no unfinished line.
 #[tactic(auto, unfolding(crate::specs::PrintedRow::row_lines))]
 fn worked_rows()
-    ensures signal { row_lines (Quiet ∷ Enter getpid ∷ Signal signal_line ∷ Exit hundred ∷ []) (Some exit_line)
-        ≡ line (codes "100 getpid() = 100") ++ (signal_line ++ exit_line) }
-    ensures two_enters { row_lines (Quiet ∷ Enter getpid ∷ Signal signal_line ∷ Enter getpid ∷ []) (Some exit_line)
-        ≡ signal_line ++ (line (codes "100 getpid() = ?") ++ exit_line) }
-    ensures two_seccomps { row_lines (Quiet ∷ Seccomp getpid ∷ Signal signal_line ∷ Seccomp getpid ∷ []) (Some exit_line)
-        ≡ signal_line ++ (line (codes "100 getpid() = ?") ++ exit_line) }
-    ensures both { row_lines (Quiet ∷ Enter getpid ∷ Seccomp getpid ∷ Exit hundred ∷ []) (Some exit_line)
-        ≡ line (codes "100 getpid() = 100") ++ exit_line }
+    ensures signal { row_lines (Quiet ∷ Enter getpid ∷ Signal sigusr1_line ∷ Exit hundred ∷ []) (Some exited_line)
+        ≡ line (codes "100 getpid() = 100") ++ (sigusr1_line ++ exited_line) }
+    ensures two_enters { row_lines (Quiet ∷ Enter getpid ∷ Signal sigusr1_line ∷ Enter getpid ∷ []) (Some exited_line)
+        ≡ sigusr1_line ++ (line (codes "100 getpid() = ?") ++ exited_line) }
+    ensures two_seccomps { row_lines (Quiet ∷ Seccomp getpid ∷ Signal sigusr1_line ∷ Seccomp getpid ∷ [])
+        (Some exited_line) ≡ sigusr1_line ++ (line (codes "100 getpid() = ?") ++ exited_line) }
+    ensures both { row_lines (Quiet ∷ Enter getpid ∷ Seccomp getpid ∷ Exit hundred ∷ []) (Some exited_line)
+        ≡ line (codes "100 getpid() = 100") ++ exited_line }
     ensures alive { row_lines (Enter getpid ∷ Exit hundred ∷ Enter getpid ∷ []) None
         ≡ line (codes "100 getpid() = 100") }
 {}

@@ -1,7 +1,12 @@
-//! The text of a trace, and writing it.
+//! The text of a trace, and writing it. Its modules write numbers, bytes in quotes, signals and deaths.
 
 ghost use Rattle.std.specs.Io.KnownBytes.{Appends};
 ghost use Rattle.std.specs.Prelude.{◌≡◌, ◌<◌, IfErr, OnOk, length, take};
+
+pub(crate) mod death;
+pub(crate) mod numbers;
+pub(crate) mod quote;
+pub(crate) mod signal;
 
 use std::alloc::{Allocator, Global};
 use std::io::Write;

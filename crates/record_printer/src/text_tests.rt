@@ -1,9 +1,9 @@
 //! The texts of single stops, each worked out by hand.
 
 use crate::Show;
-use crate::call_parts::{CallEnd, CallStart};
-use crate::note::Note;
-use crate::notes::stop_note;
+use crate::call::parts::{CallEnd, CallStart};
+use crate::piece::note::Note;
+use crate::piece::stop_note::stop_note;
 use std::alloc::Global;
 use trace_options::{CallSet, NoMemory};
 use trace_pages::Memory;

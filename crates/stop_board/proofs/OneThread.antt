@@ -31,7 +31,7 @@ use Rattle.stop_history.specs.Event.{Event, History, events_of}
 use Rattle.stop_history.specs.Sequential.{and_then, claim_answer, claim_state, exit_answer, goes_on, publish_answer}
 use Rattle.stop_history.specs.Sequential.{resume_answer, running_by}
 use Rattle.stop_history.specs.declared.limits.TheConstants.{TRACERS}
-use Rattle.stop_history.specs.State.{claimed_state, is_born, last_number, number_in as last_in, state_after, state_in}
+use Rattle.stop_history.specs.State.{claimed_state, is_born, last_number, number_in, state_after, state_in}
 use Rattle.stop_history.specs.Word.{Word, phase_in, raised, shown, word_after}
 use Rattle.stop_board.specs.World.{ActorReplies, Moment, Replies, actor_change, change_of, moment_after_step, seen_by}
 use Rattle.stop_board.specs.World.{seen_with, sight_at}
@@ -54,7 +54,7 @@ restarts : (born : Bool) (es : List Event) → state_in born es ≡ state.Runnin
     × (restart_in (phase_in es) ≡ Ok how)
 restarts born [] runs = (record { kind = Cont; signal = 0 }, refl)
 restarts born (event.Publish row number stop ∷ es) runs = cc
-restarts born (event.Claim row number tracer ∷ es) runs = absurd (claim_does_not_run (last_in es) tracer es runs)
+restarts born (event.Claim row number tracer ∷ es) runs = absurd (claim_does_not_run (number_in es) tracer es runs)
 restarts born (event.Resume row number how tracer ∷ es) runs = (how, refl)
 restarts born (event.Exit row death ∷ es) runs = cc
 

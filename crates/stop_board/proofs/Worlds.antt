@@ -37,7 +37,7 @@ use Rattle.stop_history.specs.Standing.{AreAt}
 use Rattle.stop_history.specs.State.{is_born, is_waitable, last_number, state_after}
 use Rattle.stop_history.specs.Word.{Word, claimed_phase, opening, phase_in, raised, shown, state_by, word_after}
 use Rattle.stop_history.specs.Word.{word_at, word_in}
-use Rattle.stop_board.specs.World.{ActorReplies, IsActor, Moment, Replies, actor_change, is_active, last_seen}
+use Rattle.stop_board.specs.World.{ActorReplies, IsActorWithPlaces, Moment, Replies, actor_change, is_active, last_seen}
 use Rattle.stop_board.specs.World.{seen_by, sight_at, sight_by, words_seen, words_seen_by, seen_with, seen_place}
 use Rattle.stop_history.proofs.AtomicSteps.{change_stands, not_running}
 use Rattle.stop_history.proofs.Events.{other_events}
@@ -271,7 +271,7 @@ actor_allowed rows m up (Some (Tracer tracer)) a r is = tracer_allowed rows m up
 
 -- an actor of the World has a place for what it last saw
 pub has_place : (rows tracers number places : ℕ) → tracers ≤ TRACERS → places ≡ tracers * rows
-    → IsActor rows places (numbered_actor rows tracers number)
+    → IsActorWithPlaces rows places (numbered_actor rows tracers number)
 has_place rows tracers number places few each =
     elim (cases_lt number rows) [
       | inl within ↦ rw (lt-ltb _ _ within) within

@@ -17,5 +17,5 @@ pub record IsHeld (rows : List Row) (words : List Word) : Type 0 where
   pub each : length words ≡ length rows
 
 -- the board represents a history; nobody takes a row up on a board
-abbrev pub Represents : Held → History → Type 0
-Represents board h = AreAt board.rows board.words none_taken h
+abbrev pub StandsAfter : Held → History → Type 0
+StandsAfter board h = AreAt board.rows board.words none_taken h

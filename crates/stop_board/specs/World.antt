@@ -113,10 +113,10 @@ is_active phase.Active = true
 is_active other = false
 
 -- an actor of these rows, with a place for what it last saw in each row
-abbrev pub IsActor : (rows places : ℕ) → Option Actor → Type 0
-IsActor rows places None = Unit {0}
-IsActor rows places (Some (Tracee row)) = row < rows
-IsActor rows places (Some (Tracer tracer)) = (tracer < TRACERS) × (tracer * rows + rows ≤ places)
+abbrev pub IsActorWithPlaces : (rows places : ℕ) → Option Actor → Type 0
+IsActorWithPlaces rows places None = Unit {0}
+IsActorWithPlaces rows places (Some (Tracee row)) = row < rows
+IsActorWithPlaces rows places (Some (Tracer tracer)) = (tracer < TRACERS) × (tracer * rows + rows ≤ places)
 
 abbrev pub sight_by : List Row → List Word → Sight
 sight_by rows words =

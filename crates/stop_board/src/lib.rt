@@ -1,15 +1,18 @@
 //! The stop cells of all tracees as plain data, for those who test a tracer without threads: the one-thread stop board,
 //! and the model of the cells under any interleaving of atomic steps. The board answers what one thread alone is
 //! answered; a World runs any interleaving of tracee and tracer steps. Both use the definitions of `stop_history`;
-//! what a user of the board or the World needs of it is exported here too.
+//! what a user of the board or the World needs of it is exported here too. `BoardWords` is a board that borrows its
+//! roster.
 #![tactic(auto)]
 
 mod board;
+mod board_words;
 pub mod laws;
 mod words;
 mod world;
 
 pub use board::Board;
+pub use board_words::BoardWords;
 pub use stop_history::{
     Actor, Got, LAST_ID, LAST_NUMBER, MOST_ROWS, NoMemory, Phase, Refused, Roster, RosterError,
     Row, State, TRACERS, Word, fault_after, place_of,

@@ -1,6 +1,7 @@
 //! The board and the World, and the rosters and words of `stop_history` that they keep.
 
 mod board;
+mod board_words;
 mod definitions;
 mod expected_words;
 mod families;

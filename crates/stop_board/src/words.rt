@@ -189,14 +189,27 @@ pub(crate) fn claim_at<A: Allocator>(
     ensures answer { result ≡ claim_by tracer (state_by roster.now words.old row) }
     ensures words { words.new ≡ with_word result words.old row (claimed (word_at words.old row) tracer) }
 {
-    if tracer >= TRACERS {
-        return Err(Refused::NoRow);
-    }
-    let got = waitable(state_of(roster, words, row))?;
+    let got = claimable(roster, words, row, tracer)?;
     let at = row as usize;
     // The claim happens here.
     words[at] = claimed(words[at], tracer as u8);
     Ok(got)
+}
+
+/// What a claim of a row by a tracer would get, or why it would get nothing.
+pub(crate) fn claimable<A: Allocator>(
+    roster: &Roster<A>,
+    words: &[Word],
+    row: u32,
+    tracer: u32,
+) -> Result<Got, Refused>
+    requires { length words.now ≡ length roster.now }
+    ensures { result ≡ claim_by tracer (state_by roster.now words.now row) }
+{
+    if tracer >= TRACERS {
+        return Err(Refused::NoRow);
+    }
+    waitable(state_of(roster, words, row))
 }
 
 /// What a claim of a row of this state gets, or why it gets nothing.

@@ -16,8 +16,8 @@ ghost use Rattle.stop_history.specs.Change.{words_with};
 ghost use Rattle.stop_history.specs.Roster.{IsRoster};
 ghost use Rattle.stop_history.specs.declared.limits.TheConstants.{MOST_ROWS, TRACERS};
 ghost use Rattle.stop_history.specs.Word.{word_at};
-ghost use Rattle.stop_board.specs.World.{ActorReplies, IsActor, actor_change, last_seen, sight_by, words_seen};
-ghost use Rattle.stop_board.specs.World.{words_seen_by};
+ghost use Rattle.stop_board.specs.World.{ActorReplies, IsActorWithPlaces, actor_change, last_seen, sight_by};
+ghost use Rattle.stop_board.specs.World.{words_seen, words_seen_by};
 
 mod action;
 mod one_thread;
@@ -184,7 +184,7 @@ fn step_of<A: Allocator>(
 ) -> Reply
     requires words { length words.old ≡ length roster.now }
     requires roster { IsRoster roster.now }
-    requires actor { IsActor (length roster.now) (length seen.old) actor }
+    requires actor { IsActorWithPlaces (length roster.now) (length seen.old) actor }
     requires action { IsAction action }
     ensures reply { ActorReplies roster.now (sight_by roster.now words.old)
         (last_seen roster.now seen.old) actor action result }

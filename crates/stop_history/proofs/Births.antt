@@ -10,7 +10,7 @@ use Rattle.stop_history.specs.declared.roster.Row.{Row}
 use Rattle.stop_history.specs.Event as event
 use Rattle.stop_history.specs.Event.{Event, History, events_of, subject}
 use Rattle.stop_history.specs.Roster.{IsRoster, parent_of, rank_of, row_at, row_of}
-use Rattle.stop_history.specs.State.{is_birth, names}
+use Rattle.stop_history.specs.State.{creates, is_birth}
 use Rattle.stop_history.specs.History.{IsLegal, births_after, is_next_child, names_next}
 use Rattle.stop_history.proofs.Events.{claim_births, exit_births, resume_births}
 use Rattle.stop_history.proofs.Rosters.{parent_of-Some, row_of-Some, row_of-tid, same_rank}
@@ -47,7 +47,7 @@ born_by_stop : (rows : List Row) → IsRoster rows → (row parent births : ℕ)
     → parent_of rows row ≡ Some parent
     → was ≡ nat_lt (rank_of rows row) births
     → (child : Option ℕ) → names_next rows parent births child ≡ true
-    → (names (row_at rows row).tid child || was)
+    → (creates (row_at rows row).tid child || was)
     ≡ nat_lt (rank_of rows row) (if is_some child then births + 1 else births)
 born_by_stop rows roster row parent births was within of_parent so_far None next = so_far
 born_by_stop rows roster row parent births was within of_parent so_far (Some tid) next =

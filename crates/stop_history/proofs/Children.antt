@@ -132,7 +132,7 @@ few_children rows roster row within =
     let all : children (row_at rows row).tid rows ≤ last = rw whole at counted in
     omega arith
 
--- a row that creates its next child has fewer than 63
+-- a row that creates its next child has fewer than 255
 pub next_is_few : (rows : List Row) → IsRoster rows → (parent births : ℕ) → parent < length rows → (tid : ℕ)
     → is_next_child rows parent births (row_of rows tid) ≡ true
     → births + 1 < MOST_ROWS

@@ -17,7 +17,7 @@ use Rattle.trace_record.specs.Stop.{IsStop, stop_status, stop_wait_status}
 use Rattle.trace_record.specs.Death.{IsDeath, death_status, death_wait_status}
 use Rattle.stop_history.specs.declared.phase.Phase.{Phase}
 use Rattle.stop_history.specs.declared.phase.Phase.TheVariants as phase
-use Rattle.stop_history.specs.Layout.{Kept, kept_of, kind_number, raw_of}
+use Rattle.stop_history.specs.Layout.{PhaseFields, kind_number, phase_fields, raw_of}
 use Rattle.stop_history.specs.declared.word.layout.TheConstants.{BIRTHS_BITS, KIND_BITS, NUMBER_BITS, SIGNAL_BITS}
 use Rattle.stop_history.specs.declared.word.layout.TheConstants.{STATE_BITS, STATUS_BITS}
 use Rattle.stop_history.specs.Word.{IsPhase, IsWord, Reports, Word, reports_death, reports_stop}
@@ -36,6 +36,8 @@ stop_reported (stop.Clone child) is =
 stop_reported (stop.Exec former) is =
     (stop_wait_status 0 (stop.Exec former), refl, (refl, (ptrace_event.Exec, refl), refl), refl)
 stop_reported (stop.Signal signal) is = (stop_wait_status 0 (stop.Signal signal), refl, (is, refl), refl)
+stop_reported (stop.Ending death) is =
+    (stop_wait_status 0 (stop.Ending death), refl, (refl, (ptrace_event.Exit, refl), refl), refl)
 
 -- each death's status reports a death
 pub death_reported : (death : Death) → IsDeath death → Reports reports_death (death_status death)
@@ -81,7 +83,7 @@ death_small raw (status.PtraceSyscall pid, of, is, tells) = cc
 death_small raw (status.StillAlive, of, is, tells) = cc
 
 -- each value fits its field
-record FitFields (p : Kept) : Type 0 where
+record FitFields (p : PhaseFields) : Type 0 where
   state : p.state < 2 ^ STATE_BITS
   status : p.status < 2 ^ STATUS_BITS
   kind : p.kind < 2 ^ KIND_BITS
@@ -91,7 +93,7 @@ kind_small : (k : Kind) → kind_number k < 2
 kind_small kind.Syscall = omega arith
 kind_small kind.Cont = omega arith
 
-kept_fits : (p : Phase) → IsPhase p → FitFields (kept_of p)
+kept_fits : (p : Phase) → IsPhase p → FitFields (phase_fields p)
 kept_fits phase.Fresh is =
     record { state = omega arith; status = omega arith; kind = omega arith; signal = omega arith }
 kept_fits (phase.Resumed how) is =
@@ -108,7 +110,7 @@ kept_fits phase.Reaped is =
     record { state = omega arith; status = omega arith; kind = omega arith; signal = omega arith }
 
 -- the phase of which this is kept
-abbrev phase_at : Kept → Option Phase
+abbrev phase_at : PhaseFields → Option Phase
 phase_at p =
     if p.state == 0 then Some phase.Fresh
     else if p.state == 1 then Some
@@ -123,7 +125,7 @@ kind_back : (k : Kind) → (if kind_number k == 0 then kind.Syscall else kind.Co
 kind_back kind.Syscall = refl
 kind_back kind.Cont = refl
 
-phase_back : (p : Phase) → IsPhase p → phase_at (kept_of p) ≡ Some p
+phase_back : (p : Phase) → IsPhase p → phase_at (phase_fields p) ≡ Some p
 phase_back phase.Fresh is = refl
 phase_back (phase.Resumed how) is =
     ap (λ k. Some (phase.Resumed (record { kind = k; signal = how.signal }))) (kind_back how.kind)
@@ -134,7 +136,7 @@ phase_back (phase.Dead raw) is = refl
 phase_back phase.Reaped is = refl
 
 -- phases of which the same is kept are one
-same_phase : (v w : Phase) → IsPhase v → IsPhase w → kept_of v ≡ kept_of w → v ≡ w
+same_phase : (v w : Phase) → IsPhase v → IsPhase w → phase_fields v ≡ phase_fields w → v ≡ w
 same_phase v w is_v is_w same =
     let e : Some v ≡ Some w = sym (phase_back v is_v) ∙ ap phase_at same ∙ phase_back w is_w in cc
 
@@ -153,7 +155,7 @@ same_word v w is_v is_w same =
     let status = same_from_place _ _ _ _ (2 ^ STATUS_BITS) fit_v.status fit_w.status number.0 in
     let kind = same_from_place _ _ _ _ (2 ^ KIND_BITS) fit_v.kind fit_w.kind status.0 in
     let signal = same_from_place _ _ _ _ (2 ^ SIGNAL_BITS) fit_v.signal fit_w.signal kind.0 in
-    let tracer : (kept_of v.phase).tracer ≡ (kept_of w.phase).tracer = (let last = signal.0 in omega arith) in
+    let tracer : (phase_fields v.phase).tracer ≡ (phase_fields w.phase).tracer = (let last = signal.0 in omega arith) in
     let phases = same_phase v.phase w.phase is_v.of_phase is_w.of_phase
     (λ i. record { state = state.1 i; status = status.1 i; kind = kind.1 i; signal = signal.1 i; tracer = tracer i })
     in

@@ -9,14 +9,14 @@ use Rattle.stop_history.specs.declared.word.layout.TheConstants.{BIRTHS_BITS, KI
 use Rattle.stop_history.specs.declared.word.layout.TheConstants.{STATE_BITS, STATUS_BITS}
 
 -- what is kept of a phase: its number, and the fields that it uses; the others are 0
-pub record Kept : Type 0 where
+pub record PhaseFields : Type 0 where
   pub state : ℕ
   pub status : ℕ
   pub kind : ℕ
   pub signal : ℕ
   pub tracer : ℕ
 
-abbrev pub kept : (state status kind signal tracer : ℕ) → Kept
+abbrev pub kept : (state status kind signal tracer : ℕ) → PhaseFields
 kept state status kind signal tracer =
     record { state = state; status = status; kind = kind; signal = signal; tracer = tracer }
 
@@ -25,16 +25,16 @@ kind_number Syscall = 0
 kind_number Cont = 1
 
 -- the low byte is the same in each stop's status (wait(2), WIFSTOPPED), and not kept
-abbrev pub kept_of : Phase → Kept
-kept_of Fresh = kept 0 0 0 0 0
-kept_of (Resumed how) = kept 1 0 (kind_number how.kind) how.signal 0
-kept_of Active = kept 2 0 0 0 0
-kept_of (Stopped status) = kept 3 (status / 0x100) 0 0 0
-kept_of (Claimed tracer) = kept 4 0 0 0 tracer
-kept_of (Dead status) = kept 5 status 0 0 0
-kept_of Reaped = kept 6 0 0 0 0
+abbrev pub phase_fields : Phase → PhaseFields
+phase_fields Fresh = kept 0 0 0 0 0
+phase_fields (Resumed how) = kept 1 0 (kind_number how.kind) how.signal 0
+phase_fields Active = kept 2 0 0 0 0
+phase_fields (Stopped status) = kept 3 (status / 0x100) 0 0 0
+phase_fields (Claimed tracer) = kept 4 0 0 0 tracer
+phase_fields (Dead status) = kept 5 status 0 0 0
+phase_fields Reaped = kept 6 0 0 0 0
 
--- the tracer has what is left up to bit 60
+-- the tracer has what is left up to bit 62
 abbrev pub tracer_bits : ℕ
 tracer_bits = 4
 
@@ -43,7 +43,7 @@ abbrev pub BitField : Type 0
 BitField = ℕ × ℕ
 
 -- the fields, from the lowest bit on
-abbrev pub fields_of : (births number : ℕ) → Kept → List BitField
+abbrev pub fields_of : (births number : ℕ) → PhaseFields → List BitField
 fields_of births number k =
     (STATE_BITS, k.state) ∷ (BIRTHS_BITS, births) ∷ (NUMBER_BITS, number) ∷ (STATUS_BITS, k.status)
     ∷ (KIND_BITS, k.kind) ∷ (SIGNAL_BITS, k.signal) ∷ (tracer_bits, k.tracer) ∷ []
@@ -55,4 +55,4 @@ raw_by (field ∷ fields) = raw_by fields * 2 ^ field.0 + field.1
 
 -- the packed word
 abbrev pub raw_of : Word → ℕ
-raw_of word = raw_by (fields_of word.births word.number (kept_of word.phase))
+raw_of word = raw_by (fields_of word.births word.number (phase_fields word.phase))

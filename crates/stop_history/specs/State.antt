@@ -13,13 +13,13 @@ use Rattle.stop_history.specs.Event.{Event, History, events_of}
 use Rattle.stop_history.specs.Roster.{row_at, parent_of}
 
 -- whether a stop creates the tracee of a tid
-abbrev pub names : ℕ → Option ℕ → Bool
-names tid None = false
-names tid (Some child) = child == tid
+abbrev pub creates : ℕ → Option ℕ → Bool
+creates tid None = false
+creates tid (Some child) = child == tid
 
 -- whether an event is a publish of the parent whose fork or clone names the tid
 abbrev pub is_birth : (parent tid : ℕ) → Event → Bool
-is_birth parent tid (event.Publish row number stop) = row == parent && names tid (child_of stop)
+is_birth parent tid (event.Publish row number stop) = row == parent && creates tid (child_of stop)
 is_birth parent tid other = false
 
 -- a root is born from the start, another row when its parent has created it

@@ -15,7 +15,9 @@ ghost use Rattle.stop_history.specs.Event.{Event, History, events_of, subject};
 ghost use Rattle.stop_history.specs.Roster.{IsPlaced, IsRoster, parent_of, rank_of, row_at};
 ghost use Rattle.stop_history.specs.declared.limits.TheConstants.{LAST_ID, LAST_NUMBER, MOST_ROWS, TRACERS};
 ghost use Rattle.stop_history.specs.State.{is_born, is_waitable, state_after};
-ghost use Rattle.stop_history.specs.Layout.{raw_of};
+ghost use Rattle.stop_history.specs.Layout.{raw_of, tracer_bits};
+ghost use Rattle.stop_history.specs.declared.word.layout.TheConstants.{BIRTHS_BITS, KIND_BITS, NUMBER_BITS};
+ghost use Rattle.stop_history.specs.declared.word.layout.TheConstants.{SIGNAL_BITS, STATE_BITS, STATUS_BITS};
 ghost use Rattle.stop_history.specs.Ranges.{AreInRange};
 ghost use Rattle.stop_history.specs.Over.{IsClosed, IsOver, is_gone};
 ghost use Rattle.stop_history.specs.Standing.{AreAt, AreBits, bits_with};
@@ -23,7 +25,7 @@ ghost use Rattle.stop_history.specs.Word.{IsWord, Word, phase_in, word_after};
 ghost use Rattle.stop_history.specs.History.{Fits, IsLegal, IsSettled, IsSilent, WasClaimed, births_after};
 ghost use Rattle.stop_history.specs.History.{is_born_child, stop_claims_in};
 
-/// A roster has at most 64 rows. Each of them is found by its tid and comes after its parent, whose process
+/// A roster has at most `MOST_ROWS` rows. Each of them is found by its tid and comes after its parent, whose process
 /// group it is in; it leads a thread group or is in its parent's; a root leads one.
 pub fn rows_are_placed()
     ensures few { (rows : List Row) → IsRoster rows → length rows ≤ MOST_ROWS }
@@ -177,8 +179,19 @@ pub fn over_stays_over()
 
 /// The limits: rows of a roster, ids, tracers, and the number of a row's last stop.
 pub fn limits_are_fixed()
-    ensures rows { MOST_ROWS ≡ 64 }
+    ensures rows { MOST_ROWS ≡ 256 }
     ensures ids { LAST_ID ≡ 4194303 }
     ensures tracers { TRACERS ≡ 16 }
     ensures numbers { LAST_NUMBER ≡ 16777215 }
+{}
+
+/// The widths of a word's fields in bits, from the lowest bit on (the table is at `Word`). Bit 63 is left.
+pub fn widths_are_fixed()
+    ensures state { STATE_BITS ≡ 3 }
+    ensures births { BIRTHS_BITS ≡ 8 }
+    ensures number { NUMBER_BITS ≡ 24 }
+    ensures status { STATUS_BITS ≡ 16 }
+    ensures kind { KIND_BITS ≡ 1 }
+    ensures signal { SIGNAL_BITS ≡ 7 }
+    ensures tracer { tracer_bits ≡ 4 }
 {}

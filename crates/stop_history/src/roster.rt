@@ -31,7 +31,7 @@ pub struct Row {
 /// Why rows are no roster. A number is the place of the first row that has a fault.
 #[derive(Clone, Copy, Debug, PartialEq, Eq, Hash)]
 pub enum RosterError {
-    /// There are more than 64 rows.
+    /// There are more than `MOST_ROWS` rows.
     TooMany,
     /// An id of the row is out of range.
     Number(u32),
@@ -159,7 +159,7 @@ impl<A: Allocator> Roster<A> {
         Ok(())
     }
 
-    /// How many rows there are, at most 64.
+    /// How many rows there are, at most `MOST_ROWS`.
     pub fn len(&self) -> u32
         ensures { result ≡ length self.now }
     {

@@ -10,22 +10,22 @@ use crate::phase::Phase;
 use std::marker::Model;
 pub use steps::{claimed, died, published, restarted, taken_up};
 
-/// A row's phase, the number of its children that are born, below 64, and the number of its last stop, 0 before any
-/// and at most 16,777,215. The opening word alone is fresh. The type keeps these ranges, and those of the phase: a
-/// word is written as a literal, and the literal is proved to be in range.
+/// A row's phase, the number of its children that are born, below `MOST_ROWS`, and the number of its last stop, 0
+/// before any and at most 16,777,215. The opening word alone is fresh. The type keeps these ranges, and those of the
+/// phase: a word is written as a literal, and the literal is proved to be in range.
 ///
 /// Its 64 bits (`pack`, `unpack`), with 0 in the fields that a phase does not use:
 ///
 /// | Bits | Field | Used in |
 /// |---|---|---|
 /// | 0 to 2 | the phase: 0 to 6 in the order of `Phase` | |
-/// | 3 to 8 | births | every phase |
-/// | 9 to 32 | number | every phase |
-/// | 33 to 48 | status: that of a stop without its low byte, that of a death | `Stopped`, `Dead` |
-/// | 49 | kind of the restart: 0 `Syscall`, 1 `Cont` | `Resumed` |
-/// | 50 to 56 | signal of the restart | `Resumed` |
-/// | 57 to 60 | tracer | `Claimed` |
-/// | 61 to 63 | 0 | |
+/// | 3 to 10 | births | every phase |
+/// | 11 to 34 | number | every phase |
+/// | 35 to 50 | status: that of a stop without its low byte, that of a death | `Stopped`, `Dead` |
+/// | 51 | kind of the restart: 0 `Syscall`, 1 `Cont` | `Resumed` |
+/// | 52 to 58 | signal of the restart | `Resumed` |
+/// | 59 to 62 | tracer | `Claimed` |
+/// | 63 | 0 | |
 #[derive(Clone, Copy, Debug, PartialEq, Eq, Hash)]
 pub struct Word {
     pub phase: Phase,

@@ -22,8 +22,8 @@ use Rattle.stop_history.specs.Ranges.{IsInRange}
 use Rattle.stop_history.specs.Word.{shown, word_after}
 use Rattle.stop_history.proofs.AtomicSteps.{kept, lowered, own_word}
 use Rattle.stop_history.proofs.States.{runs_on}
-use Rattle.stop_table.specs.Entry.{Cell, Entry, GoesOn, IsCarried, cell_after, history_of, word_of}
-use Rattle.stop_table.specs.Rule.{Follows, IsHome, IsKept, Lies}
+use Rattle.stop_table.specs.Entry.{Cell, Entry, GoesOn, IsCarried, cell_after, content_after, history_of, word_of}
+use Rattle.stop_table.specs.Rule.{IsHome, IsViewOf, KeepsRule, Lies}
 use Rattle.stop_table.specs.Place.{place}
 use Rattle.stop_table.specs.Steps.{Seated, Sees, at_seen, found_by, looked, looked_on}
 use Rattle.stop_table.specs.View.{Observation, View, actors_of, an_exchange, is_among, a_look}
@@ -32,9 +32,9 @@ use Rattle.stop_table.proofs.Moves.{Homes, St, at_place, moves}
 
 -- ---- what is common to all kinds
 
-module _ (me : Seated) (s : St) (k : IsKept me.0.roster s) (id t : ℕ) (at : get_elem? s.views id ≡ some me.0)
+module _ (me : Seated) (s : St) (k : KeepsRule me.0.roster s) (id t : ℕ) (at : get_elem? s.views id ≡ some me.0)
     (there : t < length me.0.roster) where
-  abbrev pub followed : Follows k.history k.taken me.0
+  abbrev pub followed : IsViewOf k.history k.taken me.0
   followed = k.follows id me.0 at
 
   pub on : GoesOn (actors_of me.0) me.0.seen k.history
@@ -49,7 +49,7 @@ module _ (me : Seated) (s : St) (k : IsKept me.0.roster s) (id t : ℕ) (at : ge
   abbrev pub look_view : (List Entry → Observation) → View
   look_view by = at_seen me.0 by k.history me.0.taken
 
-  pub look_kept : (by : List Entry → Observation) → IsKept me.0.roster
+  pub look_kept : (by : List Entry → Observation) → KeepsRule me.0.roster
       (record { words = slice_set s.words (place t) (slice_index s.words (place t)); homes = s.homes; views = slice_set s.views id (look_view by) })
   look_kept by =
       moves me.0.roster s k id t (slice_index s.words (place t)) me.0 (look_view by) [] k.taken s.homes there at
@@ -86,7 +86,7 @@ module _ (me : Seated) (s : St) (k : IsKept me.0.roster s) (id t : ℕ) (at : ge
     pub own : subject x.event ≡ t
     pub fits : Fits me.0.roster (history_of k.history) x.event
     pub ranged : IsInRange x.event
-    pub carried : IsCarried me.0.roster x.event x.content
+    pub carried : IsCarried me.0.roster (content_after me.0.roster k.history (subject x.event)) x.event x.content
     pub word : n ≡ raw_of (word_after_event (word_of (k.taken t) (cell_after me.0.roster k.history t)) x.event)
     pub home : IsHome false (cell_after me.0.roster (x ∷ k.history) t) (get_elem? homes (place t))
     pub as_long : length homes ≡ length s.homes
@@ -98,7 +98,7 @@ module _ (me : Seated) (s : St) (k : IsKept me.0.roster s) (id t : ℕ) (at : ge
   abbrev pub made_view : Entry → Bool → View
   made_view x taken = at_seen me.0 (an_exchange t) (x ∷ k.history) taken
 
-  pub made_kept : (n : ℕ) (x : Entry) (taken : Bool) (homes : Homes) → Makes n x taken homes → IsKept me.0.roster
+  pub made_kept : (n : ℕ) (x : Entry) (taken : Bool) (homes : Homes) → Makes n x taken homes → KeepsRule me.0.roster
       (record { words = slice_set s.words (place t) n; homes = homes; views = slice_set s.views id (made_view x taken) })
   made_kept n x taken homes m =
       let next = taken_with (Happened x.event) k.taken in
@@ -142,7 +142,7 @@ module _ (me : Seated) (s : St) (k : IsKept me.0.roster s) (id t : ℕ) (at : ge
 -- ---- looks
 
 pub loads : (me : Seated) (slots id t : ℕ) → t < length me.0.roster
-    → Allows (IsKept me.0.roster) slots id me (place t) (λ n. n) (looked (step slots (place t) 0 0 none) me)
+    → Allows (KeepsRule me.0.roster) slots id me (place t) (λ n. n) (looked (step slots (place t) 0 0 none) me)
 loads me slots id t there s k sized at bounded = (
   look_view me s k id t at there (a_look t),
   keeps,

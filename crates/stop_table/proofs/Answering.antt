@@ -18,7 +18,7 @@ use Rattle.stop_history.specs.Event.{Event, History, events_of, subject}
 use Rattle.stop_history.specs.History.{WasClaimed}
 use Rattle.stop_history.specs.Ranges.{IsInRange}
 use Rattle.stop_history.specs.State.{is_born, is_waitable, number_in, state_after}
-use Rattle.stop_history.specs.Step.{claimed as claimed_word, claimed_by}
+use Rattle.stop_history.specs.Step.{claimed, claimed_by}
 use Rattle.stop_history.specs.Word.{Word, claimed_phase, phase_in, shown}
 use Rattle.stop_history.proofs.AtomicSteps.{claimed_left}
 use Rattle.stop_history.proofs.Events.{other_events, own_events}
@@ -42,6 +42,7 @@ use Rattle.stop_table.proofs.Entries.{quiet_sooner, same_cell, shown_state}
 use Rattle.stop_table.proofs.Moves.{not_both}
 use Rattle.stop_table.proofs.Walking.{ended_with, ends_from, goes_from, look_step, looked_on, looks_from, lost_since_from}
 use Rattle.stop_table.proofs.Walking.{one_look, sees_same, state_seen, step_from, step_on}
+use Rattle.stop_table.proofs.Written.{unwritten}
 
 -- ---- looks
 
@@ -82,15 +83,15 @@ claimed_not_dead tracer status (event.Claim row number other ∷ es) is = cc
 claimed_not_dead tracer status (event.Resume row number how other ∷ es) is = cc
 claimed_not_dead tracer status (event.Exit row death ∷ es) is = cc
 
-own_status : (rows : List Row) (es : List Event) (e : Event) (carried before : Content) (status : ℕ)
-    → IsCarried rows e carried → phase_in (e ∷ es) ≡ phase.Stopped status
+own_status : (rows : List Row) (es : List Event) (e : Event) (carried before old : Content) (status : ℕ)
+    → IsCarried rows old e carried → phase_in (e ∷ es) ≡ phase.Stopped status
     → status ≡ stop_status (content_with e carried before).stop
-own_status rows es (event.Publish row number stop) carried before status is at =
+own_status rows es (event.Publish row number stop) carried before old status is at =
     (let same : stop_status stop ≡ status = cc in sym same) ∙ ap stop_status (sym is.2)
-own_status rows es (event.Claim row number tracer) carried before status is at =
+own_status rows es (event.Claim row number tracer) carried before old status is at =
     absurd (claimed_not_stopped tracer status es at)
-own_status rows es (event.Resume row number how tracer) carried before status is at = cc
-own_status rows es (event.Exit row death) carried before status is at = cc
+own_status rows es (event.Resume row number how tracer) carried before old status is at = cc
+own_status rows es (event.Exit row death) carried before old status is at = cc
 
 -- a row that stands at a stop has the status of its last publish
 content_status : (rows : List Row) (h : List Entry) → AreLegal rows h → (row status : ℕ)
@@ -101,7 +102,8 @@ content_status rows (x ∷ h) legal row status is =
     elim (cases_eq (subject x.event) row) [
       | inl own ↦
           rw (eq-eqb _ _ own)
-          (own_status rows (events_of row (history_of h)) x.event x.content (content_after rows h row) status legal.0.2
+          (own_status rows (events_of row (history_of h)) x.event x.content (content_after rows h row)
+          (content_after rows h (subject x.event)) status legal.0.2
           (ap phase_in (sym (own_events row x.event (history_of h) own)) ∙ is))
       | inr other ↦
           rw (ne_eqb _ _ other)
@@ -161,10 +163,10 @@ module _ (m n : Seated) (row : ℕ) (seen : Word) (h : List Entry) (there : row 
       ∙ ap (λ (w : Word). shown true w.number p) (sym word)
 
   -- the word that the claim leaves
-  word_after : claimed_word seen m.0.number ≡ word_of false (cell_after n.0.roster n.0.seen row)
+  word_after : claimed seen m.0.number ≡ word_of false (cell_after n.0.roster n.0.seen row)
   word_after =
       let same = sees_same m.0 n.0 h (entry ∷ []) m.0.taken s in
-      ap (λ w. claimed_word w m.0.number) word
+      ap (λ w. claimed w m.0.number) word
       ∙ (λ j. record {
         phase = claimed_left m.0.number (events_of row (history_of h)) j;
         births = (cell_after m.0.roster h row).births;
@@ -184,7 +186,7 @@ module _ (m n : Seated) (row : ℕ) (seen : Word) (h : List Entry) (there : row 
 pub did_claim : (m n : Seated) (row status : ℕ) (seen : Word) (content : Content) → row < length m.0.roster
     → is_born m.0.roster (history_of m.0.seen) row ≡ true → TookStop m n row seen content
     → seen.phase ≡ phase.Stopped status
-    → Claims m.0 n.0 row content × IsHolding n.0 row (claimed_word seen m.0.number) content
+    → Claims m.0 n.0 row content × IsHolding n.0 row (claimed seen m.0.number) content
 did_claim m n row status seen content there born took phase_is =
     let h = took.1 in
     let s = took.2.0 in
@@ -208,7 +210,7 @@ did_claim m n row status seen content there born took phase_is =
       record {
         is_phase = ap (claimed_by m.0.number) phase_is ∙ ap phase.Claimed (sym same.number);
         is_word = word_after m n row seen h there born s word p phase_is;
-        is_content = took.3 ∙ sym (content_kept m n row seen h there born s word p phase_is);
+        is_content = unwritten _ _ (took.3 ∙ sym (content_kept m n row seen h there born s word p phase_is));
       },
     )
 

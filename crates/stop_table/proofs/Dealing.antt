@@ -15,7 +15,7 @@ use Rattle.stop_history.specs.Actor.{IsQuiet, actor_of}
 use Rattle.stop_history.specs.Event.{History}
 use Rattle.stop_table.specs.Entry.{Entry, history_of}
 use Rattle.stop_table.specs.Opening.{first_row, first_tracer, later_rows, later_tracers, new_view, only, others_of}
-use Rattle.stop_table.specs.Rule.{AllGoOn, Follows, IsKept}
+use Rattle.stop_table.specs.Rule.{AllGoOn, IsViewOf, KeepsRule}
 use Rattle.stop_table.specs.Steps.{Seated}
 use Rattle.stop_table.specs.Tracer.{AreApart}
 use Rattle.stop_table.specs.View.{View, actors_of, is_among}
@@ -85,7 +85,7 @@ inside_quiet fewer actors inside (e ∷ h) quiet = (
 -- a part of a view that follows the history follows it too
 part_follows : (h : List Entry) (taken : ℕ → Bool) (v part : View)
     → ((a : Actor) → actors_of part a ≡ true → actors_of v a ≡ true) → part.seen ≡ v.seen → part.told ≡ []
-    → part.taken ≡ v.taken → Follows h taken v → Follows h taken part
+    → part.taken ≡ v.taken → IsViewOf h taken v → IsViewOf h taken part
 part_follows h taken v part inside seen told is_taken follows = record {
   more = follows.more;
   goes_on = follows.goes_on ∙ ap (λ s. follows.more ++ s) (sym seen);
@@ -110,7 +110,8 @@ at_end (x ∷ vs) last v (suc i) at =
       | inr here ↦ inr (ap suc here.0, here.1)
     ]
 
-module _ (roster : List Row) (s : Table (Option Content) View) (kept : IsKept roster s) (id : ℕ) (v left right : View)
+module _ (roster : List Row) (s : Table (Option Content) View) (kept : KeepsRule roster s) (id : ℕ)
+    (v left right : View)
     (at : get_elem? s.views id ≡ some v) (cut : Cut v left right) where
   abbrev after : List View
   after = set s.views id left ++ right ∷ []
@@ -139,14 +140,14 @@ module _ (roster : List Row) (s : Table (Option Content) View) (kept : IsKept ro
   other_there i w other found =
       at_longer (set s.views id left) (right ∷ []) i w (set_else s.views id i left other ∙ found)
 
-  cut_follows : (i : ℕ) (w : View) → Place i w → Follows kept.history kept.taken w
+  cut_follows : (i : ℕ) (w : View) → Place i w → IsViewOf kept.history kept.taken w
   cut_follows i w (inl (inl here)) =
-      subst (Follows kept.history kept.taken) here.1
+      subst (IsViewOf kept.history kept.taken) here.1
       (part_follows kept.history kept.taken v left cut.inside_left cut.seen_left cut.told_left cut.taken_left
       (kept.follows id v at))
   cut_follows i w (inl (inr other)) = kept.follows i w other.1
   cut_follows i w (inr here) =
-      subst (Follows kept.history kept.taken) here.1
+      subst (IsViewOf kept.history kept.taken) here.1
       (part_follows kept.history kept.taken v right cut.inside_right cut.seen_right cut.told_right cut.taken_right
       (kept.follows id v at))
 
@@ -221,7 +222,7 @@ module _ (roster : List Row) (s : Table (Option Content) View) (kept : IsKept ro
       ]
 
   -- the rule holds with the two views in place of the one
-  cut_kept : IsKept roster record { words = s.words; homes = s.homes; views = after }
+  cut_kept : KeepsRule roster record { words = s.words; homes = s.homes; views = after }
   cut_kept = record {
     history = kept.history;
     taken = kept.taken;
@@ -239,7 +240,7 @@ module _ (roster : List Row) (s : Table (Option Content) View) (kept : IsKept ro
   }
 
 splits : (roster : List Row) (id : ℕ) (v left right : View) → Cut v left right
-    → Splits (IsKept roster) id v left right
+    → Splits (KeepsRule roster) id v left right
 splits roster id v left right cut s kept at = cut_kept roster s kept id v left right at cut
 
 -- ---- a row is given away, and a tracer
@@ -301,7 +302,7 @@ tracer_cut v apart = record {
 -- the first row of a new seat is given away
 pub splits_row : (roster rows : List Row) (id from count number : ℕ) (tracers : List ℕ) (m : Seated)
     → m ≡ (new_view rows (range_with_len from count) number tracers, [])
-    → Splits (IsKept roster) id m.0 (later_rows m.0) (first_row m.0)
+    → Splits (KeepsRule roster) id m.0 (later_rows m.0) (first_row m.0)
 splits_row roster rows id from count number tracers m is =
     splits roster id m.0 (later_rows m.0) (first_row m.0)
     (row_cut m.0 (subst (λ (s : Seated). AreApart s.0.tracees) (sym is) (range_apart from count)))
@@ -309,7 +310,7 @@ splits_row roster rows id from count number tracers m is =
 -- the first tracer of a new seat is given away
 pub splits_tracer : (roster rows : List Row) (id from count number : ℕ) (m : Seated)
     → m ≡ (new_view rows [] number (range_with_len from count), [])
-    → Splits (IsKept roster) id m.0 (later_tracers m.0) (first_tracer m.0)
+    → Splits (KeepsRule roster) id m.0 (later_tracers m.0) (first_tracer m.0)
 splits_tracer roster rows id from count number m is =
     splits roster id m.0 (later_tracers m.0) (first_tracer m.0)
     (tracer_cut m.0 (subst (λ (s : Seated). AreApart s.0.tracers) (sym is) (range_apart from count)))

@@ -170,14 +170,15 @@ shown_state rows h row within =
 
 -- what a row's own entry leaves carries the tid of the row and the number of its last stop
 own_number : (rows : List Row) (row : ℕ) (es : List Event) (e : Event) (carried before : Content) → subject e ≡ row
-    → IsCarried rows e carried
+    → IsCarried rows before e carried
     → (before.number ≡ number_in es) × (before.tid ≡ (row_at rows row).tid)
     → ((content_with e carried before).number ≡ number_in (e ∷ es))
     × ((content_with e carried before).tid ≡ (row_at rows row).tid)
 own_number rows row es (event.Publish at number stop) carried before own is was =
     (is.1, is.0 ∙ ap (λ r. (row_at rows r).tid) own)
 own_number rows row es (event.Claim at number tracer) carried before own is was = was
-own_number rows row es (event.Resume at number how tracer) carried before own is was = was
+own_number rows row es (event.Resume at number how tracer) carried before own is was =
+    (is.number ∙ was.0, is.tid ∙ was.1)
 own_number rows row es (event.Exit at death) carried before own is was = was
 
 -- the content of a row is that of its tracee, with the number of its last stop
@@ -190,8 +191,8 @@ content_number rows (x ∷ h) legal row =
     elim (cases_eq (subject x.event) row) [
       | inl own ↦
           rw (eq-eqb _ _ own)
-          (own_number rows row (events_of row (history_of h)) x.event x.content (content_after rows h row) own legal.0.2
-          before)
+          (own_number rows row (events_of row (history_of h)) x.event x.content (content_after rows h row) own
+          (subst (λ r. IsCarried rows (content_after rows h r) x.event x.content) own legal.0.2) before)
       | inr other ↦ rw (ne_eqb _ _ other) before
     ]
 

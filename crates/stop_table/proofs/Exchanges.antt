@@ -30,17 +30,18 @@ use Rattle.stop_history.specs.History.{Fits, creates_next}
 use Rattle.stop_history.specs.Layout.{raw_of}
 use Rattle.stop_history.specs.Roster.{row_at}
 use Rattle.stop_history.specs.State.{is_born, is_waitable, state_after}
-use Rattle.stop_history.specs.Step.{claimed as claimed_word, claimed_by, died, published, restarted}
+use Rattle.stop_history.specs.Step.{claimed, claimed_by, died, published, restarted}
 use Rattle.stop_history.specs.Word.{IsWord, Word, shown}
 use Rattle.stop_history.proofs.AtomicSteps.{claimed_left}
 use Rattle.stop_history.proofs.Words.{same_word}
-use Rattle.stop_table.specs.Entry.{Cell, Entry, bare, cell_after, history_of, publish_of, word_of}
+use Rattle.stop_table.specs.Entry.{Cell, Entry, bare, cell_after, history_of, publish_of, resume_of, word_of}
 use Rattle.stop_table.specs.Group.{IsGroupSettled}
-use Rattle.stop_table.specs.Rule.{IsHome, IsKept, Lies}
+use Rattle.stop_table.specs.Rule.{IsHome, KeepsRule, Lies}
 use Rattle.stop_table.specs.Place.{place}
-use Rattle.stop_table.specs.Steps.{Seated, Sees, at_seen, claimed, claimed_on, claims_on, exited, exited_on, publishes}
-use Rattle.stop_table.specs.Steps.{publishes_on, reaped, reaped_on, resumed, resumed_on, took, took_on}
+use Rattle.stop_table.specs.Steps.{Seated, Sees, at_seen, claimed_on, claims_on, claims_stop, exited, exited_on}
+use Rattle.stop_table.specs.Steps.{publishes, publishes_on, reaped, reaped_on, resumed, resumed_on, takes_up, took_on}
 use Rattle.stop_table.specs.View.{View, actors_of, an_exchange, is_among}
+use Rattle.stop_table.specs.Written.{IsWrittenOver}
 use Rattle.stop_table.proofs.Allowed.{Makes, acts_for, followed, hand_is, look_kept, look_told, look_view, made_kept, made_told}
 use Rattle.stop_table.proofs.Allowed.{made_view, not_taken, on, only_one, restart_lies, restart_mover, restart_runs, still}
 use Rattle.stop_table.proofs.Entries.{born_on, own_cell, shown_state, word_ranged}
@@ -50,7 +51,7 @@ use Rattle.stop_table.proofs.Moves.{Homes, St, at_place, moves, not_both, places
 -- what an exchange on the word t has to show, of the number that it leaves there
 abbrev Leaves : (me : Seated) (s : St) (id t : ℕ) (then : ℕ → Seated → Type 0) → ℕ → Type 0
 Leaves me s id t then n =
-    (w : View) × (a : Act (Option Content)) × Valid s.homes me.1 a × IsKept me.0.roster (stepped s t n id me.1 w a)
+    (w : View) × (a : Act (Option Content)) × Valid s.homes me.1 a × KeepsRule me.0.roster (stepped s t n id me.1 w a)
     × then (slice_index s.words t) (w, carried_after me.1 a)
 
 -- an exchange of a word that is known to be there
@@ -88,7 +89,8 @@ pub publish_allowed : (me : Seated) (slots id t old new : ℕ) (r : Content) →
     → creates_next me.0.roster t (cell_after me.0.roster me.0.seen t).births r.stop ≡ true
     → old ≡ raw_of (word_of true (cell_after me.0.roster me.0.seen t))
     → new ≡ raw_of (published (word_of true (cell_after me.0.roster me.0.seen t)) r.stop)
-    → Allows (IsKept me.0.roster) slots id me (place t) (λ n. either (eqb n old) new n) (publishes (step slots (place t) old new none) me)
+    → Allows (KeepsRule me.0.roster) slots id me (place t) (λ n. either (eqb n old) new n)
+    (publishes (step slots (place t) old new none) me)
 publish_allowed me slots id t old new r there own taken moved hand tid number few stop birth old_is new_is s k sized at
     bounded =
     let mine = acts_for t me.0.tracees own in
@@ -144,7 +146,8 @@ pub take_up_allowed : (me : Seated) (slots id t old new : ℕ) (how : Restart) �
     → restart_in (cell_after me.0.roster me.0.seen t).phase ≡ Ok how
     → old ≡ raw_of (word_of false (cell_after me.0.roster me.0.seen t))
     → new ≡ raw_of (word_of true (cell_after me.0.roster me.0.seen t))
-    → Allows (IsKept me.0.roster) slots id me (place t) (λ n. either (eqb n old) new n) (took (step slots (place t) old new none) me)
+    → Allows (KeepsRule me.0.roster) slots id me (place t) (λ n. either (eqb n old) new n)
+    (takes_up (step slots (place t) old new none) me)
 take_up_allowed me slots id t old new how there own idle born restart old_is new_is s k sized at bounded =
     let mine = acts_for t me.0.tracees own in
     let same = still me s k id t at there
@@ -171,7 +174,7 @@ take_up_allowed me slots id t old new how there own idle born restart old_is new
     let still_taken : (u : ℕ) → u ≢ t → next u ≡ k.taken u = (λ u other. rw (ne_eqb u t other) refl) in
     let w : View = at_seen me.0 (an_exchange t) k.history true in
     let homes : Homes = slice_set s.homes (place t) none in
-    hits me s id (place t) old new (took (step slots (place t) old new none) me) found (
+    hits me s id (place t) old new (takes_up (step slots (place t) old new none) me) found (
       w,
       takes (place t) (Some (cell_after me.0.roster k.history t).content),
       lies,
@@ -210,7 +213,7 @@ take_up_allowed me slots id t old new how there own idle born restart old_is new
 -- ---- a tracer claims what stands there
 
 -- the row whose word is the one that was seen
-waits_now : (me : Seated) (s : St) (k : IsKept me.0.roster s) (t : ℕ) (seen : Word) → t < length me.0.roster
+waits_now : (me : Seated) (s : St) (k : KeepsRule me.0.roster s) (t : ℕ) (seen : Word) → t < length me.0.roster
     → IsWord seen → slice_index s.words (place t) ≡ raw_of seen → word_of (k.taken t) (cell_after me.0.roster k.history t) ≡ seen
 waits_now me s k t seen there ranged found =
     same_word (word_of (k.taken t) (cell_after me.0.roster k.history t)) seen
@@ -223,7 +226,7 @@ claimed_phase_of rows h row number tracer p is =
     ap (λ (c : Cell). c.phase) (own_cell rows (bare (event.Claim row number tracer)) h row refl)
     ∙ sym (claimed_left tracer (events_of row (history_of h))) ∙ ap (claimed_by tracer) is
 
-module _ (me : Seated) (s : St) (k : IsKept me.0.roster s) (id t : ℕ) (at : get_elem? s.views id ≡ some me.0)
+module _ (me : Seated) (s : St) (k : KeepsRule me.0.roster s) (id t : ℕ) (at : get_elem? s.views id ≡ some me.0)
     (there : t < length me.0.roster) (mine : is_among me.0.number me.0.tracers ≡ true) (few : me.0.number < TRACERS)
     (seen : Word) (ranged : IsWord seen) (p : Phase) (phase_is : seen.phase ≡ p) (waits : (b : Bool) (n : ℕ) → is_waitable (shown b n p) ≡ true)
     (other_phase : p ≢ phase.Active) (found : slice_index s.words (place t) ≡ raw_of seen) where
@@ -244,12 +247,12 @@ module _ (me : Seated) (s : St) (k : IsKept me.0.roster s) (id t : ℕ) (at : ge
     refl,
   )
 
-  claim_word : (new : ℕ) → new ≡ raw_of (claimed_word seen me.0.number)
+  claim_word : (new : ℕ) → new ≡ raw_of (claimed seen me.0.number)
       → new ≡ raw_of (word_after_event (word_of (k.taken t) (cell_after me.0.roster k.history t)) the_claim.event)
   claim_word new new_is =
-      new_is ∙ ap (λ w. raw_of (claimed_word w me.0.number)) (sym (waits_now me s k t seen there ranged found))
+      new_is ∙ ap (λ w. raw_of (claimed w me.0.number)) (sym (waits_now me s k t seen there ranged found))
 
-  claim_makes : (new : ℕ) → new ≡ raw_of (claimed_word seen me.0.number) → (homes : Homes)
+  claim_makes : (new : ℕ) → new ≡ raw_of (claimed seen me.0.number) → (homes : Homes)
       → IsHome false (cell_after me.0.roster (the_claim ∷ k.history) t) (get_elem? homes (place t))
       → length homes ≡ length s.homes → ((u : ℕ) → u ≢ t → get_elem? homes (place u) ≡ get_elem? s.homes (place u))
       → Makes me s k id t at there new the_claim me.0.taken homes
@@ -293,15 +296,17 @@ dead_is_not_active status same = cc
 
 pub claim_allowed : (me : Seated) (slots id t old new status : ℕ) (seen : Word) → t < length me.0.roster
     → is_among me.0.number me.0.tracers ≡ true → me.0.number < TRACERS
-    → IsWord seen → seen.phase ≡ phase.Stopped status → old ≡ raw_of seen → new ≡ raw_of (claimed_word seen me.0.number)
-    → Allows (IsKept me.0.roster) slots id me (place t) (λ n. either (eqb n old) new n) (claimed (step slots (place t) old new none) me)
+    → IsWord seen → seen.phase ≡ phase.Stopped status → old ≡ raw_of seen → new ≡ raw_of (claimed seen me.0.number)
+    → Allows (KeepsRule me.0.roster) slots id me (place t) (λ n. either (eqb n old) new n)
+    (claims_stop (step slots (place t) old new none) me)
 claim_allowed me slots id t old new status seen there mine few ranged phase_is old_is new_is s k sized at bounded =
     let p = phase.Stopped status in
     let waits = waits_stopped status in
     let other_phase = stopped_is_not_active status in
     let within : place t < length s.homes = (let long = k.homes_are in omega arith) in
     let homes : Homes = slice_set s.homes (place t) none in
-    exchanged (slice_index s.words (place t)) old new (Leaves me s id (place t) (claimed (step slots (place t) old new none) me))
+    exchanged (slice_index s.words (place t)) old new
+    (Leaves me s id (place t) (claims_stop (step slots (place t) old new none) me))
     (λ hit.
     let found : slice_index s.words (place t) ≡ raw_of seen = hit ∙ old_is in
     let before = home_before me s k id t at there mine few seen ranged p phase_is waits other_phase found in
@@ -349,8 +354,9 @@ claim_allowed me slots id t old new status seen there mine few ranged phase_is o
 
 pub reap_allowed : (me : Seated) (slots id t old new status : ℕ) (seen : Word) → t < length me.0.roster
     → is_among me.0.number me.0.tracers ≡ true → me.0.number < TRACERS
-    → IsWord seen → seen.phase ≡ phase.Dead status → old ≡ raw_of seen → new ≡ raw_of (claimed_word seen me.0.number)
-    → Allows (IsKept me.0.roster) slots id me (place t) (λ n. either (eqb n old) new n) (reaped (step slots (place t) old new none) me)
+    → IsWord seen → seen.phase ≡ phase.Dead status → old ≡ raw_of seen → new ≡ raw_of (claimed seen me.0.number)
+    → Allows (KeepsRule me.0.roster) slots id me (place t) (λ n. either (eqb n old) new n)
+    (reaped (step slots (place t) old new none) me)
 reap_allowed me slots id t old new status seen there mine few ranged phase_is old_is new_is s k sized at bounded =
     let p = phase.Dead status in
     let waits = waits_dead status in
@@ -399,7 +405,7 @@ reap_allowed me slots id t old new status seen there mine few ranged phase_is ol
 -- ---- a tracer resumes what it has claimed
 
 -- a row that is taken up runs, so a claimed one is not taken up
-not_up : (me : Seated) (s : St) (k : IsKept me.0.roster s) (t tracer : ℕ) → t < length me.0.roster
+not_up : (me : Seated) (s : St) (k : KeepsRule me.0.roster s) (t tracer : ℕ) → t < length me.0.roster
     → (cell_after me.0.roster k.history t).phase ≡ phase.Claimed tracer → k.taken t ≡ false
 not_up me s k t tracer there is =
     not_both (k.taken t)
@@ -410,10 +416,11 @@ not_up me s k t tracer there is =
 pub resume_allowed : (me : Seated) (slots id t old new : ℕ) (how : Restart) (r : Content) → t < length me.0.roster
     → is_among me.0.number me.0.tracers ≡ true → me.0.number < TRACERS
     → (cell_after me.0.roster me.0.seen t).phase ≡ phase.Claimed me.0.number → me.1 ≡ (place t, Some r) ∷ rest me.1
-    → r ≡ (cell_after me.0.roster me.0.seen t).content → IsResume how
+    → IsWrittenOver (cell_after me.0.roster me.0.seen t).content r → IsResume how
     → old ≡ raw_of (word_of false (cell_after me.0.roster me.0.seen t))
     → new ≡ raw_of (restarted (word_of false (cell_after me.0.roster me.0.seen t)) how)
-    → Allows (IsKept me.0.roster) slots id me (place t) (λ n. either (eqb n old) new n) (resumed (step slots (place t) old new none) me)
+    → Allows (KeepsRule me.0.roster) slots id me (place t) (λ n. either (eqb n old) new n)
+    (resumed (step slots (place t) old new none) me)
 resume_allowed me slots id t old new how r there mine few is hand content ranged old_is new_is s k sized at bounded =
     let same = still me s k id t at there (ap (λ p. is_moved_by (actors_of me.0) (mover_of t p)) is ∙ mine) in
     let is_now : (cell_after me.0.roster k.history t).phase ≡ phase.Claimed me.0.number =
@@ -423,7 +430,7 @@ resume_allowed me slots id t old new how r there mine few is hand content ranged
     (k.rows t there).word ∙ (λ j. raw_of (word_of (low j) (same j))) ∙ sym old_is in
     let within : place t < length s.homes = (let long = k.homes_are in omega arith) in
     let number = (cell_after me.0.roster me.0.seen t).number in
-    let x = bare (event.Resume t number how me.0.number) in
+    let x = resume_of t number how me.0.number r in
     let homes = back me s (place t) r hand within in
     let m : Makes me s k id t at there new x me.0.taken homes = record {
       own = refl;
@@ -431,12 +438,12 @@ resume_allowed me slots id t old new how r there mine few is hand content ranged
           ∙ ap (shown (is_born me.0.roster (history_of k.history) t) (cell_after me.0.roster k.history t).number) is_now
           ∙ ap (λ (c : Cell). state.Claimed c.number me.0.number) same;
       ranged = (ranged, few);
-      carried = tt;
+      carried = subst (λ (c : Cell). IsWrittenOver c.content r) (sym same) content;
       word = new_is ∙ sym (λ j. raw_of (restarted (word_of (low j) (same j)) how));
       home = subst (λ c. IsHome false c (get_elem? homes (place t))) (sym (own_cell me.0.roster x k.history t refl)) (
         some (Some r),
         back_here me s (place t) r hand within,
-        ap (λ q. some (Some q)) (content ∙ ap (λ (c : Cell). c.content) (sym same)),
+        refl,
       );
       as_long = back_long me s (place t) r hand within;
       other_homes = λ u other. back_others me s (place t) r hand within (place u) (places_differ u t other);
@@ -452,7 +459,14 @@ resume_allowed me slots id t old new how r there mine few is hand content ranged
       at_place
           (λ row. resumed_on (step slots (place t) old new none) row me
           (made_view me s k id t at there x me.0.taken, rest me.1)) t
-          (how, ranged, new_is, k.history, refl, made_told me s k id t at there new x me.0.taken homes m),
+          (λ q hand'.
+          subst (λ (p : Content). (h : Restart) × IsResume h
+          × (new ≡ raw_of (restarted (word_of false (cell_after me.0.roster me.0.seen t)) h))
+          × (before : List Entry) × (rest me.1 ≡ rest me.1)
+          × Sees me.0 (an_exchange t) before (resume_of t number h me.0.number p ∷ []) me.0.taken
+          (made_view me s k id t at there x me.0.taken))
+          (hand_is me.1 (place t) r q (rest me.1) (rest me.1) hand hand')
+          (how, ranged, new_is, k.history, refl, made_told me s k id t at there new x me.0.taken homes m)),
     )
 
 -- ---- a tracee's row ends
@@ -463,7 +477,8 @@ pub exit_allowed : (me : Seated) (slots id t old new : ℕ) (death : Death) (r :
     → IsDeath death → IsGroupSettled me.0.roster t me.0.seen
     → old ≡ raw_of (word_of true (cell_after me.0.roster me.0.seen t))
     → new ≡ raw_of (died (word_of true (cell_after me.0.roster me.0.seen t)) death)
-    → Allows (IsKept me.0.roster) slots id me (place t) (λ n. either (eqb n old) new n) (exited (step slots (place t) old new none) me)
+    → Allows (KeepsRule me.0.roster) slots id me (place t) (λ n. either (eqb n old) new n)
+    (exited (step slots (place t) old new none) me)
 exit_allowed me slots id t old new death r there own taken moved hand ranged settled old_is new_is s k sized at bounded =
     let mine = acts_for t me.0.tracees own in
     let same = still me s k id t at there (ap (is_moved_by (actors_of me.0)) moved ∙ mine) in

@@ -21,3 +21,4 @@ mod Tracees
 mod Tracers
 mod Turning
 pub mod Walking
+pub mod Written

@@ -16,10 +16,10 @@ use Rattle.stop_history.specs.Actor.{IsQuiet, actor_of}
 use Rattle.stop_table.specs.Entry.{AreLegal, Entry, GoesOn, history_of}
 use Rattle.stop_history.specs.Roster.{IsRoster}
 use Rattle.stop_table.specs.Place.{place}
-use Rattle.stop_table.specs.Rule.{AllGoOn, Follows, IsKept}
+use Rattle.stop_table.specs.Rule.{AllGoOn, IsViewOf, KeepsRule}
 use Rattle.stop_table.specs.Seat.{Met}
 use Rattle.stop_table.specs.Steps.{Seated, compared, longer, met, past, silent}
-use Rattle.stop_table.specs.View.{View, actors_of, is_among, nobody}
+use Rattle.stop_table.specs.View.{View, actors_of, is_among, view_of_nobody}
 use Rattle.stop_table.proofs.Entries.{goes_nowhere, legal_back, quiet_later, quiet_sooner}
 use Rattle.stop_table.proofs.Moves.{St, at_lt, same_view}
 
@@ -65,11 +65,11 @@ quiet_both v w (x ∷ h) first second = (
   quiet_both v w h first.1 second.1,
 )
 
-nobody_acts : (a : Actor) → actors_of nobody a ≡ false
+nobody_acts : (a : Actor) → actors_of view_of_nobody a ≡ false
 nobody_acts (Tracee row) = refl
 nobody_acts (Tracer tracer) = refl
 
-quiet_nobody : (h : List Entry) → IsQuiet (actors_of nobody) (history_of h)
+quiet_nobody : (h : List Entry) → IsQuiet (actors_of view_of_nobody) (history_of h)
 quiet_nobody [] = tt
 quiet_nobody (x ∷ h) = (nobody_acts (actor_of x.event), quiet_nobody h)
 
@@ -92,7 +92,7 @@ record BothSeen (h : List Entry) (v w : View) : Type 0 where
   pub left : GoesOn (actors_of v) v.seen (longer v.seen w.seen)
   pub right : GoesOn (actors_of w) w.seen (longer v.seen w.seen)
 
-both_seen : (h : List Entry) (taken : ℕ → Bool) (v w : View) → Follows h taken v → Follows h taken w → BothSeen h v w
+both_seen : (h : List Entry) (taken : ℕ → Bool) (v w : View) → IsViewOf h taken v → IsViewOf h taken w → BothSeen h v w
 both_seen h taken v w f g =
     elim (cases_Bool (leb (length v.seen) (length w.seen))) [
       | inl less ↦
@@ -119,8 +119,8 @@ both_seen h taken v w f g =
           })
     ]
 
-both_follow : (h : List Entry) (taken : ℕ → Bool) (v w : View) → Follows h taken v → Follows h taken w
-    → v.taken ≡ false → w.taken ≡ false → Follows h taken (met v w)
+both_follow : (h : List Entry) (taken : ℕ → Bool) (v w : View) → IsViewOf h taken v → IsViewOf h taken w
+    → v.taken ≡ false → w.taken ≡ false → IsViewOf h taken (met v w)
 both_follow h taken v w f g idle_v idle_w =
     let b = both_seen h taken v w f g in
     record {
@@ -134,7 +134,7 @@ both_follow h taken v w f g idle_v idle_w =
       told = (b.left, (b.right, tt));
     }
 
-nobody_follows : (h : List Entry) (taken : ℕ → Bool) → Follows h taken nobody
+nobody_follows : (h : List Entry) (taken : ℕ → Bool) → IsViewOf h taken view_of_nobody
 nobody_follows h taken = record {
   more = h;
   goes_on = sym (append-nil h);
@@ -167,20 +167,21 @@ longer_is_all h v w b is =
 
 -- ---- the rule after a meeting
 
-module _ (roster : List Row) (s : St) (k : IsKept roster s) (id other : ℕ) (v w : View)
+module _ (roster : List Row) (s : St) (k : KeepsRule roster s) (id other : ℕ) (v w : View)
     (at : get_elem? s.views id ≡ some v) (apart : ¬ (other ≡ id)) (there : get_elem? s.views other ≡ some w)
     (idle_v : v.taken ≡ false) (idle_w : w.taken ≡ false) where
   abbrev one : List View
   one = slice_set s.views id (met v w)
 
   abbrev views : List View
-  views = slice_set one other nobody
+  views = slice_set one other view_of_nobody
 
   -- where a view of the new table comes from
   view_after : (i : ℕ) (u : View) → get_elem? views i ≡ some u
-      → ((i ≡ other) × (u ≡ nobody)) ⊎ (((i ≡ id) × (u ≡ met v w)) ⊎ ((i ≢ other) × (i ≢ id) × (get_elem? s.views i ≡ some u)))
+      → ((i ≡ other) × (u ≡ view_of_nobody))
+      ⊎ (((i ≡ id) × (u ≡ met v w)) ⊎ ((i ≢ other) × (i ≢ id) × (get_elem? s.views i ≡ some u)))
   view_after i u at_i =
-      elim (at_set one other i nobody u at_i) [
+      elim (at_set one other i view_of_nobody u at_i) [
         | inl spent ↦ inl (spent.0, sym spent.1)
         | inr rest ↦
             elim (at_set s.views id i (met v w) u rest.1) [
@@ -189,14 +190,14 @@ module _ (roster : List Row) (s : St) (k : IsKept roster s) (id other : ℕ) (v 
             ]
       ]
 
-  follows_after : (i : ℕ) (u : View) → get_elem? views i ≡ some u → Follows k.history k.taken u
+  follows_after : (i : ℕ) (u : View) → get_elem? views i ≡ some u → IsViewOf k.history k.taken u
   follows_after i u at_i =
       elim (view_after i u at_i) [
-        | inl spent ↦ subst (Follows k.history k.taken) (sym spent.1) (nobody_follows k.history k.taken)
+        | inl spent ↦ subst (IsViewOf k.history k.taken) (sym spent.1) (nobody_follows k.history k.taken)
         | inr rest ↦
             elim rest [
               | inl both ↦
-                  subst (Follows k.history k.taken) (sym both.1)
+                  subst (IsViewOf k.history k.taken) (sym both.1)
                   (both_follow k.history k.taken v w (k.follows id v at) (k.follows other w there) idle_v idle_w)
               | inr old ↦ k.follows i u old.2
             ]
@@ -233,7 +234,7 @@ module _ (roster : List Row) (s : St) (k : IsKept roster s) (id other : ℕ) (v 
 
   met_here : get_elem? views id ≡ some (met v w)
   met_here =
-      set_else one other id nobody (λ e. apart (sym e)) ∙ set_here s.views id (met v w) (at_lt s.views id v at)
+      set_else one other id view_of_nobody (λ e. apart (sym e)) ∙ set_here s.views id (met v w) (at_lt s.views id v at)
 
   acted_after : (row : ℕ) → row < length roster
       → (i : ℕ) × (u : View) × (get_elem? views i ≡ some u) × (is_among row u.tracees ≡ true)
@@ -265,7 +266,8 @@ module _ (roster : List Row) (s : St) (k : IsKept roster s) (id other : ℕ) (v 
               | inr not_id ↦ (
                 acted.0,
                 acted.1,
-                set_else one other acted.0 nobody not_other ∙ set_else s.views id acted.0 (met v w) not_id ∙ acted.2,
+                set_else one other acted.0 view_of_nobody not_other
+                    ∙ set_else s.views id acted.0 (met v w) not_id ∙ acted.2,
                 acted.3,
               )
             ]
@@ -302,7 +304,7 @@ module _ (roster : List Row) (s : St) (k : IsKept roster s) (id other : ℕ) (v 
                         inr (
                           one_has.0,
                           one_has.1,
-                          set_else one other one_has.0 nobody not_other
+                          set_else one other one_has.0 view_of_nobody not_other
                               ∙ set_else s.views id one_has.0 (met v w) not_id ∙ one_has.2,
                           one_has.3,
                         )
@@ -310,7 +312,7 @@ module _ (roster : List Row) (s : St) (k : IsKept roster s) (id other : ℕ) (v 
             ]
       ]
 
-  pub joined : IsKept roster (record { words = s.words; homes = s.homes; views = views })
+  pub joined : KeepsRule roster (record { words = s.words; homes = s.homes; views = views })
   joined = record {
     history = k.history;
     taken = k.taken;
@@ -328,7 +330,7 @@ module _ (roster : List Row) (s : St) (k : IsKept roster s) (id other : ℕ) (v 
   }
 
 pub joins : (roster : List Row) (id other : ℕ) (v w : View) → v.taken ≡ false → w.taken ≡ false
-    → Joins (IsKept roster) id v other w (met v w) nobody
+    → Joins (KeepsRule roster) id v other w (met v w) view_of_nobody
 joins roster id other v w idle_v idle_w s k at apart there =
     joined roster s k id other v w at apart
     (sym (set_else s.views id other (met v w) apart) ∙ there) idle_v idle_w
@@ -339,16 +341,17 @@ put_again : (l : List ℕ) → slice_set l 0 (slice_index l 0) ≡ l
 put_again [] = refl
 put_again (x ∷ xs) = refl
 
-module _ (roster : List Row) (s : St) (k : IsKept roster s) (id : ℕ) (v : View) (at : get_elem? s.views id ≡ some v) where
+module _ (roster : List Row) (s : St) (k : KeepsRule roster s) (id : ℕ) (v : View)
+    (at : get_elem? s.views id ≡ some v) where
   abbrev quieted : List View
   quieted = slice_set s.views id (silent v)
 
-  quiet_follows : (i : ℕ) (u : View) → get_elem? quieted i ≡ some u → Follows k.history k.taken u
+  quiet_follows : (i : ℕ) (u : View) → get_elem? quieted i ≡ some u → IsViewOf k.history k.taken u
   quiet_follows i u at_i =
       elim (at_set s.views id i (silent v) u at_i) [
         | inl here ↦
             (let f = k.follows id v at in
-            subst (Follows k.history k.taken) here.1
+            subst (IsViewOf k.history k.taken) here.1
             (record { more = f.more; goes_on = f.goes_on; quiet = f.quiet; knows = f.knows; told = tt }))
         | inr other ↦ k.follows i u other.1
       ]
@@ -396,7 +399,7 @@ module _ (roster : List Row) (s : St) (k : IsKept roster s) (id : ℕ) (v : View
       ]
 
   quiet_kept : (words : List ℕ) → words ≡ s.words
-      → IsKept roster (record { words = words; homes = s.homes; views = quieted })
+      → KeepsRule roster (record { words = words; homes = s.homes; views = quieted })
   quiet_kept words same = record {
     history = k.history;
     taken = k.taken;
@@ -419,7 +422,7 @@ module _ (roster : List Row) (s : St) (k : IsKept roster s) (id : ℕ) (v : View
   }
 
 pub compares : (slots id : ℕ) (me : Seated)
-    → Allows (IsKept me.0.roster) slots id me 0 (λ n. n) (compared (step slots 0 0 0 none) me)
+    → Allows (KeepsRule me.0.roster) slots id me 0 (λ n. n) (compared (step slots 0 0 0 none) me)
 compares slots id me s k sized at bounded =
     let f = k.follows id me.0 at in (
       silent me.0,

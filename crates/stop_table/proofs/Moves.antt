@@ -19,7 +19,7 @@ use Rattle.stop_history.specs.Actor.{IsQuiet}
 use Rattle.stop_history.specs.Layout.{raw_of}
 use Rattle.stop_history.specs.State.{state_after}
 use Rattle.stop_table.specs.Entry.{AreLegal, Entry, cell_after, history_of, word_of}
-use Rattle.stop_table.specs.Rule.{AllGoOn, Follows, IsHome, IsKept, RowKept}
+use Rattle.stop_table.specs.Rule.{AllGoOn, IsHome, IsViewOf, KeepsRule, RowKept}
 use Rattle.stop_table.specs.Place.{place}
 use Rattle.stop_table.specs.View.{View, actors_in, actors_of, is_among}
 use Rattle.stop_table.proofs.Entries.{quiet_append}
@@ -77,7 +77,7 @@ at_lt [] i a e = absurd (some-ne-none a (sym e))
 at_lt (x ∷ xs) zero a e = omega arith
 at_lt (x ∷ xs) (suc i) a e = let before = at_lt xs i a e in omega arith
 
-module _ (roster : List Row) (s : St) (k : IsKept roster s) (id t n : ℕ) (v w : View) (new : List Entry)
+module _ (roster : List Row) (s : St) (k : KeepsRule roster s) (id t n : ℕ) (v w : View) (new : List Entry)
     (next : ℕ → Bool) (homes : Homes) where
   abbrev after : St
   after = record { words = slice_set s.words (place t) n; homes = homes; views = slice_set s.views id w }
@@ -115,10 +115,10 @@ module _ (roster : List Row) (s : St) (k : IsKept roster s) (id t n : ℕ) (v w 
 
   follows_after : get_elem? s.views id ≡ some v → Lands roster s k.history k.taken next t n new homes
       → Seen k.history k.taken next t new v w
-      → (i : ℕ) (u : View) → get_elem? (slice_set s.views id w) i ≡ some u → Follows (new ++ k.history) next u
+      → (i : ℕ) (u : View) → get_elem? (slice_set s.views id w) i ≡ some u → IsViewOf (new ++ k.history) next u
   follows_after at l m i u there =
       elim (at_set s.views id i w u there) [
-        | inl here ↦ subst (Follows (new ++ k.history) next) here.1 (record {
+        | inl here ↦ subst (IsViewOf (new ++ k.history) next) here.1 (record {
           more = [];
           goes_on = sym m.seen;
           quiet = tt;
@@ -185,7 +185,7 @@ module _ (roster : List Row) (s : St) (k : IsKept roster s) (id t n : ℕ) (v w 
       ]
 
   pub moves : t < length roster → get_elem? s.views id ≡ some v → Lands roster s k.history k.taken next t n new homes
-      → Seen k.history k.taken next t new v w → IsKept roster after
+      → Seen k.history k.taken next t new v w → KeepsRule roster after
   moves there at l m =
       let within = at_lt s.views id v at in
       record {

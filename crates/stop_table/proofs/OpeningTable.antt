@@ -13,7 +13,7 @@ use Rattle.stop_history.specs.Roster.{IsRoster, row_at}
 use Rattle.stop_table.specs.declared.cells.TheConstants.{PLACES}
 use Rattle.stop_table.specs.Opening.{empty_slots, everyone, slots_with}
 use Rattle.stop_table.specs.Place.{place}
-use Rattle.stop_table.specs.Rule.{Follows, IsKept, RowKept}
+use Rattle.stop_table.specs.Rule.{IsViewOf, KeepsRule, RowKept}
 use Rattle.stop_table.specs.View.{View}
 use Rattle.stop_table.proofs.Numbers.{among_range}
 
@@ -76,8 +76,8 @@ opens_row rows words slots words_are slots_are row low = record {
   );
 }
 
-follows_nothing : (rows : List Row) (v : View) → everyone rows ≡ v → Follows [] (λ r. false) v
-follows_nothing rows v is = subst (Follows [] (λ r. false)) is record {
+follows_nothing : (rows : List Row) (v : View) → everyone rows ≡ v → IsViewOf [] (λ r. false) v
+follows_nothing rows v is = subst (IsViewOf [] (λ r. false)) is record {
   more = [];
   goes_on = refl;
   quiet = tt;
@@ -88,7 +88,7 @@ follows_nothing rows v is = subst (Follows [] (λ r. false)) is record {
 -- the table with these words and slots, and one view for all, meets the rule
 pub opens : (rows : List Row) (words : List ℕ) (slots : List (Option Content)) → IsRoster rows
     → words ≡ replicate (place (length rows) + 1) 0 → slots ≡ empty_slots rows
-    → IsKept rows (opening words slots (everyone rows))
+    → KeepsRule rows (opening words slots (everyone rows))
 opens rows words slots roster words_are slots_are = record {
   history = [];
   taken = λ r. false;

@@ -20,7 +20,7 @@ use Rattle.stop_table.specs.declared.start.Start.TheVariants as start
 use Rattle.stop_table.specs.Entry.{AreLegal, Entry, cell_after, history_of}
 use Rattle.stop_table.specs.Handle.{IsUnborn, Looked}
 use Rattle.stop_table.specs.Seat.{Saw}
-use Rattle.stop_table.specs.Start.{Answers, IsFinal, StartsAt, above, further, itself, parent}
+use Rattle.stop_table.specs.Start.{IsFinal, IsStartOf, StartsAt, above, further, itself, parent}
 use Rattle.stop_table.specs.Steps.{Seated}
 use Rattle.stop_table.specs.View.{View, actors_of, a_look}
 use Rattle.stop_table.proofs.Entries.{born_on, history_append, legal_back, legal_history}
@@ -79,7 +79,8 @@ root_starts v row none = record {
 -- ---- an answer that a row has from its parent
 
 answers_below : (rows : List Row) (h : List Entry) (row mother : ℕ) (a : Start) → IsRoster rows → AreLegal rows h
-    → row < length rows → parent_of rows row ≡ Some mother → a ≢ start.Born → Answers rows h mother a → Answers rows h row a
+    → row < length rows → parent_of rows row ≡ Some mother → a ≢ start.Born
+    → IsStartOf rows h mother a → IsStartOf rows h row a
 answers_below rows h row mother start.Born roster legal there of_parent other answers = absurd (other refl)
 answers_below rows h row mother start.NotYet roster legal there of_parent other answers =
     let unborn = unborn_below rows h row mother roster legal there of_parent answers.0 in
@@ -88,7 +89,7 @@ answers_below rows h row mother start.Never roster legal there of_parent other a
     let unborn = unborn_below rows h row mother roster legal there of_parent answers.0 in
     (unborn, (answers.1.0, above row mother answers.1.0 unborn of_parent answers.1.1, answers.1.2))
 
-unborn_answer : (rows : List Row) (h : List Entry) (row : ℕ) (a : Start) → a ≢ start.Born → Answers rows h row a
+unborn_answer : (rows : List Row) (h : List Entry) (row : ℕ) (a : Start) → a ≢ start.Born → IsStartOf rows h row a
     → is_born rows (history_of h) row ≡ false
 unborn_answer rows h row start.Born other answers = absurd (other refl)
 unborn_answer rows h row start.NotYet other answers = answers.0
@@ -158,7 +159,7 @@ module _ (u : View) (m n : Seated) (row mother : ℕ) (word : Word) (first : Loo
       ∙ ap (λ rows. nat_lt (rank_of u.roster row) (cell_after rows n.0.seen mother).births) (sym first.grows.same.roster)
       ∙ ap (λ (w : Word). nat_lt (rank_of u.roster row) w.births) (sym (word_now m n mother word s))
 
-  starts : (a : Start) → Answers u.roster n.0.seen row a → StartsAt u n.0 row a
+  starts : (a : Start) → IsStartOf u.roster n.0.seen row a → StartsAt u n.0 row a
   starts a answers = record {
     point = n.0.seen;
     sooner = whole.grows.goes_on;

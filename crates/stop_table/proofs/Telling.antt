@@ -19,8 +19,8 @@ use Rattle.stop_history.specs.Word.{IsWord, Word}
 use Rattle.trace_record.proofs.Deaths.{same_death}
 use Rattle.stop_history.proofs.Words.{death_reported, same_word}
 use Rattle.stop_history.specs.Roster.{IsRoster}
-use Rattle.stop_table.specs.Entry.{AreLegal, Entry, bare, cell_after, publish_of, word_of}
-use Rattle.stop_table.specs.Rule.{IsKept}
+use Rattle.stop_table.specs.Entry.{AreLegal, Entry, bare, cell_after, publish_of, resume_of, word_of}
+use Rattle.stop_table.specs.Rule.{KeepsRule}
 use Rattle.stop_table.specs.Seat.{FoundBy, HasEnded, HoldsAtHand, LetRun, Published, ReapedAt, TookStop, TookUp}
 use Rattle.stop_table.specs.Place.{place}
 use Rattle.stop_table.specs.Steps.{Seated, Sees, TheStep, claimed_on, claims_on, exited_on, found_by, publishes_on}
@@ -33,22 +33,22 @@ use Rattle.stop_table.proofs.Entries.{legal_back, word_ranged}
 -- roster, at the index that is this place
 pub key_load : (play : TheStep → Seated → ℕ → Seated → Type 0) (key : List Row) (slots id i j : ℕ) (m : Seated)
     → m.0.roster ≡ key → i ≡ j
-    → Allows (IsKept m.0.roster) slots id m j (λ n. n) (play (step slots j 0 0 none) m)
-    → Allows (IsKept key) slots id m i (λ n. n) (play (step slots i 0 0 none) m)
+    → Allows (KeepsRule m.0.roster) slots id m j (λ n. n) (play (step slots j 0 0 none) m)
+    → Allows (KeepsRule key) slots id m i (λ n. n) (play (step slots i 0 0 none) m)
 key_load play key slots id i j m same at allowed =
-    subst (λ l. Allows (IsKept key) slots id m l (λ n. n) (play (step slots l 0 0 none) m)) (sym at)
-    (subst (λ rows. Allows (IsKept rows) slots id m j (λ n. n) (play (step slots j 0 0 none) m)) same allowed)
+    subst (λ l. Allows (KeepsRule key) slots id m l (λ n. n) (play (step slots l 0 0 none) m)) (sym at)
+    (subst (λ rows. Allows (KeepsRule rows) slots id m j (λ n. n) (play (step slots j 0 0 none) m)) same allowed)
 
 pub key_step : (play : TheStep → Seated → ℕ → Seated → Type 0) (key : List Row) (slots id i j old new : ℕ) (m n : Seated)
     → n ≡ m → m.0.roster ≡ key → i ≡ j
-    → Allows (IsKept m.0.roster) slots id m j (λ x. either (eqb x old) new x) (play (step slots j old new none) m)
-    → Allows (IsKept key) slots id n i (λ x. either (eqb x old) new x) (play (step slots i old new none) n)
+    → Allows (KeepsRule m.0.roster) slots id m j (λ x. either (eqb x old) new x) (play (step slots j old new none) m)
+    → Allows (KeepsRule key) slots id n i (λ x. either (eqb x old) new x) (play (step slots i old new none) n)
 key_step play key slots id i j old new m n is same at allowed =
-    subst (λ (o : Seated). Allows (IsKept key) slots id o i (λ x. either (eqb x old) new x)
+    subst (λ (o : Seated). Allows (KeepsRule key) slots id o i (λ x. either (eqb x old) new x)
     (play (step slots i old new none) o)) (sym is)
-    (subst (λ l. Allows (IsKept key) slots id m l (λ x. either (eqb x old) new x)
+    (subst (λ l. Allows (KeepsRule key) slots id m l (λ x. either (eqb x old) new x)
     (play (step slots l old new none) m)) (sym at)
-    (subst (λ rows. Allows (IsKept rows) slots id m j (λ x. either (eqb x old) new x)
+    (subst (λ rows. Allows (KeepsRule rows) slots id m j (λ x. either (eqb x old) new x)
     (play (step slots j old new none) m)) same allowed))
 
 -- the number that a step finds is a word's
@@ -182,8 +182,9 @@ restarted_ranged w how other ranged is = record {
 pub did_run : (s : TheStep) (row : ℕ) (m was n : Seated) (how : Restart) (w : Word) (r : Content)
     → row < length was.0.roster → HoldsAtHand was row w r → m ≡ (was.0, (place row, Some r) ∷ rest was.1)
     → IsWord (restarted w how) → s.second ≡ raw_of (restarted w how) → resumed_on s row m n
-    → LetRun was n row w.number how
-did_run s row m was n how w r there held before ranged second play =
+    → LetRun was n row w.number how r
+did_run s row m was n how w r there held before ranged second told_of =
+    let play = told_of r (at_hand m.1 (rest was.1) (place row) (Some r) (ap (λ (x : Seated). x.1) before)) in
     let view : m.0 ≡ was.0 = ap (λ (x : Seated). x.0) before in
     let told : Word = restarted (word_of false (cell_after m.0.roster m.0.seen row)) play.0 in
     let cell_is : w ≡ word_of false (cell_after m.0.roster m.0.seen row) =
@@ -194,11 +195,11 @@ did_run s row m was n how w r there held before ranged second play =
     let same_how : play.0 ≡ how = sym (restart_is w how play.0 same) in (
       play.4 ∙ ap rest (ap (λ (x : Seated). x.1) before),
       play.3,
-      subst (λ (v : View). Sees v (an_exchange row) play.3 (bare (event.Resume row w.number how v.number) ∷ []) v.taken n.0) view
-          (subst (λ k. Sees m.0 (an_exchange row) play.3 (bare (event.Resume row k how m.0.number) ∷ []) m.0.taken n.0)
+      subst (λ (v : View). Sees v (an_exchange row) play.3 (resume_of row w.number how v.number r ∷ []) v.taken n.0) view
+          (subst (λ k. Sees m.0 (an_exchange row) play.3 (resume_of row k how m.0.number r ∷ []) m.0.taken n.0)
           (sym (ap (λ (x : Word). x.number) cell_is))
           (subst (λ (q : Restart). Sees m.0 (an_exchange row) play.3
-          (bare (event.Resume row (cell_after m.0.roster m.0.seen row).number q m.0.number) ∷ []) m.0.taken n.0)
+          (resume_of row (cell_after m.0.roster m.0.seen row).number q m.0.number r ∷ []) m.0.taken n.0)
           same_how play.5)),
     )
 

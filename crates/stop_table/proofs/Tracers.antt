@@ -16,13 +16,14 @@ use Rattle.stop_history.specs.Event.{events_of, subject}
 use Rattle.stop_history.specs.Word.{Word, phase_in}
 use Rattle.stop_history.proofs.Longer.{claimed_before}
 use Rattle.stop_table.specs.declared.shown.Shown.TheVariants as shows
-use Rattle.stop_table.specs.Entry.{AreLegal, Cell, Entry, GoesOn, bare, cell_after, history_of, word_of}
+use Rattle.stop_table.specs.Entry.{AreLegal, Cell, Entry, GoesOn, bare, cell_after, history_of, resume_of, word_of}
 use Rattle.stop_table.specs.Handle.{IsHolding, Looked, LooksAt, Meets, SawUnborn}
 use Rattle.stop_table.specs.Seat.{HoldsAtHand, LetRun, Met, MissedAt, ReapedAt, Saw, TookStop}
 use Rattle.stop_table.specs.Place.{place}
 use Rattle.stop_table.specs.Steps.{Seated, Sees}
 use Rattle.stop_table.specs.Tracer.{AreApart, IsTracer, emptied}
 use Rattle.stop_table.specs.View.{View, actors_of, an_exchange, is_among}
+use Rattle.stop_table.specs.Written.{IsWrittenOver}
 use Rattle.stop_table.proofs.Entries.{history_append, other_cell, own_cell, stays_on}
 use Rattle.stop_table.proofs.Exchanges.{claimed_phase_of}
 use Rattle.stop_history.proofs.Rosters.{few_rows}
@@ -182,11 +183,11 @@ kept_reap rows m n number row status held w t reaped phase_is =
     (λ among. let clash : false ≡ true = sym fresh ∙ among in cc)
     (λ is. let clash : phase.Reaped ≡ phase.Claimed number = sym now ∙ is in cc) (λ u other. refl)
 
-pub let_go : (rows : List Row) (m n : Seated) (number row k : ℕ) (how : Restart) (others : List ℕ)
-    → IsTracer rows m number (row ∷ others) → LetRun m n row k how → IsTracer rows n number others
-let_go rows m n number row k how others t run =
+pub let_go : (rows : List Row) (m n : Seated) (number row k : ℕ) (how : Restart) (content : Content) (others : List ℕ)
+    → IsTracer rows m number (row ∷ others) → LetRun m n row k how content → IsTracer rows n number others
+let_go rows m n number row k how content others t run =
     let h = run.1 in
-    let x = bare (event.Resume row k how m.0.number) in
+    let x = resume_of row k how m.0.number content in
     let now : (cell_after rows (x ∷ h) row).phase ≡ phase.Resumed how =
     ap (λ (c : Cell). c.phase) (own_cell rows x h row refl) in
     after_event rows m n number row (row ∷ others) h x t refl run.2 others (run.0 ∙ ap rest t.slots) t.apart.1
@@ -269,7 +270,8 @@ at_front m n row now others w content holding view slots is = record {
   slot = slots ∙ ap emptied is ∙ ap (λ d. (place row, None) ∷ d) (ap rest (sym (slots ∙ ap emptied is)));
   is_phase = holding.is_phase ∙ ap (λ (v : View). phase.Claimed v.number) (sym view);
   is_word = holding.is_word ∙ ap (λ (v : View). word_of false (cell_after v.roster v.seen row)) (sym view);
-  is_content = holding.is_content ∙ ap (λ (v : View). (cell_after v.roster v.seen row).content) (sym view);
+  is_content = subst (λ (v : View). IsWrittenOver (cell_after v.roster v.seen row).content content) (sym view)
+      holding.is_content;
 }
 
 pub has_met : (m n : Seated) (w : View) → Met m w n → Meets m.0 w n.0

@@ -16,8 +16,8 @@ use Rattle.stop_history.proofs.Rosters.{placed}
 use Rattle.stop_history.proofs.States.{state_within}
 use Rattle.stop_table.specs.declared.shown.Shown.{Shown}
 use Rattle.stop_table.specs.Entry.{AreLegal, Begins, Entry, GoesOn, cell_after, history_of, word_of}
-use Rattle.stop_table.specs.Handle.{EndsWith, Grows, Has, HasSteps, IsLostSince, IsPoint, IsSame, IsStepOf, IsUnborn}
-use Rattle.stop_table.specs.Handle.{IsLost, Looked, LooksAt, SawUnborn, SeenAt, shown_of}
+use Rattle.stop_table.specs.Handle.{EndsWith, Grows, HasObservation, HasSteps, IsLostSince, IsPoint, IsSame, IsStepOf}
+use Rattle.stop_table.specs.Handle.{IsLost, IsUnborn, Looked, LooksAt, SawUnborn, SeenAt, shown_of}
 use Rattle.stop_table.specs.Seat.{FoundBy, Saw}
 use Rattle.stop_table.specs.Steps.{Seated, Sees}
 use Rattle.stop_table.specs.View.{Observation, View, actors_of, an_exchange, a_look}
@@ -61,11 +61,11 @@ steps_trans u v w first second = (
   second.1 ∙ ap (λ os. second.0 ++ os) first.1 ∙ sym (append_assoc second.0 first.0 u.observations),
 )
 
-has_front : (a b : List Observation) (o : Observation) → Has a o → Has (a ++ b) o
+has_front : (a b : List Observation) (o : Observation) → HasObservation a o → HasObservation (a ++ b) o
 has_front [] b o has = absurd has
 has_front (x ∷ a) b o has = elim has [ inl here ↦ inl here | inr later ↦ inr (has_front a b o later) ]
 
-has_back : (a b : List Observation) (o : Observation) → Has b o → Has (a ++ b) o
+has_back : (a b : List Observation) (o : Observation) → HasObservation b o → HasObservation (a ++ b) o
 has_back [] b o has = has
 has_back (x ∷ a) b o has = inr (has_back a b o has)
 

@@ -1,10 +1,15 @@
 -- What an attempt to claim a row answers (waitid(2): a stop, and a death with WEXITED).
 use Rattle.std.specs.Prelude.{◌≡◌, ◌⊎◌, ℕ, Bool, true, false}
 use Rattle.stop_table.specs.declared.shown.Shown.{Shown}
+use Rattle.stop_table.specs.declared.claim.Claim.{Claim}
 use Rattle.stop_table.specs.declared.claim.Taken.{Taken}
 use Rattle.stop_table.specs.declared.claim.Taken.TheVariants as taken
 use Rattle.stop_table.specs.Handle.{Claims, IsHolding, LooksLast, LosesAt, LosesClaim, Reaps, is_claimable}
 use Rattle.stop_table.specs.View.{View}
+
+-- all of a claim but its record is as it was
+abbrev pub IsSameClaim : {A : Type 0} → Claim A → Claim A → Type 0
+IsSameClaim before after = (after.row ≡ before.row) × (after.word ≡ before.word) × (after.tracer ≡ before.tracer)
 
 -- An attempt that gets nothing either makes no exchange of the row's word, and shows what stood at its last look; or it
 -- makes one, and loses it: then it shows what stood directly after the other's claim.

@@ -1,8 +1,9 @@
 -- Running histories. The cells run with the tracees' registers and memory, so an entry of their history is an event
--- with its content: a publish carries the content of its stop, the other events carry none. The newest entry stands
--- first.
+-- with its content: a publish carries the content of its stop, and a resume that of the claimed record as its holder
+-- leaves it. The other events carry none. The newest entry stands first.
 use Rattle.std.specs.Prelude.{◌≡◌, ◌==◌, ◌∷◌, ◌++◌, [], ℕ, Bool, List, if◌then◌else◌}
 use Rattle.trace_record.specs.Content.{Content, empty_content}
+use Rattle.trace_record.specs.declared.resume.Resume.{Resume as Restart}
 use Rattle.stop_history.specs.declared.actor.Actor.{Actor}
 use Rattle.stop_history.specs.declared.phase.Phase.{Phase}
 use Rattle.stop_history.specs.declared.roster.Row.{Row}
@@ -14,6 +15,7 @@ use Rattle.stop_history.specs.Ranges.{IsInRange}
 use Rattle.stop_history.specs.Roster.{row_at}
 use Rattle.stop_history.specs.State.{number_in}
 use Rattle.stop_history.specs.Word.{Word, phase_in, raised}
+use Rattle.stop_table.specs.Written.{IsWrittenOver}
 
 pub record Entry : Type 0 where
   pub event : Event
@@ -32,33 +34,41 @@ bare e = record { event = e; content = empty_content 0 }
 abbrev pub publish_of : ℕ → Content → Entry
 publish_of row content = record { event = event.Publish row content.number content.stop; content = content }
 
--- what a publish carries is the content of its stop
-abbrev pub IsCarried : List Row → Event → Content → Type 0
-IsCarried rows (event.Publish row number stop) content =
-    (content.tid ≡ (row_at rows row).tid) × (content.number ≡ number) × (content.stop ≡ stop)
-IsCarried rows (event.Claim row number tracer) content = Unit {0}
-IsCarried rows (event.Resume row number how tracer) content = Unit {0}
-IsCarried rows (event.Exit row death) content = Unit {0}
-
--- each event fits the state before it and is in range, and each publish carries its content
-abbrev pub AreLegal : List Row → List Entry → Type 0
-AreLegal rows [] = Unit {0}
-AreLegal rows (x ∷ h) =
-    (Fits rows (history_of h) x.event × IsInRange x.event × IsCarried rows x.event x.content) × AreLegal rows h
+-- the resume of a claimed record
+abbrev pub resume_of : (row number : ℕ) → Restart → (tracer : ℕ) → Content → Entry
+resume_of row number how tracer content =
+    record { event = event.Resume row number how tracer; content = content }
 
 -- ---- what a running history leaves of a row
 
 abbrev pub content_with : Event → (carried before : Content) → Content
 content_with (event.Publish row number stop) carried before = carried
 content_with (event.Claim row number tracer) carried before = before
-content_with (event.Resume row number how tracer) carried before = before
+content_with (event.Resume row number how tracer) carried before = carried
 content_with (event.Exit row death) carried before = before
 
--- the content of a row's last publish; before any, that of the empty record
+-- the content of a row's last publish or resume; before any, that of the empty record
 abbrev pub content_after : List Row → List Entry → ℕ → Content
 content_after rows [] row = empty_content (row_at rows row).tid
 content_after rows (x ∷ h) row =
     if subject x.event == row then content_with x.event x.content (content_after rows h row) else content_after rows h row
+
+-- what a publish carries is the content of its stop; what a resume carries is the content of the last publish, with
+-- what its holder has written
+abbrev pub IsCarried : List Row → (before : Content) → Event → Content → Type 0
+IsCarried rows before (event.Publish row number stop) content =
+    (content.tid ≡ (row_at rows row).tid) × (content.number ≡ number) × (content.stop ≡ stop)
+IsCarried rows before (event.Claim row number tracer) content = Unit {0}
+IsCarried rows before (event.Resume row number how tracer) content = IsWrittenOver before content
+IsCarried rows before (event.Exit row death) content = Unit {0}
+
+-- each event fits the state before it and is in range, and publishes and resumes carry their content
+abbrev pub AreLegal : List Row → List Entry → Type 0
+AreLegal rows [] = Unit {0}
+AreLegal rows (x ∷ h) =
+    (Fits rows (history_of h) x.event × IsInRange x.event
+    × IsCarried rows (content_after rows h (subject x.event)) x.event x.content)
+    × AreLegal rows h
 
 -- all that a row's events leave of it
 pub record Cell : Type 0 where

@@ -24,6 +24,7 @@ use Rattle.stop_table.specs.declared.shown.Shown.TheVariants as shows
 use Rattle.std.specs.Prelude.{Ok}
 use Rattle.stop_table.specs.Entry.{AreLegal, Begins, Entry, GoesOn, bare, cell_after, content_after, history_of, word_of}
 use Rattle.stop_table.specs.View.{Observation, View, actors_of, an_exchange, a_look, exchanges_of, looks_at}
+use Rattle.stop_table.specs.Written.{IsWrittenOver}
 
 -- the events of a handle's own actors
 abbrev pub own_events : View → List Entry
@@ -62,13 +63,13 @@ pub record EndsWith (v w : View) (before : List Entry) (x : Entry) : Type 0 wher
 
 -- ---- linearization points
 
-abbrev pub Has : List Observation → Observation → Type 0
-Has [] step = ⊥
-Has (o ∷ os) step = (o ≡ step) ⊎ Has os step
+abbrev pub HasObservation : List Observation → Observation → Type 0
+HasObservation [] step = ⊥
+HasObservation (o ∷ os) step = (o ≡ step) ⊎ HasObservation os step
 
 -- a step of this call
 abbrev pub IsStepOf : View → View → Observation → Type 0
-IsStepOf v w step = (added : List Observation) × (w.observations ≡ added ++ v.observations) × Has added step
+IsStepOf v w step = (added : List Observation) × (w.observations ≡ added ++ v.observations) × HasObservation added step
 
 abbrev pub IsUnborn : List Row → ℕ → List Entry → Type 0
 IsUnborn rows row h = state_after rows (history_of h) row ≡ state.Unborn
@@ -190,15 +191,17 @@ Reaps v w row death number =
     × (state_after v.roster (history_of before) row ≡ state.Dead number (death_status death))
     × IsDeath death × IsExitOf before row death
 
--- the row is claimed by the handle's own tracer, with this word, and its stop has this content
+-- the row is claimed by the handle's own tracer, with this word, and this is the record of its stop, with what the
+-- holder has written
 pub record IsHolding (v : View) (row : ℕ) (word : Word) (content : Content) : Type 0 where
   pub is_phase : word.phase ≡ phase.Claimed v.number
   pub is_word : word ≡ word_of false (cell_after v.roster v.seen row)
-  pub is_content : content ≡ content_after v.roster v.seen row
+  pub is_content : IsWrittenOver (content_after v.roster v.seen row) content
 
 -- ---- take-ups and meetings
 
--- the row was taken up, to run on as its last restart says, with the content of its last stop
+-- the row was taken up, to run on as its last resume says, with the content of that resume; before any, with the empty
+-- record
 pub record TakesUp (v w : View) (row : ℕ) (how : Restart) (content : Content) : Type 0 where
   pub grows : Grows v w
   pub step : IsStepOf v w (an_exchange row w.seen)

@@ -12,3 +12,4 @@ pub mod Steps
 pub mod Tracee
 pub mod Tracer
 pub mod View
+pub mod Written

@@ -54,9 +54,9 @@ AreTracers id rows handles = (k : ℕ) (e : TracerHandle) → slice_get handles 
 -- ---- while the handles are made
 
 -- how a seat that acts for several rows gives the first of them away
-abbrev pub first_of : List ℕ → ℕ
-first_of [] = 0
-first_of (x ∷ xs) = x
+abbrev pub first_number : List ℕ → ℕ
+first_number [] = 0
+first_number (x ∷ xs) = x
 
 abbrev pub others_of : List ℕ → List ℕ
 others_of [] = []
@@ -94,7 +94,7 @@ abbrev pub first_tracer : View → View
 first_tracer v = record {
   roster = v.roster;
   tracees = [];
-  number = first_of v.tracers;
+  number = first_number v.tracers;
   tracers = only v.tracers;
   taken = v.taken;
   seen = v.seen;

@@ -23,15 +23,15 @@ AllGoOn [] h = Unit {0}
 AllGoOn (p ∷ ps) h = GoesOn (actors_in p.tracees p.tracers) p.seen h × AllGoOn ps h
 
 -- the history goes on from what v has seen, by events of other actors; of its rows v knows whether they are taken up
-pub record Follows (h : List Entry) (taken : ℕ → Bool) (v : View) : Type 0 where
+pub record IsViewOf (h : List Entry) (taken : ℕ → Bool) (v : View) : Type 0 where
   pub more : List Entry
   pub goes_on : h ≡ more ++ v.seen
   pub quiet : IsQuiet (actors_of v) (history_of more)
   pub knows : (row : ℕ) → is_among row v.tracees ≡ true → taken row ≡ v.taken
   pub told : AllGoOn v.told v.seen
 
--- what is in the slot of a row that is not taken up: the record of its last stop while it stands there or is to run
--- on, nothing while a tracer has it
+-- what is in the slot of a row that is not taken up: the record of its last stop while it stands there, that of its
+-- last resume while it is to run on, nothing while a tracer has it
 abbrev pub Lies : Phase → Content → maybe.Option (Option Content) → Type 0
 Lies phase.Fresh content slot = slot ≡ some (Some content)
 Lies (phase.Resumed how) content slot = slot ≡ some (Some content)
@@ -56,7 +56,7 @@ pub record RowKept (roster : List Row) (s : Table (Option Content) View) (h : Li
 -- There is one legal history. Each word is that of its row after it, and the further word behind them is 0. What a
 -- view has seen is a beginning of the history, which goes on without an event of its actors; the history is one of
 -- these beginnings or has no event. Each tracee has a view that acts for it, and no two views act for one actor.
-pub record IsKept (roster : List Row) (s : Table (Option Content) View) : Type 0 where
+pub record KeepsRule (roster : List Row) (s : Table (Option Content) View) : Type 0 where
   pub history : List Entry
   pub taken : ℕ → Bool
   pub placed : IsRoster roster
@@ -66,7 +66,7 @@ pub record IsKept (roster : List Row) (s : Table (Option Content) View) : Type 0
   pub homes_are : length s.homes ≡ place (length roster)
   pub up : (row : ℕ) → taken row ≡ true → state_after roster (history_of history) row ≡ state.Running
   pub rows : (row : ℕ) → row < length roster → RowKept roster s history taken row
-  pub follows : (i : ℕ) (v : View) → get_elem? s.views i ≡ some v → Follows history taken v
+  pub follows : (i : ℕ) (v : View) → get_elem? s.views i ≡ some v → IsViewOf history taken v
   pub alone : (i j : ℕ) (v w : View) (a : Actor) → get_elem? s.views i ≡ some v → get_elem? s.views j ≡ some w
       → actors_of v a ≡ true → actors_of w a ≡ true → i ≡ j
   pub acted : (row : ℕ) → row < length roster

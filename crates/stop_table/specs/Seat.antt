@@ -12,10 +12,12 @@ use Rattle.stop_history.specs.Roster.{IsRoster}
 use Rattle.stop_history.specs.State.{state_after}
 use Rattle.stop_history.specs.Word.{Word}
 use Rattle.stop_table.specs.declared.cells.Cells.{Cells}
-use Rattle.stop_table.specs.Entry.{AreLegal, Entry, GoesOn, bare, cell_after, history_of, publish_of, word_of}
+use Rattle.stop_table.specs.Entry.{AreLegal, Entry, GoesOn, bare, cell_after, history_of, publish_of, resume_of}
+use Rattle.stop_table.specs.Entry.{word_of}
 use Rattle.stop_table.specs.Place.{place}
 use Rattle.stop_table.specs.Steps.{Seated, Sees, met, silent}
 use Rattle.stop_table.specs.View.{Observation, View, actors_of, an_exchange, is_among, a_look}
+use Rattle.stop_table.specs.Written.{IsWrittenOver}
 
 abbrev pub IsSeatOf : {A : Type 0} → Cells A → Seat (Option Content) View → Type 0
 IsSeatOf cells seat =
@@ -56,18 +58,20 @@ TookStop m n row word content =
 abbrev pub ReapedAt : Seated → Seated → ℕ → Word → Type 0
 ReapedAt m n row word = (n.1 ≡ m.1) × (h : List Entry) × ClaimedAt m n row word h
 
--- the row is claimed by the tracer, with this word and this record, and its slot is the one taken last
+-- the row is claimed by the tracer, with this word, this is its record with what the holder has written, and its slot is
+-- the one taken last
 pub record HoldsAtHand (m : Seated) (row : ℕ) (word : Word) (content : Content) : Type 0 where
   pub slot : m.1 ≡ (place row, None) ∷ rest m.1
   pub is_phase : word.phase ≡ phase.Claimed m.0.number
   pub is_word : word ≡ word_of false (cell_after m.0.roster m.0.seen row)
-  pub is_content : content ≡ (cell_after m.0.roster m.0.seen row).content
+  pub is_content : IsWrittenOver (cell_after m.0.roster m.0.seen row).content content
 
--- the row is to run on
-abbrev pub LetRun : Seated → Seated → (row number : ℕ) → Restart → Type 0
-LetRun m n row number how =
+-- the row is to run on, with this record
+abbrev pub LetRun : Seated → Seated → (row number : ℕ) → Restart → Content → Type 0
+LetRun m n row number how content =
     (n.1 ≡ rest m.1)
-    × (h : List Entry) × Sees m.0 (an_exchange row) h (bare (event.Resume row number how m.0.number) ∷ []) m.0.taken n.0
+    × (h : List Entry)
+    × Sees m.0 (an_exchange row) h (resume_of row number how m.0.number content ∷ []) m.0.taken n.0
 
 -- the record was published
 abbrev pub Published : Seated → Seated → ℕ → Content → Type 0

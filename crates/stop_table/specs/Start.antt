@@ -17,12 +17,12 @@ pub data IsLastBorn (rows : List Row) (h : List Entry) : (row born : ℕ) → Ty
 
 -- what one thread alone would be answered: born; or else by the last born row on its path, not yet where that may still
 -- act, and never where it has ended
-abbrev pub Answers : List Row → List Entry → ℕ → Start → Type 0
-Answers rows h row start.Born = is_born rows (history_of h) row ≡ true
-Answers rows h row start.NotYet =
+abbrev pub IsStartOf : List Row → List Entry → ℕ → Start → Type 0
+IsStartOf rows h row start.Born = is_born rows (history_of h) row ≡ true
+IsStartOf rows h row start.NotYet =
     (is_born rows (history_of h) row ≡ false)
     × ((born : ℕ) × IsLastBorn rows h row born × (is_alive (state_after rows (history_of h) born) ≡ true))
-Answers rows h row start.Never =
+IsStartOf rows h row start.Never =
     (is_born rows (history_of h) row ≡ false)
     × ((born : ℕ) × IsLastBorn rows h row born × (is_ended (state_after rows (history_of h) born) ≡ true))
 
@@ -44,7 +44,7 @@ pub record StartsAt (v w : View) (row : ℕ) (a : Start) : Type 0 where
   pub sooner : GoesOn (actors_of v) v.seen point
   pub later : Begins point w.seen
   pub step : IsStartPoint v w row point
-  pub answers : Answers v.roster point row a
+  pub answers : IsStartOf v.roster point row a
 
 -- what is answered for good: born, or never
 abbrev pub IsFinal : List Row → List Entry → ℕ → Start → Type 0

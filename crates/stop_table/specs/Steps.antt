@@ -13,7 +13,8 @@ use Rattle.stop_history.specs.Layout.{raw_of}
 use Rattle.stop_history.specs.Roster.{IsRoster}
 use Rattle.stop_history.specs.State.{state_after}
 use Rattle.stop_history.specs.Step.{died, restarted}
-use Rattle.stop_table.specs.Entry.{AreLegal, Entry, GoesOn, bare, cell_after, history_of, publish_of, word_of}
+use Rattle.stop_table.specs.Entry.{AreLegal, Entry, GoesOn, bare, cell_after, history_of, publish_of, resume_of}
+use Rattle.stop_table.specs.Entry.{word_of}
 use Rattle.stop_table.specs.Place.{place}
 use Rattle.stop_table.specs.Rule.{AllGoOn}
 use Rattle.stop_table.specs.View.{Observation, Past, View, actors_of, an_exchange, is_among, a_look}
@@ -80,8 +81,8 @@ took_on row m n =
     (h : List Entry) × (n.1 ≡ (place row, Some (cell_after m.0.roster h row).content) ∷ m.1)
     × Sees m.0 (an_exchange row) h [] true n.0 × (cell_after m.0.roster h row ≡ cell_after m.0.roster m.0.seen row)
 
-abbrev pub took : TheStep → Seated → ℕ → Seated → Type 0
-took s m found n = AtRow s (λ row. took_on row m n)
+abbrev pub takes_up : TheStep → Seated → ℕ → Seated → Type 0
+takes_up s m found n = AtRow s (λ row. took_on row m n)
 
 -- the record in the slot that was taken last was published
 abbrev pub publishes_on : ℕ → Seated → Seated → Type 0
@@ -105,8 +106,8 @@ claimed_on s row m found n =
     × claims_on row m found n h)
     × (found ≢ s.first → missed_on row m found n)
 
-abbrev pub claimed : TheStep → Seated → ℕ → Seated → Type 0
-claimed s m found n = AtRow s (λ row. claimed_on s row m found n)
+abbrev pub claims_stop : TheStep → Seated → ℕ → Seated → Type 0
+claims_stop s m found n = AtRow s (λ row. claimed_on s row m found n)
 
 -- the death that stood there was claimed; or another word was found
 abbrev pub reaped_on : TheStep → ℕ → Seated → ℕ → Seated → Type 0
@@ -117,14 +118,15 @@ reaped_on s row m found n =
 abbrev pub reaped : TheStep → Seated → ℕ → Seated → Type 0
 reaped s m found n = AtRow s (λ row. reaped_on s row m found n)
 
--- the stop that the tracer held is to run on, as the new word says, and its record is back in the slot
+-- the stop that the tracer held is to run on, as the new word says, with the record in the slot that was taken last
 abbrev pub resumed_on : TheStep → ℕ → Seated → Seated → Type 0
 resumed_on s row m n =
-    (how : Restart) × IsResume how
+    (content : Content) → m.1 ≡ (place row, Some content) ∷ rest m.1
+    → (how : Restart) × IsResume how
     × (s.second ≡ raw_of (restarted (word_of false (cell_after m.0.roster m.0.seen row)) how))
     × (h : List Entry) × (n.1 ≡ rest m.1)
     × Sees m.0 (an_exchange row) h
-    (bare (event.Resume row (cell_after m.0.roster m.0.seen row).number how m.0.number) ∷ []) m.0.taken n.0
+    (resume_of row (cell_after m.0.roster m.0.seen row).number how m.0.number content ∷ []) m.0.taken n.0
 
 abbrev pub resumed : TheStep → Seated → ℕ → Seated → Type 0
 resumed s m found n = AtRow s (λ row. resumed_on s row m n)

@@ -45,8 +45,8 @@ pub record View : Type 0 where
   pub told : List Past
 
 -- a view of nobody, which has seen nothing
-abbrev pub nobody : View
-nobody = record {
+abbrev pub view_of_nobody : View
+view_of_nobody = record {
   roster = [];
   tracees = [];
   number = 0;

@@ -1,15 +1,20 @@
 //! Records on the heap. A slot holds the address of its row's record, so that a step moves that and not the record's 280
 //! bytes; the box of a record that a tracee has stays with its handle for the next one.
 
-ghost use Rattle.std.specs.Prelude.{◌≡◌, true, false, IfOk};
+ghost use Rattle.std.specs.Prelude.{◌≡◌, true, false, length, IfOk, OnErr, OnOk};
+ghost use Rattle.trace_pages.specs.FlatMemory.{run_end};
+ghost use Rattle.trace_pages.specs.Memory.{store_answer};
 ghost use Rattle.stop_table.specs.Boxed.{with_memory};
+ghost use Rattle.stop_table.specs.Written.{with_bytes, with_regs};
 
 use crossbeam_utils::CachePadded;
 use std::alloc::{AllocError, Allocator};
 use std::marker::Model;
 use std::mem::replace;
-use trace_pages::Memory;
+use trace_pages::laws::changes_determine_memory;
+use trace_pages::{Fault, Memory};
 use trace_record::StopRecord;
+use trace_regs::Regs;
 
 /// A box with a record in it, which shares no line of the processor's with another one.
 #[derive(Drop)]
@@ -44,6 +49,26 @@ impl<A: Allocator> BoxedRecord<A> {
         ensures { result.now ≡ self.now }
     {
         self.padded.as_ref()
+    }
+
+    /// Puts other registers in.
+    #[inline(always)]
+    pub(crate) fn set_regs(&mut self, regs: Regs)
+        ensures { self.new ≡ with_regs self.old regs }
+    {
+        let record: &mut StopRecord<A> = self.padded.as_mut();
+        record.regs = regs;
+    }
+
+    /// Stores bytes in the record's memory, or none of them where one of their addresses is not mapped.
+    #[inline(always)]
+    pub(crate) fn store(&mut self, addr: u64, bytes: &[u8]) -> Result<(), Fault>
+        ensures answer { result ≡ store_answer (run_end self.old.memory addr (length bytes.now)) }
+        ensures ok { OnOk result (self.new ≡ with_bytes self.old addr bytes.now) }
+        ensures err { OnErr result (self.new ≡ self.old) }
+    {
+        let record: &mut StopRecord<A> = self.padded.as_mut();
+        store_in(record, addr, bytes)
     }
 
     /// Takes the record's memory out. Another comes in its place.
@@ -85,6 +110,17 @@ impl<A: Allocator> BoxedRecord<A> {
         let StopRecord { memory, .. } = stop;
         replace(&mut record.memory, memory)
     }
+}
+
+/// Stores bytes in a record's memory, or none of them where one of their addresses is not mapped.
+#[inline(always)]
+fn store_in<A: Allocator>(held: &mut StopRecord<A>, addr: u64, bytes: &[u8]) -> Result<(), Fault>
+    ensures answer { result ≡ store_answer (run_end held.old.memory addr (length bytes.now)) }
+    ensures ok { OnOk result (held.new ≡ with_bytes held.old addr bytes.now) }
+    ensures err { OnErr result (held.new ≡ held.old) }
+{
+    changes_determine_memory();
+    held.memory.store(addr, bytes)
 }
 
 /// What a tracee keeps of its record: while the tracee has the record, the box that it lay in, and otherwise a memory of

@@ -1,15 +1,23 @@
-//! Claims: the record of a claimed stop, which must be spent by a resume, and what an attempt to claim answers.
+//! Claims: the record of a claimed stop, which its holder may write to and must spend by a resume, and what an attempt
+//! to claim answers.
 
-ghost use Rattle.std.specs.Prelude.{◌≡◌};
+ghost use Rattle.std.specs.Prelude.{◌≡◌, OnErr, OnOk};
+ghost use Rattle.trace_pages.specs.FlatMemory.{run_end};
+ghost use Rattle.trace_pages.specs.Memory.{store_answer};
+ghost use Rattle.stop_table.specs.Claiming.{IsSameClaim};
+ghost use Rattle.stop_table.specs.Written.{with_bytes, with_regs};
 
 use crate::boxed::BoxedRecord;
 use crate::shown::Shown;
 use std::alloc::{Allocator, Global};
 use stop_history::Word;
+use trace_pages::Fault;
 use trace_record::{Death, StopRecord};
+use trace_regs::Regs;
 
-/// A claimed stop. It owns the stop's record. It cannot be dropped: `Tracer::resume` spends it, and so nothing that was
-/// borrowed from the record outlives it.
+/// A claimed stop. It owns the stop's record, which its holder may change: the tracee takes up what is there at the
+/// resume. It cannot be dropped: `Tracer::resume` spends it, and so nothing that was borrowed from the record outlives
+/// it.
 pub struct Claim<A: Allocator = Global> {
     pub(crate) stop: BoxedRecord<A>,
     pub(crate) row: u32,
@@ -18,7 +26,7 @@ pub struct Claim<A: Allocator = Global> {
 }
 
 impl<A: Allocator> Claim<A> {
-    /// The record that the tracee published.
+    /// The record that the tracee published, with what the holder has written since.
     pub fn record(&self) -> &StopRecord<A>
         ensures { result.now ≡ self.now.stop }
     {
@@ -37,6 +45,26 @@ impl<A: Allocator> Claim<A> {
         ensures { result ≡ self.now.tracer }
     {
         u32::from(self.tracer)
+    }
+
+    /// Puts other registers into the record (ptrace(2), `PTRACE_SETREGS`). Any value is taken.
+    pub fn set_regs(&mut self, regs: Regs)
+        ensures record { self.new.stop ≡ with_regs self.old.stop regs }
+        ensures claim { IsSameClaim self.old self.new }
+    {
+        self.stop.set_regs(regs);
+    }
+
+    /// Stores eight bytes in the record's memory from an address on (ptrace(2), `PTRACE_POKEDATA`), or none of them
+    /// where an address is not mapped or lies after the last one. The fault's address is the first that is not mapped,
+    /// or 2^64 - 1 where bytes remain after the last address.
+    pub fn poke(&mut self, addr: u64, bytes: [u8; 8]) -> Result<(), Fault>
+        ensures answer { result ≡ store_answer (run_end self.old.stop.memory addr 8) }
+        ensures ok { OnOk result (self.new.stop ≡ with_bytes self.old.stop addr bytes) }
+        ensures err { OnErr result (self.new.stop ≡ self.old.stop) }
+        ensures claim { IsSameClaim self.old self.new }
+    {
+        self.stop.store(addr, bytes.as_slice())
     }
 }
 

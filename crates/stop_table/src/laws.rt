@@ -1,6 +1,8 @@
 //! Laws of what the contracts tell: each function is its contract alone.
 
 ghost use Rattle.std.specs.Prelude.{◌≡◌, ◌∷◌, ◌≢◌, ◌||◌, ◌+◌, ◌<◌, ℕ, true, List, filter, is_some, if◌then◌else◌, length};
+ghost use Rattle.trace_pages.specs.FlatMemory.{Full, run_end};
+ghost use Rattle.trace_regs.specs.declared.regs.Regs.{Regs};
 ghost use Rattle.trace_record.specs.Content.{Content};
 ghost use Rattle.trace_record.specs.Stop.{child_of};
 ghost use Rattle.trace_record.specs.declared.death.Death.{Death};
@@ -20,6 +22,7 @@ ghost use Rattle.stop_table.specs.Entry.{AreLegal, Entry, bare, cell_after, cont
 ghost use Rattle.stop_table.specs.Handle.{EndsWith, Grows, IsHolding, IsLostSince, Meets, own_events, shown_of};
 ghost use Rattle.stop_table.specs.Tracer.{is_held};
 ghost use Rattle.stop_table.specs.View.{View, actors_of, is_among};
+ghost use Rattle.stop_table.specs.Written.{with_bytes, with_regs};
 
 /// A call that only looks leaves a handle's own events as they were.
 pub fn looks_make_no_event()
@@ -76,7 +79,7 @@ pub fn what_is_seen_is_legal()
     ensures in_range { (rows : List Row) (h : List Entry) → AreLegal rows h → AreInRange (history_of h) }
 {}
 
-/// The record of a row is that of its tracee, with the number of its last stop.
+/// The record of a row is that of its tracee, with the number of its last stop; a holder's writes change neither.
 pub fn a_record_is_its_rows()
     ensures { (rows : List Row) (h : List Entry) → AreLegal rows h → (row : ℕ) →
         ((content_after rows h row).tid ≡ (row_at rows row).tid)
@@ -98,6 +101,15 @@ pub fn stops_are_counted_by_their_tracee()
         is_among row v.tracees ≡ true → EndsWith v w before (bare (event.Exit row death)) →
         ((cell_after w.roster w.seen row).births ≡ (cell_after v.roster v.seen row).births)
         × ((cell_after w.roster w.seen row).number ≡ (cell_after v.roster v.seen row).number) }
+{}
+
+/// What its holder writes to a claim's record leaves the claim in the tracer's hand.
+pub fn writes_keep_a_claim_in_hand()
+    ensures regs { (v : View) (row : ℕ) (word : Word) (content : Content) (regs : Regs) →
+        IsHolding v row word content → IsHolding v row word (with_regs content regs) }
+    ensures bytes { (v : View) (row : ℕ) (word : Word) (content : Content) (address : ℕ) (bytes : List ℕ) →
+        run_end content.memory address (length bytes) ≡ Full →
+        IsHolding v row word content → IsHolding v row word (with_bytes content address bytes) }
 {}
 
 /// A claim is the tracer's to resume for as long as the tracer makes no event of its row.

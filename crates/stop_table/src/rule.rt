@@ -2,9 +2,10 @@
 //! prover.
 
 ghost use Rattle.stop_table.specs.Opening.{everyone, first_row, first_tracer, later_rows, later_tracers};
-ghost use Rattle.stop_table.specs.Rule.{IsKept};
-ghost use Rattle.stop_table.specs.Steps.{claimed, compared, exited, looked, met, publishes, reaped, resumed, took};
-ghost use Rattle.stop_table.specs.View.{nobody};
+ghost use Rattle.stop_table.specs.Rule.{KeepsRule};
+ghost use Rattle.stop_table.specs.Steps.{claims_stop, compared, exited, looked, met, publishes, reaped, resumed};
+ghost use Rattle.stop_table.specs.Steps.{takes_up};
+ghost use Rattle.stop_table.specs.View.{view_of_nobody};
 
 use crate::boxed::BoxedRecord;
 use atomic_table::{Join, Play, Split, TableRule};
@@ -16,7 +17,7 @@ use stop_history::Roster;
 pub(crate) struct View {}
 
 impl Model for View {
-    ghost use Rattle.stop_table.specs.View.{View, nobody};
+    ghost use Rattle.stop_table.specs.View.{View, view_of_nobody};
     ghost use Rattle.std.specs.Coded.{codes};
     ghost use Rattle.trace_pages.specs.FlatMemory.{flat_code};
 
@@ -24,14 +25,14 @@ impl Model for View {
 
     ghost coded = { Prim.hlevel (codes, flat_code) };
 
-    ghost view = { λ v. nobody };
+    ghost view = { λ v. view_of_nobody };
 }
 
 /// What holds between any two steps.
 pub(crate) struct Kept;
 
 impl<A: Allocator> TableRule<Option<BoxedRecord<A>>, View, Roster<A>> for Kept {
-    ghost holds = { λ rows. IsKept rows };
+    ghost holds = { λ rows. KeepsRule rows };
 
     ghost first = { λ rows. everyone rows };
 }
@@ -47,7 +48,7 @@ impl<A: Allocator> Play<Option<BoxedRecord<A>>, View> for Looks {
 pub(crate) struct TakesUp;
 
 impl<A: Allocator> Play<Option<BoxedRecord<A>>, View> for TakesUp {
-    ghost then = { took };
+    ghost then = { takes_up };
 }
 
 /// A tracee publishes a stop.
@@ -61,7 +62,7 @@ impl<A: Allocator> Play<Option<BoxedRecord<A>>, View> for Publishes {
 pub(crate) struct Claims;
 
 impl<A: Allocator> Play<Option<BoxedRecord<A>>, View> for Claims {
-    ghost then = { claimed };
+    ghost then = { claims_stop };
 }
 
 /// A tracer claims a death, or finds another word.
@@ -98,7 +99,7 @@ pub(crate) struct Meets;
 impl Join<View> for Meets {
     ghost both = { met };
 
-    ghost spent = { nobody };
+    ghost spent = { view_of_nobody };
 }
 
 /// A seat gives its first row away.

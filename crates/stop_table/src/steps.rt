@@ -243,7 +243,7 @@ impl<A: Allocator> Cells<A> {
             × (seat.old.me.0.number < TRACERS) }
         requires held { HoldsAtHand seat.old.me row word stop }
         requires how { IsResume how }
-        ensures { IsSameSeat seat.old seat.new × LetRun seat.old.me seat.new.me row word.number how }
+        ensures { IsSameSeat seat.old seat.new × LetRun seat.old.me seat.new.me row word.number how stop }
     {
         let new = restarted(word, how).pack();
         let at = self.place(row);

@@ -5,11 +5,10 @@ ghost use Rattle.std.specs.Arc.{arc_value};
 ghost use Rattle.trace_record.specs.Resume.{IsResume};
 ghost use Rattle.stop_history.specs.declared.limits.TheConstants.{TRACERS};
 ghost use Rattle.stop_history.specs.declared.phase.Phase.TheVariants.{Dead, Stopped};
-ghost use Rattle.stop_history.specs.Event as event;
 ghost use Rattle.stop_history.specs.Roster.{IsRoster};
 ghost use Rattle.stop_history.specs.State.{is_born};
 ghost use Rattle.stop_table.specs.Claiming.{IsTaken, IsTakenOrLost};
-ghost use Rattle.stop_table.specs.Entry.{bare, cell_after, history_of, word_of};
+ghost use Rattle.stop_table.specs.Entry.{cell_after, history_of, resume_of, word_of};
 ghost use Rattle.stop_table.specs.Handle.{EndsWith, IsHolding, LooksAt, Meets, TriesOnce};
 ghost use Rattle.stop_table.specs.Opening.{new_view};
 ghost use Rattle.stop_table.specs.Tracer.{IsTracerHandle, KeepsHandle, held_rows};
@@ -214,14 +213,14 @@ impl<A: Allocator> Tracer<A> {
     }
 
     /// Lets the row of a claim run on, with a signal of at most 64 or 0 for none (ptrace(2), `PTRACE_SYSCALL`,
-    /// `PTRACE_CONT`). The claim is one of this tracer's.
+    /// `PTRACE_CONT`). Its tracee takes up the claim's record, as it is now. The claim is one of this tracer's.
     #[inline(always)]
     pub fn resume(&mut self, claim: Claim<A>, how: Resume)
         requires claim { IsHolding self.old.view claim.row claim.word claim.stop }
         requires how { IsResume how }
         ensures handle { KeepsHandle self.old self.new }
         ensures made { (before : _) × EndsWith self.old.view self.new.view before
-            (bare (event.Resume claim.row claim.word.number how self.old.view.number)) }
+            (resume_of claim.row claim.word.number how self.old.view.number claim.stop) }
     {
         let Claim {
             stop,

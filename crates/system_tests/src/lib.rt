@@ -1,9 +1,12 @@
-//! Tests of memory at its greatest size, of a piece's growths, of case files and machines, and of the program. They are
-//! in one crate at the top, because a crate with tests is proved twice.
+//! Tests of memory at its greatest size, of a piece's growths, of case files and machines, of runs of a case, of the
+//! outcomes of small programs, and of the program. They are in one crate at the top, because a crate with tests is
+//! proved twice.
 #![tactic(auto)]
 
 #[cfg(test)]
 mod case;
+#[cfg(test)]
+mod explorer;
 #[cfg(test)]
 mod growth;
 #[cfg(test)]
@@ -18,3 +21,5 @@ mod readme;
 mod replay;
 #[cfg(test)]
 mod run;
+#[cfg(test)]
+mod workers;

@@ -308,3 +308,124 @@ fn a_child_has_a_script_of_its_own(rt: HostRuntime) -> Result<(), Fail> {
     );
     Ok(())
 }
+
+/// The stops of the root of `FORK` before the last one, each after its restart.
+const STOPS: [(Resume, Stop); 7] = [
+    (CONT, Stop::Start),
+    (SYSCALL, Stop::Enter),
+    (SYSCALL, Stop::Exit),
+    (SYSCALL, Stop::Enter),
+    (SYSCALL, Stop::Fork(101)),
+    (SYSCALL, Stop::Exit),
+    (SYSCALL, Stop::Enter),
+];
+
+/// Killed by SIGTERM.
+const TERMINATED: Death = Death::Signaled {
+    signal: 15,
+    core: false,
+};
+
+/// A restart that hands SIGTERM over.
+const TERMINATE: Resume = Resume {
+    kind: Kind::Cont,
+    signal: 15,
+};
+
+#[test]
+fn an_exit_stops_before_the_death(rt: HostRuntime) -> Result<(), Fail> {
+    let case = Case::read(rt.alloc(), FORK)?;
+    let Some(mut machine) = machine_of(rt.alloc(), &case, 0, 0x5b, &no_calls()) else {
+        return Ok(assert!(rt; false, "there is a machine"));
+    };
+    let mut record = StopRecord::empty(rt.alloc(), 100);
+    assert_eq!(rt; stops_made(&mut machine, &mut record, &STOPS), 7);
+    let regs = record.regs;
+    let ending = Stop::Ending(Death::Exited(3));
+    assert_eq!(rt;
+        stops_made(&mut machine, &mut record, &[(SYSCALL, ending)]),
+        1
+    );
+    assert_eq!(rt; (record.tid, record.number), (100, 8));
+    assert_eq!(rt; record.event_message(), 768);
+    assert_eq!(rt; record.regs, regs);
+    assert_eq!(rt; record.memory.byte(0x10001), Some(0x69));
+    assert_eq!(rt;
+        machine.next(TERMINATE, &mut record),
+        Next::Death(Death::Exited(3)),
+        "its restart changes nothing"
+    );
+    assert_eq!(rt; record.number, 8);
+    Ok(())
+}
+
+#[test]
+fn a_deadly_signal_stops_before_the_death(rt: HostRuntime) -> Result<(), Fail> {
+    let text = b"tracee 200 200 200 0\nsignal 15 deadly\nexit 0\nend\n";
+    let case = Case::read(rt.alloc(), text)?;
+    let Some(mut machine) = machine_of(rt.alloc(), &case, 0, 0x41, &no_calls()) else {
+        return Ok(assert!(rt; false, "there is a machine"));
+    };
+    let mut record = StopRecord::empty(rt.alloc(), 200);
+    let stops = [
+        (CONT, Stop::Start),
+        (CONT, Stop::Signal(15)),
+        (TERMINATE, Stop::Ending(TERMINATED)),
+    ];
+    assert_eq!(rt; stops_made(&mut machine, &mut record, &stops), 3);
+    assert_eq!(rt; record.event_message(), 15);
+    let death = Next::Death(TERMINATED);
+    assert_eq!(rt; machine.next(CONT, &mut record), death);
+    assert_eq!(rt; record.number, 3);
+    let Some(mut saved) = machine_of(rt.alloc(), &case, 0, 0x41, &no_calls()) else {
+        return Ok(assert!(rt; false, "there is a machine"));
+    };
+    let mut record = StopRecord::empty(rt.alloc(), 200);
+    let stops = [
+        (CONT, Stop::Start),
+        (CONT, Stop::Signal(15)),
+        (CONT, Stop::Ending(Death::Exited(0))),
+    ];
+    assert_eq!(rt;
+        stops_made(&mut saved, &mut record, &stops),
+        3,
+        "a signal that is not handed over does not kill"
+    );
+    Ok(())
+}
+
+#[test]
+fn a_script_that_runs_out_stops_before_the_death(rt: HostRuntime) -> Result<(), Fail> {
+    let case = Case::read(rt.alloc(), b"tracee 7 7 7 0\nend\n")?;
+    let Some(mut machine) = machine_of(rt.alloc(), &case, 0, 0x41, &no_calls()) else {
+        return Ok(assert!(rt; false, "there is a machine"));
+    };
+    let mut record = StopRecord::empty(rt.alloc(), 7);
+    let ending = Stop::Ending(Death::Exited(0));
+    let stops = [(CONT, Stop::Start), (SYSCALL, ending)];
+    assert_eq!(rt; stops_made(&mut machine, &mut record, &stops), 2);
+    assert_eq!(rt; record.event_message(), 0);
+    let death = Next::Death(Death::Exited(0));
+    assert_eq!(rt; machine.next(SYSCALL, &mut record), death);
+    assert_eq!(rt; machine.next(CONT, &mut record), death);
+    assert_eq!(rt; (record.stop, record.number), (ending, 2));
+    Ok(())
+}
+
+#[test]
+fn a_fault_stops_before_no_death(rt: HostRuntime) -> Result<(), Fail> {
+    let text =
+        b"tracee 100 100 77 0\npage 0x10000\ncall read 0 0x10000 1 = 1 fill 0x10000 61\nend\n";
+    let case = Case::read(rt.alloc(), text)?;
+    let Some(mut machine) = machine_of(rt.alloc(), &case, 0, 0x41, &no_calls()) else {
+        return Ok(assert!(rt; false, "there is a machine"));
+    };
+    let mut record = StopRecord::empty(rt.alloc(), 100);
+    let stops = [(CONT, Stop::Start), (SYSCALL, Stop::Enter)];
+    assert_eq!(rt; stops_made(&mut machine, &mut record, &stops), 2);
+    record.memory = Memory::new(rt.alloc());
+    assert_eq!(rt; machine.next(SYSCALL, &mut record), Next::Fault(0x10000));
+    assert_eq!(rt; machine.next(CONT, &mut record), Next::Fault(0x10000));
+    assert_eq!(rt; (record.stop, record.number), (Stop::Enter, 2));
+    Ok(())
+}

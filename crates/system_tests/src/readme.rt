@@ -1,27 +1,39 @@
-//! The example of the README, as printed there.
+//! The first example of the README, as printed there.
 
 use std::alloc::Global;
-use stop_board::{Board, NoMemory, Roster, Row, State};
+use stop_board::{Action, NoMemory, Reply, Roster, Row, State, World};
 use trace_record::Stop;
 
-/// Publishes the first stop of a lone tracee, and returns its state.
-fn first_stop(alloc: Global, tid: u32) -> Result<State, NoMemory> {
+/// Two tracers look at one stop, and then both claim it. Answers the replies to the claims, and the state of the row.
+fn both_claim(alloc: Global) -> Result<(Reply, Reply, State), NoMemory> {
     let row = Row {
-        tid,
-        tgid: tid,
-        pgid: tid,
+        tid: 100,
+        tgid: 100,
+        pgid: 100,
         parent: 0,
     };
     let Ok(roster) = Roster::new(alloc, &[row]) else {
         return Err(NoMemory);
     };
-    let mut board = Board::new(alloc, &roster)?;
-    let _ = board.publish(0, Stop::Start);
-    Ok(board.state(0))
+    let mut world = World::new(alloc, &roster, 2)?;
+    // Actor 0 is the tracee of row 0; actors 1 and 2 are the tracers 0 and 1.
+    let _ = world.step(0, Action::TakeUp);
+    let _ = world.step(0, Action::Publish(Stop::Start));
+    let _ = world.step(1, Action::Look(0));
+    let _ = world.step(2, Action::Look(0));
+    let second = world.step(2, Action::Claim(0));
+    let first = world.step(1, Action::Claim(0));
+    Ok((first, second, world.state(0)))
 }
 
 #[test]
-fn the_example_of_the_readme_runs(rt: HostRuntime) {
-    let stopped = State::Stopped(1, 0x80057f);
-    assert_eq!(rt; first_stop(rt.alloc(), 100), Ok(stopped));
+fn of_two_tracers_that_have_looked_one_gets_the_stop(rt: HostRuntime) {
+    let Ok((first, second, state)) = both_claim(rt.alloc()) else {
+        return assert!(rt; false, "there is memory");
+    };
+    assert!(rt; matches!(second, Reply::Got(_)));
+    // The row has changed since the first tracer looked.
+    assert!(rt; matches!(first, Reply::Missed(_)));
+    // Stop 1 is held by tracer 1.
+    assert_eq!(rt; state, State::Claimed(1, 1));
 }

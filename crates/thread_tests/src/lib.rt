@@ -1,6 +1,6 @@
-//! Tests of the cells that threads share (`stop_table`), of waits and calls by pid over them (`trace_calls`), and of runs
-//! of a case (`tracer_workers`). They are in one crate at the top, because a crate with tests is proved twice, and these
-//! three take long.
+//! Tests of the cells that threads share (`stop_table`), and of waits and calls by pid over them (`trace_calls`). They are
+//! in a crate of their own, because a crate with tests is proved twice, and these two take long; those of runs of a case
+//! are in `system_tests`, because all in one crate would be the longest proof of the gate.
 #![tactic(auto)]
 
 #[cfg(test)]
@@ -9,5 +9,3 @@ mod cells;
 mod rows;
 #[cfg(test)]
 mod waits;
-#[cfg(test)]
-mod workers;

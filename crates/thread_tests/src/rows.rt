@@ -46,3 +46,13 @@ pub(crate) fn roots<A: Allocator>(alloc: A, count: u32) -> Result<Vec<Row, A>, A
     }
     Ok(rows)
 }
+
+/// A root of thread id 1 and this many forked children of it, with the thread ids from 2 on.
+pub(crate) fn family<A: Allocator>(alloc: A, children: u32) -> Result<Vec<Row, A>, AllocError> {
+    let mut rows = roots(alloc, 1)?;
+    for tid in 0..children {
+        let tid = tid.wrapping_add(2);
+        rows.push(row(tid, tid, 77, 1))?;
+    }
+    Ok(rows)
+}

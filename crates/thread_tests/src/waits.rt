@@ -5,5 +5,8 @@ mod by_pid;
 mod by_row;
 pub(crate) mod caller;
 mod growth;
+mod small_debugger;
 mod small_tracer;
 mod threads;
+mod two_tracers;
+mod writes;

@@ -1,12 +1,17 @@
 -- The claims that are kept, as the history goes on.
-use Rattle.std.proofs.Common.{refl, ◌≡◌, ◌≢◌, ◌<◌, ◌++◌, [], ℕ, Bool, true, false, List, length}
-use Rattle.std.proofs.Common.{get_or, set}
+use Rattle.std.proofs.Common.{refl, ◌≡◌, ◌≢◌, ◌<◌, ◌∷◌, ◌++◌, [], ℕ, ℤ, zero, suc, Bool, true, false, List, length}
+use Rattle.std.proofs.Common.{get_or, set, Result, Ok, Err}
 use Rattle.std.proofs.Common.{Option, Some, None, replicate, ◌∙◌, sym, ap, inl, inr, arith, subst, eq-eqb, is_some}
 use Rattle.std.specs.List.{list_any}
 use Rattle.std.proofs.lemmas.Bool.{cases_Bool}
-use Rattle.std.proofs.lemmas.List.{length-set}
-use Rattle.std.proofs.lemmas.Option.{slice_get_read, slice_get_within}
-use Rattle.trace_record.specs.Content.{Content}
+use Rattle.std.proofs.lemmas.List.{get_or-map, length-map, length-set, map-set, set-get_or}
+use lib.Seq.{map-set_same}
+use Rattle.std.specs.Option.{unwrap_or}
+use Rattle.std.proofs.lemmas.Option.{same_Some, slice_get-get_or, slice_get_read, slice_get_within}
+use Rattle.trace_pages.specs.declared.fault.Fault.{Fault}
+use Rattle.trace_pages.specs.FlatMemory.{Absent, FlatMemory, Full, RunEnd, Top, run_end}
+use Rattle.trace_pages.specs.Memory.{store_answer}
+use Rattle.trace_record.specs.Content.{Content, empty_content}
 use Rattle.stop_history.specs.declared.roster.Row.{Row}
 use Rattle.stop_history.specs.declared.phase.Phase.TheVariants as phase
 use Rattle.stop_history.specs.Event as event
@@ -16,17 +21,22 @@ use Rattle.stop_history.specs.State.{is_born, state_after}
 use Rattle.stop_history.specs.Word.{Word, phase_in, shown}
 use Rattle.stop_history.proofs.Longer.{claimed_before}
 use Rattle.stop_table.specs.declared.claim.Claim.{Claim}
-use Rattle.stop_table.specs.Entry.{bare, AreLegal, Cell, Entry, GoesOn, cell_after, history_of, word_of}
-use Rattle.stop_table.specs.Handle.{EndsWith, IsHolding, Looked}
+use Rattle.stop_table.specs.Entry.{AreLegal, Cell, Entry, GoesOn, bare, cell_after, content_after, history_of}
+use Rattle.stop_table.specs.Entry.{resume_of, word_of}
+use Rattle.stop_table.specs.Handle.{Claims, EndsWith, IsHolding, Looked}
 use Rattle.stop_table.specs.Tracer.{IsTracerHandle, TracerHandle, held_rows, is_claimed_by, is_held}
 use Rattle.stop_table.specs.View.{View, actors_of, is_among}
-use Rattle.stop_table.proofs.Entries.{content_number, history_append, other_cell, own_cell, shown_state, stays_on}
+use Rattle.stop_table.specs.Written.{IsWrittenOver}
+use Rattle.stop_table.proofs.Entries.{content_number, history_append, other_cell, own_cell, own_content, shown_state}
+use Rattle.stop_table.proofs.Entries.{stays_on}
 use Rattle.stop_table.proofs.Own.{claimed_by_is, held_moved}
 use Rattle.stop_table.proofs.Walking.{legal_after}
-use Rattle.trace_calls.specs.ByPid.{published}
+use Rattle.trace_calls.specs.ByPid.{HasNotClaimed, row_of_pid, with_record}
 use Rattle.trace_calls.specs.ByRow.{HasClaimedRow}
-use Rattle.trace_calls.specs.Handle.{CallsHandle, IsCalls, KeepsClaim, KeepsClaims, handle_of}
-use Rattle.trace_calls.specs.Waiting.{Reports}
+use Rattle.trace_calls.specs.Handle.{CallsHandle, HasRecords, IsCalls, KeepsClaim, KeepsClaims, claimed_record}
+use Rattle.trace_calls.specs.Handle.{handle_of}
+use Rattle.trace_calls.specs.Handle.{record_of, records_of}
+use Rattle.trace_calls.specs.Waiting.{ReportsStatus}
 use Rattle.trace_calls.proofs.Places.{none_in_range, replicate_place, set_place, without_some}
 
 -- ---- a row that is claimed
@@ -103,9 +113,31 @@ kept_claim v w row (Some claim) k is =
       record {
         is_phase = is.1.is_phase ∙ ap phase.Claimed (sym k.number);
         is_word = is.1.is_word ∙ ap (word_of false) (sym cell);
-        is_content = is.1.is_content ∙ ap (λ (c : Cell). c.content) (sym cell);
+        is_content = subst (λ (c : Cell). IsWrittenOver c.content claim.stop) (sym cell) is.1.is_content;
       },
     )
+
+-- the record of a row that is claimed is that of its claim
+written_by : {A : Type 0} (v : View) (row : ℕ) (claim : Option (Claim A)) (recorded : Option Content)
+    → KeepsClaim v row claim → is_held v row ≡ true → recorded ≡ record_of claim
+    → IsWrittenOver (content_after v.roster v.seen row) (unwrap_or recorded (empty_content 0))
+written_by v row None recorded kept held is = let clash : true ≡ false = sym held ∙ kept in cc
+written_by v row (Some claim) recorded kept held is =
+    subst (λ o. IsWrittenOver (content_after v.roster v.seen row) (unwrap_or o (empty_content 0))) (sym is)
+    kept.1.is_content
+
+pub has_records : {A : Type 0} (a : CallsHandle) (t : TracerHandle) (rows : List Row) (held : List (Option (Claim A)))
+    (counts : List ℕ) → handle_of t counts (records_of held) ≡ a → IsCalls t rows held counts → HasRecords a
+has_records a t rows held counts same calls =
+    let long : length held ≡ length t.view.roster = calls.held_long ∙ ap length calls.roster in
+    subst HasRecords same (record {
+      long = length-map held record_of ∙ long;
+      written = λ row within is.
+          let low : row < length held = omega arith in
+          written_by t.view row (get_or held row None) (get_or (records_of held) row None)
+          (calls.claims row (get_or held row None) (slice_get-get_or held row None low)) is
+          (get_or-map record_of held row None None low);
+    })
 
 -- a row that is not claimed has no claim
 pub no_claim : {A : Type 0} (v : View) (row : ℕ) (claim : Option (Claim A)) → KeepsClaim v row claim
@@ -116,12 +148,12 @@ no_claim v row (Some claim) is free =
 
 -- a row that has something to report is not the caller's own
 claimed_silent : (born : Bool) (k : ℕ) (tracer : ℕ) (deaths : Bool) (number status : ℕ)
-    → Reports deaths number status (shown born k (phase.Claimed tracer)) → ⊥
+    → ReportsStatus deaths number status (shown born k (phase.Claimed tracer)) → ⊥
 claimed_silent born k tracer deaths number status is = elim is [ inl stop ↦ cc | inr death ↦ (let d = death.1 in cc) ]
 
 pub reports_free : (v : View) (h : List Entry) → is_among v.number v.tracers ≡ true → AreLegal v.roster h
     → GoesOn (actors_of v) v.seen h → (row : ℕ) → row < length v.roster → (deaths : Bool) (number status : ℕ)
-    → Reports deaths number status (state_after v.roster (history_of h) row) → is_held v row ≡ false
+    → ReportsStatus deaths number status (state_after v.roster (history_of h) row) → is_held v row ≡ false
 reports_free v h mine legal on row within deaths number status reports =
     elim (cases_Bool (is_held v row)) [
       | inr free ↦ free
@@ -130,7 +162,7 @@ reports_free v h mine legal on row within deaths number status reports =
           ((claim_at v h mine legal on row).0 ∙ held) in
           absurd (claimed_silent (is_born v.roster (history_of h) row) (cell_after v.roster h row).number v.number deaths
           number status
-          (subst (Reports deaths number status)
+          (subst (ReportsStatus deaths number status)
           (shown_state v.roster h row within
           ∙ ap (shown (is_born v.roster (history_of h) row) (cell_after v.roster h row).number) at)
           reports))
@@ -159,14 +191,15 @@ nothing_yet v count long none row claim is =
 -- ---- the calls by row
 
 pub in_roster : {A : Type 0} (a : CallsHandle) (t : TracerHandle) (rows : List Row) (held : List (Option (Claim A)))
-    (counts : List ℕ) (row : ℕ) → handle_of t counts ≡ a → IsCalls t rows held counts → row < length rows
+    (counts : List ℕ) (row : ℕ) → handle_of t counts (records_of held) ≡ a → IsCalls t rows held counts
+    → row < length rows
     → row < length a.view.roster
 in_roster a t rows held counts row same calls low =
     let long = ap length calls.roster ∙ ap (λ (h : CallsHandle). length h.view.roster) same in
     omega (arith, low, long)
 
 module _ {A : Type 0} (a : CallsHandle) (t : TracerHandle) (rows : List Row) (held : List (Option (Claim A)))
-    (counts : List ℕ) (same : handle_of t counts ≡ a) (calls : IsCalls t rows held counts) (row : ℕ)
+    (counts : List ℕ) (same : handle_of t counts (records_of held) ≡ a) (calls : IsCalls t rows held counts) (row : ℕ)
     (claim : Option (Claim A)) (within : row < length a.view.roster) (stands : claim ≡ get_or held row claim) where
   low : row < length held
   low =
@@ -189,36 +222,38 @@ module _ {A : Type 0} (a : CallsHandle) (t : TracerHandle) (rows : List Row) (he
       let k = holding c is in
       (within, subst (λ (h : CallsHandle). is_held h.view row ≡ true) same (holding_held t.view row c.word c.stop k.1))
 
-  pub was_published : (c : Claim A) → claim ≡ Some c → c.stop ≡ published a row
-  was_published c is =
-      (holding c is).1.is_content ∙ ap (λ (h : CallsHandle). published h row) same
+  pub is_recorded : (c : Claim A) → claim ≡ Some c → c.stop ≡ claimed_record a row
+  is_recorded c is =
+      let at : get_or (records_of held) row None ≡ Some c.stop =
+      get_or-map record_of held row claim None low ∙ ap record_of (sym stands ∙ is) in
+      ap (λ o. unwrap_or o (empty_content 0)) (sym at) ∙ ap (λ (h : CallsHandle). claimed_record h row) same
 
 -- ---- a restart
 
 -- the row of a resume is not claimed any more
-resumed_free : (v w : View) (before : List Entry) (row number : ℕ) (how : Restart)
-    → EndsWith v w before (bare (event.Resume row number how v.number)) → is_held w row ≡ false
-resumed_free v w before row number how e =
-    let x = bare (event.Resume row number how v.number) in
+resumed_free : (v w : View) (before : List Entry) (row number : ℕ) (how : Restart) (content : Content)
+    → EndsWith v w before (resume_of row number how v.number content) → is_held w row ≡ false
+resumed_free v w before row number how content e =
+    let x = resume_of row number how v.number content in
     ap (λ h. is_claimed_by w.number (cell_after w.roster h row).phase) e.seen
     ∙ ap (λ (c : Cell). is_claimed_by w.number c.phase) (own_cell w.roster x before row refl)
 
 pub resumed_claims : {A : Type 0} (t t' : TracerHandle) (rows : List Row) (held : List (Option (Claim A)))
-    (counts : List ℕ) (before : List Entry) (row number : ℕ) (how : Restart) (left : Option (Claim A))
-    → IsTracerHandle t → IsCalls t rows held counts
-    → EndsWith t.view t'.view before (bare (event.Resume row number how t.view.number)) → left ≡ None
+    (counts : List ℕ) (before : List Entry) (row number : ℕ) (how : Restart) (content : Content)
+    (left : Option (Claim A)) → IsTracerHandle t → IsCalls t rows held counts
+    → EndsWith t.view t'.view before (resume_of row number how t.view.number content) → left ≡ None
     → IsCalls t' rows (set held row left) counts
-resumed_claims t t' rows held counts before row number how left is calls e none = record {
+resumed_claims t t' rows held counts before row number how content left is calls e none = record {
   roster = calls.roster ∙ sym e.same.roster;
   held_long = length-set held row left ∙ calls.held_long;
   counts_long = calls.counts_long;
   claims = λ other claim at. elim (set_place held row other left claim at) [
     | inl here ↦
         subst (KeepsClaim t'.view other) (sym (here.1 ∙ none))
-        (ap (is_held t'.view) here.0 ∙ resumed_free t.view t'.view before row number how e)
+        (ap (is_held t'.view) here.0 ∙ resumed_free t.view t'.view before row number how content e)
     | inr beside ↦
         kept_claim t.view t'.view other claim
-        (keeps_beside t.view t'.view before (bare (event.Resume row number how t.view.number)) is.mine e other beside.0)
+        (keeps_beside t.view t'.view before (resume_of row number how t.view.number content) is.mine e other beside.0)
         (calls.claims other claim beside.1)
   ];
 }
@@ -228,17 +263,104 @@ pub held_number : (v : View) (row : ℕ) (word : Word) (content : Content) → A
     → IsHolding v row word content → word.number ≡ content.number
 held_number v row word content legal h =
     ap (λ (w : Word). w.number) h.is_word ∙ sym (content_number v.roster v.seen legal row).0
-    ∙ ap (λ (c : Content). c.number) (sym h.is_content)
+    ∙ sym h.is_content.number
 
-pub made_restart : (a : CallsHandle) (t t' : TracerHandle) (counts : List ℕ) (row at number : ℕ) (how : Restart)
-    → handle_of t counts ≡ a → at ≡ row → number ≡ (published a row).number
-    → ((before : List Entry) × EndsWith t.view t'.view before (bare (event.Resume at number how t.view.number)))
+pub made_restart : (a : CallsHandle) (t t' : TracerHandle) (counts : List ℕ) (records : List (Option Content))
+    (row at number : ℕ) (how : Restart) (content : Content) → handle_of t counts records ≡ a → at ≡ row
+    → number ≡ (claimed_record a row).number → content ≡ claimed_record a row
+    → ((before : List Entry) × EndsWith t.view t'.view before (resume_of at number how t.view.number content))
     → (before : List Entry) × EndsWith a.view t'.view before
-    (bare (event.Resume row (published a row).number how a.view.number))
-made_restart a t t' counts row at number how same here is made = (
+    (resume_of row (claimed_record a row).number how a.view.number (claimed_record a row))
+made_restart a t t' counts records row at number how content same here is held made = (
   made.0,
-  subst (λ n. EndsWith a.view t'.view made.0 (bare (event.Resume row n how a.view.number))) is
-      (subst (λ r. EndsWith a.view t'.view made.0 (bare (event.Resume r number how a.view.number))) here
-      (subst (λ (h : CallsHandle). EndsWith h.view t'.view made.0 (bare (event.Resume at number how h.view.number))) same
-      made.1)),
+  subst (λ n. EndsWith a.view t'.view made.0 (resume_of row n how a.view.number (claimed_record a row))) is
+      (subst (λ r. EndsWith a.view t'.view made.0 (resume_of r number how a.view.number (claimed_record a row))) here
+      (subst (λ c. EndsWith a.view t'.view made.0 (resume_of at number how a.view.number c)) held
+      (subst (λ (h : CallsHandle). EndsWith h.view t'.view made.0 (resume_of at number how h.view.number content)) same
+      made.1))),
 )
+
+-- ---- records
+
+-- a claim has the record that its tracee published
+pub taken_content : (v w : View) (row : ℕ) (content : Content) → Claims v w row content
+    → content ≡ content_after w.roster w.seen row
+taken_content v w row content c =
+    let x = bare (event.Claim row content.number v.number) in
+    let after : content_after w.roster w.seen row ≡ content_after v.roster c.0 row =
+    ap (λ rows. content_after rows w.seen row) c.1.same.roster ∙ ap (λ h. content_after v.roster h row) c.1.seen
+    ∙ own_content v.roster x c.0 in
+    c.3 ∙ sym after
+
+-- the records once the claim at a place is another
+pub record_set : {A : Type 0} (held : List (Option (Claim A))) (row : ℕ) (claim : Option (Claim A))
+    → records_of (set held row claim) ≡ set (records_of held) row (record_of claim)
+record_set held row claim = map-set record_of held row claim
+
+-- no claim has a record
+pub no_records : (A : Type 0) (count : ℕ) → records_of {A = A} (replicate count None) ≡ replicate count None
+no_records A zero = refl
+no_records A (suc count) = ap (λ records. None ∷ records) (no_records A count)
+
+-- a pid whose row is not claimed
+pub not_claimed_pid : (a : CallsHandle) (pid : ℤ) (place : Option ℕ) (row : ℕ) → place ≡ row_of_pid a.view.roster pid
+    → place ≡ Some row → is_held a.view row ≡ false → HasNotClaimed a pid
+not_claimed_pid a pid place row is at free = λ other there.
+    subst (λ r. is_held a.view r ≡ false) (same_Some row other (sym at ∙ is ∙ there)) free
+
+-- a claim that is put back as it was
+pub unchanged : {A : Type 0} (held : List (Option (Claim A))) (row : ℕ) (claim : Option (Claim A))
+    → claim ≡ get_or held row claim → set held row claim ≡ held
+unchanged held row claim stands = ap (set held row) stands ∙ set-get_or held row claim
+
+-- the caller, once a claim that it has at a place has another record
+pub rewritten : {A : Type 0} (a : CallsHandle) (t : TracerHandle) (held : List (Option (Claim A))) (counts : List ℕ)
+    (row : ℕ) (claim : Claim A) (content : Content) → handle_of t counts (records_of held) ≡ a → claim.stop ≡ content
+    → handle_of t counts (records_of (set held row (Some claim))) ≡ with_record a row content
+rewritten a t held counts row claim content same is =
+    ap (handle_of t counts)
+    (record_set held row (Some claim) ∙ ap (λ s. set (records_of held) row (Some s)) is)
+    ∙ ap (λ (h : CallsHandle). with_record h row content) same
+
+-- and once it has the record that it had
+pub put_back : {A : Type 0} (a : CallsHandle) (t : TracerHandle) (held : List (Option (Claim A))) (counts : List ℕ)
+    (row : ℕ) (old claim : Claim A) (at : Option (Claim A)) → handle_of t counts (records_of held) ≡ a
+    → at ≡ get_or held row at → at ≡ Some old → claim.stop ≡ old.stop
+    → handle_of t counts (records_of (set held row (Some claim))) ≡ a
+put_back a t held counts row old claim at same stands is stop =
+    ap (handle_of t counts)
+    (map-set_same record_of held row (Some claim) at (ap Some stop ∙ ap record_of (sym is ∙ stands)))
+    ∙ same
+
+-- the claim of a row, with another record, is a claim of the row as before
+pub rewritten_claims : {A : Type 0} (t : TracerHandle) (rows : List Row) (held : List (Option (Claim A)))
+    (counts : List ℕ) (row : ℕ) (claim : Claim A) → IsCalls t rows held counts → claim.row ≡ row
+    → IsHolding t.view row claim.word claim.stop → IsCalls t rows (set held row (Some claim)) counts
+rewritten_claims t rows held counts row claim calls at holding = record {
+  roster = calls.roster;
+  held_long = length-set held row (Some claim) ∙ calls.held_long;
+  counts_long = calls.counts_long;
+  claims = λ other one stands. elim (set_place held row other (Some claim) one stands) [
+    | inl here ↦
+        subst (KeepsClaim t.view other) (sym here.1)
+        (subst (λ r. KeepsClaim t.view r (Some claim)) (sym here.0) (at, holding))
+    | inr beside ↦ calls.claims other one beside.1
+  ];
+}
+
+-- ---- stores
+
+-- a store that is done was of a run that is all there
+done_run : (end : RunEnd) → store_answer end ≡ Ok tt → end ≡ Full
+done_run Full is = refl
+done_run (Absent address) is = cc
+done_run Top is = cc
+
+pub done_stores : (r : Result (Unit {0}) Fault) (address : ℕ) (memory : FlatMemory)
+    → r ≡ store_answer (run_end memory address 8) → r ≡ Ok tt → run_end memory address 8 ≡ Full
+done_stores r address memory answer is = done_run (run_end memory address 8) (sym answer ∙ is)
+
+pub refused_faults : (r : Result (Unit {0}) Fault) (address : ℕ) (memory : FlatMemory) (fault : Fault)
+    → r ≡ store_answer (run_end memory address 8) → r ≡ Err fault → run_end memory address 8 ≡ Full → ⊥
+refused_faults r address memory fault answer is whole =
+    let clash : Err fault ≡ Ok tt = sym is ∙ answer ∙ ap store_answer whole in cc

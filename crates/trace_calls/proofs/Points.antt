@@ -13,13 +13,13 @@ use Rattle.stop_table.specs.View.{View, a_look}
 use Rattle.stop_table.proofs.Entries.{begins_on}
 use Rattle.stop_table.proofs.Walking.{ends_from, goes_from, looked_on, lost_from, lost_on, point_from, step_on}
 use Rattle.trace_calls.specs.Scan.{is_pending_shown}
-use Rattle.trace_calls.specs.Waiting.{Claimed, Reports, Saw, Showed, is_pending, is_waitable_for}
+use Rattle.trace_calls.specs.Waiting.{Claimed, ReportsStatus, SawState, Showed, is_pending, is_waitable_for}
 
 -- ---- what is shown
 
 -- what is known of the state is known of what is shown, and the other way round
-pub saw_as : (v w : View) (row : ℕ) (P Q : State → Type 0) → ((at : State) → P at → Q at) → Saw v w row P
-    → Saw v w row Q
+pub saw_as : (v w : View) (row : ℕ) (P Q : State → Type 0) → ((at : State) → P at → Q at) → SawState v w row P
+    → SawState v w row Q
 saw_as v w row P Q on s = record {
   point = s.point;
   sooner = s.sooner;
@@ -32,7 +32,7 @@ saw_as v w row P Q on s = record {
 pub looked_in_vain : (v w : View) (row : ℕ) (a : Shown) → GetsNothing v w row a → Looked v w
 looked_in_vain v w row a nothing = elim nothing [ inl last ↦ last.0 | inr lost ↦ lost.0 ]
 
-saw_nothing : (v w : View) (row : ℕ) (a : Shown) → GetsNothing v w row a → Saw v w row (λ at. a ≡ shown_of at)
+saw_nothing : (v w : View) (row : ℕ) (a : Shown) → GetsNothing v w row a → SawState v w row (λ at. a ≡ shown_of at)
 saw_nothing v w row a nothing =
     elim nothing [
       | inl last ↦
@@ -53,7 +53,7 @@ saw_nothing v w row a nothing =
           }
     ]
 
-pub saw_look : (v w : View) (row : ℕ) (a : Shown) → LooksAt v w row a → Saw v w row (λ at. a ≡ shown_of at)
+pub saw_look : (v w : View) (row : ℕ) (a : Shown) → LooksAt v w row a → SawState v w row (λ at. a ≡ shown_of at)
 saw_look v w row a l = record {
   point = l.1.point;
   sooner = l.1.sooner;
@@ -84,7 +84,7 @@ pending_shown state.Reaped = refl
 -- a row that was not claimed
 pub passed : (deaths pending : Bool) (v w : View) (row : ℕ) (a : Shown) → GetsNothing v w row a
     → is_claimable deaths a ≡ false → pending ≡ is_pending_shown a
-    → Saw v w row (λ at. (is_waitable_for deaths at ≡ false) × (is_pending at ≡ pending))
+    → SawState v w row (λ at. (is_waitable_for deaths at ≡ false) × (is_pending at ≡ pending))
 passed deaths pending v w row a l free is =
     saw_as v w row (λ at. a ≡ shown_of at) (λ at. (is_waitable_for deaths at ≡ false) × (is_pending at ≡ pending))
     (λ at same. (
@@ -96,7 +96,7 @@ passed deaths pending v w row a l free is =
 -- ---- parts of a call
 
 -- a point of a later part is one of the whole
-pub saw_from : (u v w : View) (row : ℕ) (P : State → Type 0) → Looked u v → Saw v w row P → Saw u w row P
+pub saw_from : (u v w : View) (row : ℕ) (P : State → Type 0) → Looked u v → SawState v w row P → SawState u w row P
 saw_from u v w row P first s =
     let same = first.grows.same.roster in
     record {
@@ -118,8 +118,8 @@ point_on u v w row h point later =
     ]
 
 -- a point stays one as the call goes on
-pub saw_on : (u v w : View) (row : ℕ) (P : State → Type 0) → Saw u v row P → Begins v.seen w.seen → HasSteps v w
-    → Saw u w row P
+pub saw_on : (u v w : View) (row : ℕ) (P : State → Type 0) → SawState u v row P → Begins v.seen w.seen → HasSteps v w
+    → SawState u w row P
 saw_on u v w row P s later steps = record {
   point = s.point;
   sooner = s.sooner;
@@ -143,10 +143,10 @@ claimed_from deaths u v w row number status first c =
       c.0,
       subst (λ n. EndsWith u w c.0 (bare (event.Claim row number n))) same.number
           (ends_from u v w c.0 (bare (event.Claim row number v.number)) first c.1),
-      subst (λ rows. Reports deaths number status (state_after rows (history_of c.0) row)) same.roster c.2,
+      subst (λ rows. ReportsStatus deaths number status (state_after rows (history_of c.0) row)) same.roster c.2,
     )
 
 pub showed_from : (deaths : Bool) (u v w : View) (row number status : ℕ) → Looked u v
     → Showed deaths v w row number status → Showed deaths u w row number status
 showed_from deaths u v w row number status first s =
-    (looked_on u v w first s.0, saw_from u v w row (Reports deaths number status) first s.1)
+    (looked_on u v w first s.0, saw_from u v w row (ReportsStatus deaths number status) first s.1)

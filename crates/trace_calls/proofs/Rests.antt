@@ -18,7 +18,7 @@ use Rattle.stop_table.proofs.Entries.{legal_append, history_append, legal_back}
 use Rattle.trace_calls.specs.declared.selection.Selection.{Selection}
 use Rattle.trace_calls.specs.declared.selection.Selection.TheVariants.{All, Tracee, Group}
 use Rattle.trace_calls.specs.Selection.{IsSelected, has_parents, is_selected}
-use Rattle.trace_calls.specs.Waiting.{AreGoneForGood, Saw, is_pending, is_waitable_for}
+use Rattle.trace_calls.specs.Waiting.{AreGoneForGood, SawState, is_pending, is_waitable_for}
 
 -- ---- states
 
@@ -49,8 +49,8 @@ quiet_gone deaths (state.Dead number status) there free quiet = ap not free
 quiet_gone deaths state.Reaped there free quiet = refl
 
 pub saw_gone : (deaths : Bool) (v w : View) (row : ℕ) → row < length v.roster
-    → Saw v w row (λ at. (is_waitable_for deaths at ≡ false) × (is_pending at ≡ false))
-    → Saw v w row (λ at. is_gone deaths at ≡ true)
+    → SawState v w row (λ at. (is_waitable_for deaths at ≡ false) × (is_pending at ≡ false))
+    → SawState v w row (λ at. is_gone deaths at ≡ true)
 saw_gone deaths v w row within s = record {
   point = s.point;
   sooner = s.sooner;

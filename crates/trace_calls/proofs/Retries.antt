@@ -6,17 +6,17 @@ use Rattle.stop_history.specs.Over.{is_gone}
 use Rattle.stop_table.specs.Handle.{Looked}
 use Rattle.stop_table.specs.View.{View}
 use Rattle.stop_table.proofs.Walking.{looked_on}
-use Rattle.trace_calls.specs.declared.request.Request.{Request}
+use Rattle.trace_calls.specs.declared.request.WaitRequest.{WaitRequest}
 use Rattle.trace_calls.specs.declared.row_status.RowStatus.{RowStatus}
-use Rattle.trace_calls.specs.Answer.{AnswersByRow, IsRowAnswer, IsStatusOf}
-use Rattle.trace_calls.specs.Handle.{CallsHandle}
+use Rattle.trace_calls.specs.Answer.{AnswersByRow, IsRowAnswer, IsStatusOf, records_with}
+use Rattle.trace_calls.specs.Handle.{CallsHandle, KeepsRows}
 use Rattle.trace_calls.specs.Retry.{OnlyLooked}
 use Rattle.trace_calls.specs.Selection.{IsSelected}
 use Rattle.trace_calls.specs.Waiting.{AreGoneForGood, Found, NoChild, NothingYet, Took, WasPassed}
 use Rattle.trace_calls.specs.Waiting.{is_pending, is_waitable_for}
 use Rattle.trace_calls.proofs.Points.{claimed_from, saw_from, showed_from}
 
-module _ (request : Request) (u v w : View) (first : Looked u v) where
+module _ (request : WaitRequest) (u v w : View) (first : Looked u v) where
   same : v.roster ≡ u.roster
   same = first.grows.same.roster
 
@@ -60,20 +60,24 @@ module _ (request : Request) (u v w : View) (first : Looked u v) where
     took_from request.keeps row number status f.1,
   )
 
-module _ (request : Request) (a c b : CallsHandle) (only : OnlyLooked a c) where
+module _ (request : WaitRequest) (a c b : CallsHandle) (only : OnlyLooked a c) where
   found_again : (found : RowStatus) → AnswersByRow request c b found → AnswersByRow request a b found
   found_again found is = record {
     raw = is.raw;
     is_found = found_from request a.view c.view b.view only.2 found.row found.number is.raw is.is_found;
     is_status = subst (λ rows. IsStatusOf rows found.row is.raw found.status) only.2.grows.same.roster is.is_status;
-    counts = is.counts ∙ ap (λ counts. set counts found.row found.number) only.1;
+    counts = is.counts ∙ ap (λ counts. set counts found.row found.number) only.1.0;
+    records = is.records ∙ ap (records_with b.view found.row) only.1.1;
   }
+
+  kept_rows : KeepsRows c b → KeepsRows a b
+  kept_rows kept = (kept.0 ∙ only.1.0, kept.1 ∙ only.1.1)
 
   pub answer_from : (result : Result (Option RowStatus) Errno) → IsRowAnswer request c b result
       → IsRowAnswer request a b result
   answer_from (Ok (Some found)) is = found_again found is
-  answer_from (Ok None) is = (nothing_from request a.view c.view b.view only.2 is.0, is.1 ∙ only.1)
-  answer_from (Err errno.ECHILD) is = (none_from request a.view c.view b.view only.2 is.0, is.1 ∙ only.1)
+  answer_from (Ok None) is = (nothing_from request a.view c.view b.view only.2 is.0, kept_rows is.1)
+  answer_from (Err errno.ECHILD) is = (none_from request a.view c.view b.view only.2 is.0, kept_rows is.1)
   answer_from (Err errno.EINVAL) is = is
   answer_from (Err errno.ESRCH) is = is
   answer_from (Err errno.EIO) is = is
@@ -82,4 +86,4 @@ module _ (request : Request) (a c b : CallsHandle) (only : OnlyLooked a c) where
       → b.table_id ≡ c.table_id → OnlyLooked a b
   tried_again result nothing is table =
       let n = subst (IsRowAnswer request c b) nothing is in
-      (table ∙ only.0, n.1 ∙ only.1, looked_on a.view c.view b.view only.2 n.0.looked)
+      (table ∙ only.0, kept_rows n.1, looked_on a.view c.view b.view only.2 n.0.looked)

@@ -11,21 +11,21 @@ use Rattle.stop_history.specs.Over.{is_gone}
 use Rattle.stop_history.specs.Roster.{IsRoster}
 use Rattle.stop_history.specs.State.{state_after}
 use Rattle.stop_table.specs.declared.claim.Claim.{Claim}
-use Rattle.stop_table.specs.Entry.{AreLegal, Begins, bare, history_of}
+use Rattle.stop_table.specs.Entry.{AreLegal, Begins, bare, content_after, history_of}
 use Rattle.stop_table.specs.Handle.{HasSteps, IsHolding, Looked}
 use Rattle.stop_table.specs.View.{View}
 use Rattle.stop_table.proofs.Walking.{begins_of, legal_after, looked_on, stands_still}
-use Rattle.trace_calls.specs.declared.request.Request.{Request}
+use Rattle.trace_calls.specs.declared.request.WaitRequest.{WaitRequest}
 use Rattle.trace_calls.specs.declared.scan.Finding.TheVariants as finding
 use Rattle.trace_calls.specs.declared.scan.Try.TheVariants as tried
 use Rattle.trace_calls.specs.Scan.{IsFinding, IsTurn, Scanned}
 use Rattle.trace_calls.specs.Selection.{IsSelected}
 use Rattle.trace_calls.specs.Waiting.{Found, NoChild, NothingYet}
-use Rattle.trace_calls.specs.Waiting.{Claimed, IsFirst, Saw, Took, WasPassed, is_pending, is_waitable_for}
+use Rattle.trace_calls.specs.Waiting.{Claimed, IsFirst, SawState, Took, WasPassed, is_pending, is_waitable_for}
 use Rattle.trace_calls.proofs.Points.{begins_end, claimed_from, saw_as, saw_from, saw_on, showed_from}
 use Rattle.trace_calls.proofs.Rests.{gone_for_good, over_next, saw_gone}
 
-pub scan_none : (request : Request) (v : View) → AreLegal v.roster v.seen → Scanned request v v 0 false
+pub scan_none : (request : WaitRequest) (v : View) → AreLegal v.roster v.seen → Scanned request v v 0 false
 scan_none request v legal = record {
   looked = stands_still v legal;
   passed = λ row low selected. absurd (omega arith);
@@ -45,24 +45,24 @@ or_nothing : (before : Bool) → (before || false) ≡ before
 or_nothing false = refl
 or_nothing true = refl
 
-module _ (request : Request) (u v w : View) (k : ℕ) (before : Bool) (roster : IsRoster u.roster)
+module _ (request : WaitRequest) (u v w : View) (k : ℕ) (before : Bool) (roster : IsRoster u.roster)
     (s : Scanned request u v k before) where
   same : v.roster ≡ u.roster
   same = s.looked.grows.same.roster
 
-  on_from : (P : State → Type 0) → Looked v w → (row : ℕ) → Saw u v row P → Saw u w row P
+  on_from : (P : State → Type 0) → Looked v w → (row : ℕ) → SawState u v row P → SawState u w row P
   on_from P l row saw = saw_on u v w row P saw (begins_of v w l.grows) l.grows.steps
 
   -- its own point, as one of the whole
-  own_point : (P : State → Type 0) → Saw v w k P → Saw u w k P
+  own_point : (P : State → Type 0) → SawState v w k P → SawState u w k P
   own_point P saw = saw_from u v w k P s.looked saw
 
   abbrev Quiet : Bool → State → Type 0
   Quiet more at = (is_waitable_for request.deaths at ≡ false) × (is_pending at ≡ more)
 
   pends_on : (earlier more : Bool) → (earlier ≡ true → before ≡ true) → Looked v w
-      → IsSelected u.roster request.selection k → Saw u w k (Quiet more) → (earlier || more) ≡ true
-      → (row : ℕ) × IsSelected u.roster request.selection row × Saw u w row (λ at. is_pending at ≡ true)
+      → IsSelected u.roster request.selection k → SawState u w k (Quiet more) → (earlier || more) ≡ true
+      → (row : ℕ) × IsSelected u.roster request.selection row × SawState u w row (λ at. is_pending at ≡ true)
   pends_on true more told l selected mine is =
       let p = s.pends (told refl) in
       (p.0, p.1, on_from (λ at. is_pending at ≡ true) l p.0 p.2)
@@ -70,13 +70,13 @@ module _ (request : Request) (u v w : View) (k : ℕ) (before : Bool) (roster : 
       (k, selected, saw_as u w k (Quiet true) (λ at. is_pending at ≡ true) (λ at t. t.1) mine)
   pends_on false false told l selected mine is = cc
 
-  gone_now : (more : Bool) → more ≡ false → IsSelected u.roster request.selection k → Saw v w k (Quiet more)
-      → Saw v w k (λ at. is_gone request.deaths at ≡ true)
+  gone_now : (more : Bool) → more ≡ false → IsSelected u.roster request.selection k → SawState v w k (Quiet more)
+      → SawState v w k (λ at. is_gone request.deaths at ≡ true)
   gone_now more quiet selected point =
       saw_gone request.deaths v w k (subst (λ rows. k < length rows) (sym same) selected.0)
       (saw_as v w k (Quiet more) (Quiet false) (λ at t. (t.0, t.1 ∙ quiet)) point)
 
-  selected_on : (more : Bool) → IsSelected u.roster request.selection k → Looked v w → Saw v w k (Quiet more)
+  selected_on : (more : Bool) → IsSelected u.roster request.selection k → Looked v w → SawState v w k (Quiet more)
       → Scanned request u w (k + 1) (before || more)
   selected_on more selected l point =
       let whole = looked_on u v w s.looked l in
@@ -96,7 +96,7 @@ module _ (request : Request) (u v w : View) (k : ℕ) (before : Bool) (roster : 
             (let quiet = both_false before more none in
             elim (cases_eq row k) [
               | inl at ↦
-                  subst (λ r. Saw u w r (λ a. is_gone request.deaths a ≡ true)) (sym at)
+                  subst (λ r. SawState u w r (λ a. is_gone request.deaths a ≡ true)) (sym at)
                   (own_point (λ a. is_gone request.deaths a ≡ true) (gone_now more quiet.1 selected point))
               | inr other ↦
                   let less : row < k = omega arith in
@@ -170,6 +170,7 @@ module _ (request : Request) (u v w : View) (k : ℕ) (before : Bool) (roster : 
           t.1.0,
           claims_first claim.row claim.stop.number (stop_status claim.stop.stop) t.1.3 t.1.0 t.0 t.1.1,
           subst (λ r. IsHolding w r claim.word claim.stop) (sym t.1.3) t.1.2,
+          subst (λ r. claim.stop ≡ content_after w.roster w.seen r) (sym t.1.3) t.1.4,
         )
         | inr skips ↦ cc skips.2
       ]
@@ -199,7 +200,7 @@ module _ (request : Request) (u v w : View) (k : ℕ) (before : Bool) (roster : 
 
 -- ---- the end of the scan
 
-pub found_nothing : (request : Request) (u v : View) (k : ℕ) (before : Bool) → Scanned request u v k before
+pub found_nothing : (request : WaitRequest) (u v : View) (k : ℕ) (before : Bool) → Scanned request u v k before
     → length u.roster ≤ k → before ≡ true → NothingYet request u v
 found_nothing request u v k before s long is = record {
   looked = s.looked;
@@ -207,7 +208,7 @@ found_nothing request u v k before s long is = record {
   pends = s.pends is;
 }
 
-pub found_none : (request : Request) (u v : View) (k : ℕ) (before : Bool) → Scanned request u v k before
+pub found_none : (request : WaitRequest) (u v : View) (k : ℕ) (before : Bool) → Scanned request u v k before
     → length u.roster ≤ k → before ≡ false → NoChild request u v
 found_none request u v k before s long is = record {
   looked = s.looked;

@@ -1,12 +1,13 @@
 -- What a scan found, as it is answered and kept.
 use Rattle.std.proofs.Common.{refl, ◌≡◌, ◌≢◌, ◌<◌, ◌∷◌, [], ℕ, Bool, true, false, List, length}
-use Rattle.std.proofs.Common.{Option, Some, None, Result, ◌∙◌, sym, ap, inl, inr, arith, subst}
+use Rattle.std.proofs.Common.{Option, Some, None, Result, ◌∙◌, sym, ap, cond, inl, inr, arith, set, subst}
 use Rattle.std.specs.List.{slice_get}
 use Rattle.std.proofs.lemmas.Bool.{cases_eq}
 use Rattle.std.proofs.lemmas.List.{length-set}
 use Rattle.std.proofs.lemmas.Option.{slice_get-get_or}
 use Rattle.trace_options.specs.declared.errno.Errno.{Errno}
 use Rattle.trace_status.specs.WaitStatus.{pid_of}
+use Rattle.trace_record.specs.Content.{Content}
 use Rattle.trace_record.specs.Death.{death_status, death_wait_status}
 use Rattle.trace_record.specs.Stop.{stop_status, stop_wait_status}
 use Rattle.trace_record.specs.declared.death.Death.{Death}
@@ -21,22 +22,23 @@ use Rattle.stop_history.specs.State.{claimed_state, is_born, number_in, state_af
 use Rattle.stop_history.proofs.Events.{other_events, own_events}
 use Rattle.stop_history.proofs.States.{state_within}
 use Rattle.stop_table.specs.declared.claim.Claim.{Claim}
-use Rattle.stop_table.specs.Entry.{AreLegal, Begins, Entry, bare, history_of}
+use Rattle.stop_table.specs.Entry.{AreLegal, Begins, Entry, bare, content_after, history_of}
 use Rattle.stop_table.specs.Handle.{EndsWith, Looked}
 use Rattle.stop_table.specs.Tracer.{IsTracerHandle, TracerHandle, is_held}
 use Rattle.stop_table.specs.View.{View}
 use Rattle.stop_table.proofs.Entries.{legal_back, ranged_history}
 use Rattle.stop_table.proofs.Walking.{legal_after}
-use Rattle.trace_calls.specs.declared.request.Request.{Request}
+use Rattle.trace_calls.specs.declared.request.WaitRequest.{WaitRequest}
 use Rattle.trace_calls.specs.declared.row_status.RowStatus.{RowStatus}
 use Rattle.trace_calls.specs.declared.scan.Finding.{Finding}
 use Rattle.trace_calls.specs.declared.scan.Finding.TheVariants as finding
-use Rattle.trace_calls.specs.Answer.{IsRowAnswer, IsStatusOf}
-use Rattle.trace_calls.specs.Handle.{IsCalls, KeepsClaim, KeepsClaims, handle_of}
+use Rattle.trace_calls.specs.Answer.{IsRowAnswer, IsStatusOf, records_with}
+use Rattle.trace_calls.specs.Handle.{CallsHandle, IsCalls, KeepsClaim, KeepsClaims, handle_of, records_of}
 use Rattle.trace_calls.specs.Scan.{IsFinding}
-use Rattle.trace_calls.specs.Settling.{Answers, IsPlaced, IsReportable, Settles}
-use Rattle.trace_calls.specs.Waiting.{Found, Reports, Took}
-use Rattle.trace_calls.proofs.Keeping.{kept_claim, keeps_beside, keeps_look, no_claim, reports_free}
+use Rattle.trace_calls.specs.Settling.{AnswersStatus, CanSettle, IsReportable, Settles}
+use Rattle.trace_calls.specs.Waiting.{Found, ReportsStatus, Took}
+use Rattle.trace_calls.proofs.Keeping.{holding_held, kept_claim, keeps_beside, keeps_look, no_claim, record_set}
+use Rattle.trace_calls.proofs.Keeping.{reports_free}
 use Rattle.trace_calls.proofs.Places.{set_place}
 
 -- ---- statuses
@@ -50,6 +52,7 @@ pid_of_stop pid (stop.Fork child) = refl
 pid_of_stop pid (stop.Clone child) = refl
 pid_of_stop pid (stop.Exec former) = refl
 pid_of_stop pid (stop.Signal signal) = refl
+pid_of_stop pid (stop.Ending death) = refl
 
 pub pid_of_death : (pid : ℕ) (d : Death) → pid_of (death_wait_status pid d) ≡ Some pid
 pid_of_death pid (death.Exited code) = refl
@@ -65,7 +68,7 @@ ranged_events row (e ∷ h) ranged =
     ]
 
 claim_silent : (number tracer : ℕ) (es : List Event) (deaths : Bool) (n status : ℕ)
-    → Reports deaths n status (claimed_state number tracer es) → IsReportable status
+    → ReportsStatus deaths n status (claimed_state number tracer es) → IsReportable status
 claim_silent number tracer [] deaths n status (inl is) = cc
 claim_silent number tracer [] deaths n status (inr is) = (let d = is.1 in cc)
 claim_silent number tracer (event.Publish row k s ∷ es) deaths n status (inl is) = cc
@@ -78,7 +81,7 @@ claim_silent number tracer (event.Exit row d ∷ es) deaths n status (inl is) = 
 claim_silent number tracer (event.Exit row d ∷ es) deaths n status (inr is) = (let e = is.1 in cc)
 
 reportable_in : (born : Bool) (es : List Event) → AreInRange es → (deaths : Bool) (n status : ℕ)
-    → Reports deaths n status (state_in born es) → IsReportable status
+    → ReportsStatus deaths n status (state_in born es) → IsReportable status
 reportable_in true [] ranged deaths n status (inl is) = cc
 reportable_in true [] ranged deaths n status (inr is) = (let d = is.1 in cc)
 reportable_in false [] ranged deaths n status (inl is) = cc
@@ -95,12 +98,12 @@ reportable_in born (event.Exit row d ∷ es) ranged deaths n status (inr is) =
     inr (d, ranged.0, (let e = is.1 in let same : death_status d ≡ status = cc in same))
 
 reportable : (rows : List Row) (h : List Entry) → AreLegal rows h → (row : ℕ) → row < length rows
-    → (deaths : Bool) (n status : ℕ) → Reports deaths n status (state_after rows (history_of h) row)
+    → (deaths : Bool) (n status : ℕ) → ReportsStatus deaths n status (state_after rows (history_of h) row)
     → IsReportable status
 reportable rows h legal row within deaths n status is =
     reportable_in (is_born rows (history_of h) row) (events_of row (history_of h))
     (ranged_events row (history_of h) (ranged_history rows h legal)) deaths n status
-    (subst (Reports deaths n status) (state_within rows (history_of h) row within) is)
+    (subst (ReportsStatus deaths n status) (state_within rows (history_of h) row within) is)
 
 -- the history before a claim is legal
 legal_before : (v w : View) (before : List Entry) (x : Entry) → EndsWith v w before x → AreLegal v.roster before
@@ -110,7 +113,7 @@ legal_before v w before x e =
 legal_point : (v w : View) (h : List Entry) → Looked v w → Begins h w.seen → AreLegal v.roster h
 legal_point v w h l on = legal_back v.roster on.0 h (subst (AreLegal v.roster) on.1 (legal_after v w l))
 
-found_reportable : (request : Request) (v w : View) (row number status : ℕ) → (keeps : Bool) → row < length v.roster
+found_reportable : (request : WaitRequest) (v w : View) (row number status : ℕ) → (keeps : Bool) → row < length v.roster
     → Took keeps request.deaths v w row number status → IsReportable status
 found_reportable request v w row number status true within took =
     reportable v.roster took.1.point (legal_point v w took.1.point took.0 took.1.later) row within request.deaths number
@@ -120,16 +123,38 @@ found_reportable request v w row number status false within took =
     request.deaths number status took.2
 
 -- a row that was claimed was not the caller's own
-was_free : (request : Request) (t : TracerHandle) (w : View) (row number status : ℕ) → (keeps : Bool) → keeps ≡ false
-    → IsTracerHandle t → row < length t.view.roster → Took keeps request.deaths t.view w row number status
-    → is_held t.view row ≡ false
+was_free : (request : WaitRequest) (t : TracerHandle) (w : View) (row number status : ℕ) → (keeps : Bool)
+    → keeps ≡ false → IsTracerHandle t → row < length t.view.roster
+    → Took keeps request.deaths t.view w row number status → is_held t.view row ≡ false
 was_free request t w row number status true keeps is within took = cc
 was_free request t w row number status false keeps is within took =
     let x = bare (event.Claim row number t.view.number) in
     reports_free t.view took.0 is.mine (legal_before t.view w took.0 x took.1) took.1.goes_on row within request.deaths
     number status took.2
 
-module _ {A : Type 0} (request : Request) (rows : List Row) (t t' : TracerHandle) (held : List (Option (Claim A)))
+-- a row that was shown is not the caller's own
+shown_free : (request : WaitRequest) (t : TracerHandle) (w : View) (row number status : ℕ) → (keeps : Bool) → keeps ≡ true
+    → IsTracerHandle t → row < length t.view.roster → Took keeps request.deaths t.view w row number status
+    → is_held w row ≡ false
+shown_free request t w row number status false keeps is within took = cc
+shown_free request t w row number status true keeps is within took =
+    (keeps_look t.view w is.mine took.0 row).held
+    ∙ reports_free t.view took.1.point is.mine (legal_point t.view w took.1.point took.0 took.1.later) took.1.sooner row
+    within request.deaths number status took.1.state
+
+-- the records once a claim was kept, and where none was
+kept_record : (w : View) (row : ℕ) (content : Content) (records : List (Option Content)) → is_held w row ≡ true
+    → content ≡ content_after w.roster w.seen row → set records row (Some content) ≡ records_with w row records
+kept_record w row content records held is =
+    ap (λ c. set records row (Some c)) is
+    ∙ ap (λ b. cond b (set records row (Some (content_after w.roster w.seen row))) records) (sym held)
+
+no_record : (w : View) (row : ℕ) (records : List (Option Content)) → is_held w row ≡ false
+    → records ≡ records_with w row records
+no_record w row records free =
+    ap (λ b. cond b (set records row (Some (content_after w.roster w.seen row))) records) (sym free)
+
+module _ {A : Type 0} (request : WaitRequest) (rows : List Row) (t t' : TracerHandle) (held : List (Option (Claim A)))
     (counts : List ℕ) (is : IsTracerHandle t) (calls : IsCalls t rows held counts) where
   there : (row : ℕ) → row < length t.view.roster → row < length rows
   there row within = subst (λ rs. row < length rs) (sym calls.roster) within
@@ -139,7 +164,7 @@ module _ {A : Type 0} (request : Request) (rows : List Row) (t t' : TracerHandle
       let long = calls.held_long in
       (_, slice_get-get_or held row None (omega arith))
 
-  pub placed : (found : Finding A) → IsFinding request t.view t'.view found → IsPlaced rows held found
+  pub placed : (found : Finding A) → IsFinding request t.view t'.view found → CanSettle rows held found
   placed (finding.Stop claim) f =
       let row = claim.row in
       let within = f.1.0.selected.0 in
@@ -252,29 +277,45 @@ module _ {A : Type 0} (request : Request) (rows : List Row) (t t' : TracerHandle
 
   -- ---- what is answered
 
-  answers_row : (counts' : List ℕ) (result : Result (Option RowStatus) Errno) (row number raw : ℕ)
-      → Found request t.view t'.view row number raw → Answers rows counts counts' row number raw result
-      → IsRowAnswer request (handle_of t counts) (handle_of t' counts') result
-  answers_row counts' result row number raw f s =
-      subst (IsRowAnswer request (handle_of t counts) (handle_of t' counts')) (sym s.0.1)
+  abbrev before : CallsHandle
+  before = handle_of t counts (records_of held)
+
+  abbrev after : List (Option (Claim A)) → List ℕ → CallsHandle
+  after held' counts' = handle_of t' counts' (records_of held')
+
+  answers_row : (held' : List (Option (Claim A))) (counts' : List ℕ) (result : Result (Option RowStatus) Errno)
+      (row number raw : ℕ) → Found request t.view t'.view row number raw
+      → AnswersStatus rows counts counts' row number raw result
+      → records_of held' ≡ records_with t'.view row (records_of held)
+      → IsRowAnswer request before (after held' counts') result
+  answers_row held' counts' result row number raw f s records =
+      subst (IsRowAnswer request before (after held' counts')) (sym s.0.1)
       (record {
         raw = raw;
         is_found = f;
         is_status = subst (λ rs. IsStatusOf rs row raw s.0.0) calls.roster s.0.2;
         counts = s.1;
+        records = records;
       })
 
   pub answered : (held' : List (Option (Claim A))) (counts' : List ℕ) (result : Result (Option RowStatus) Errno)
       → (found : Finding A) → IsFinding request t.view t'.view found
       → Settles rows held held' counts counts' found result
-      → IsRowAnswer request (handle_of t counts) (handle_of t' counts') result
+      → IsRowAnswer request before (after held' counts') result
   answered held' counts' result (finding.Stop claim) f s =
-      answers_row counts' result claim.row claim.stop.number (stop_status claim.stop.stop) f.1 s.0
+      answers_row held' counts' result claim.row claim.stop.number (stop_status claim.stop.stop) f.1 s.0
+      (ap records_of s.1 ∙ record_set held claim.row (Some claim)
+      ∙ kept_record t'.view claim.row claim.stop (records_of held)
+      (holding_held t'.view claim.row claim.word claim.stop f.2) f.3)
   answered held' counts' result (finding.Ended row d number) f s =
-      answers_row counts' result row number (death_status d) f.1 s.0
+      answers_row held' counts' result row number (death_status d) f.1 s.0
+      (ap records_of s.1 ∙ no_record t'.view row (records_of held) f.2)
   answered held' counts' result (finding.Shows row number status) f s =
-      answers_row counts' result row number status f.1 s.0
+      answers_row held' counts' result row number status f.1 s.0
+      (ap records_of s.1
+      ∙ no_record t'.view row (records_of held)
+      (shown_free request t t'.view row number status request.keeps f.0 is f.1.0.selected.0 f.1.1))
   answered held' counts' result finding.NothingYet f s =
-      subst (IsRowAnswer request (handle_of t counts) (handle_of t' counts')) (sym s.0) (f, s.2)
+      subst (IsRowAnswer request before (after held' counts')) (sym s.0) (f, (s.2, ap records_of s.1))
   answered held' counts' result finding.NoChild f s =
-      subst (IsRowAnswer request (handle_of t counts) (handle_of t' counts')) (sym s.0) (f, s.2)
+      subst (IsRowAnswer request before (after held' counts')) (sym s.0) (f, (s.2, ap records_of s.1))

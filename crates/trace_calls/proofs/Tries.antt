@@ -6,7 +6,7 @@ use Rattle.stop_history.specs.declared.roster.Row.{Row}
 use Rattle.stop_history.specs.Roster.{row_at}
 use Rattle.stop_table.specs.Handle.{TriesOnce, looks_for}
 use Rattle.stop_table.specs.View.{View, looks_at}
-use Rattle.trace_calls.specs.declared.request.Request.{Request}
+use Rattle.trace_calls.specs.declared.request.WaitRequest.{WaitRequest}
 use Rattle.trace_calls.specs.declared.scan.Try.{Try}
 use Rattle.trace_calls.specs.declared.selection.Selection.{Selection}
 use Rattle.trace_calls.specs.Scan.{IsTurn}
@@ -22,7 +22,7 @@ looks_more rows selection k at =
     (λ row. if is_selected selection (row_at rows row) then looks_for rows row at else 0) 0 k k (zero-add k)
 
 -- a row was tried once, if it is selected, and otherwise not looked at
-pub tried_on : {A : Type 0} (request : Request) (u v w : View) (k : ℕ) (turn : Try A) → v.roster ≡ u.roster
+pub tried_on : {A : Type 0} (request : WaitRequest) (u v w : View) (k : ℕ) (turn : Try A) → v.roster ≡ u.roster
     → TriesBelow request u v k → IsTurn request v w k turn → TriesOnce v w k → TriesBelow request u w (k + 1)
 tried_on {A} request u v w k turn same before told once at =
     let earlier = before at in
@@ -56,7 +56,7 @@ looks_within rows selection k (suc more) at =
     let same : k + more + 1 ≡ k + suc more = omega arith in
     subst (λ n. looks_below rows selection k at ≤ looks_below rows selection n at) same step
 
-pub tried_all : (request : Request) (u w : View) (k : ℕ) → k ≤ length u.roster → TriesBelow request u w k
+pub tried_all : (request : WaitRequest) (u w : View) (k : ℕ) → k ≤ length u.roster → TriesBelow request u w k
     → IsOneTry request u w
 tried_all request u w k low tried at =
     let mine = tried at in

@@ -1,22 +1,23 @@
 -- The calls by pid (ptrace(2)): the tracee must be stopped and claimed by the caller.
 use Rattle.std.specs.Prelude.{◌≡◌, ◌⊎◌, ◌<◌, ◌≤◌, ◌^◌, ◌+◌, ℕ, ℤ, pos, negsuc, true, false, List, Option, Some, None}
-use Rattle.std.specs.Prelude.{Result, Ok, Err, EachIndex, length, slice_index}
+use Rattle.std.specs.Prelude.{Result, Ok, Err, EachIndex, ◌≢◌, length, slice_index, slice_set}
 use Rattle.std.specs.Option.{unwrap_or}
-use Rattle.std.specs.Int.{w64, from_le_bytes, cast_signed}
+use Rattle.std.specs.Int.{w64, cast_signed, cast_unsigned, from_le_bytes, to_le_bytes}
 use Rattle.trace_options.specs.declared.errno.Errno.{Errno}
 use Rattle.trace_options.specs.declared.errno.Errno.TheVariants as errno
 use Rattle.trace_options.specs.declared.signal.TheConstants.{LAST_SIGNAL}
-use Rattle.trace_pages.specs.FlatMemory.{FlatMemory, byte_at}
+use Rattle.trace_pages.specs.FlatMemory.{FlatMemory, Full, byte_at, run_end}
 use Rattle.trace_record.specs.Content.{Content}
+use Rattle.trace_regs.specs.declared.regs.Regs.{Regs}
 use Rattle.trace_record.specs.declared.resume.Kind.{Kind}
 use Rattle.trace_record.specs.declared.resume.Resume.{Resume as Restart}
 use Rattle.stop_history.specs.declared.roster.Row.{Row}
-use Rattle.stop_history.specs.Event as event
 use Rattle.stop_history.specs.Roster.{row_of}
-use Rattle.stop_table.specs.Entry.{Entry, bare, content_after}
+use Rattle.stop_table.specs.Entry.{Entry, resume_of}
 use Rattle.stop_table.specs.Handle.{EndsWith}
 use Rattle.stop_table.specs.Tracer.{is_held}
-use Rattle.trace_calls.specs.Handle.{CallsHandle}
+use Rattle.stop_table.specs.Written.{with_bytes, with_regs}
+use Rattle.trace_calls.specs.Handle.{CallsHandle, claimed_record}
 
 -- the row of a pid; one below 0 has none
 abbrev pub row_of_pid : List Row → ℤ → Option ℕ
@@ -31,13 +32,9 @@ HasClaimed a pid row = (row_of_pid a.view.roster pid ≡ Some row) × (is_held a
 abbrev pub HasNotClaimed : CallsHandle → ℤ → Type 0
 HasNotClaimed a pid = (row : ℕ) → row_of_pid a.view.roster pid ≡ Some row → is_held a.view row ≡ false
 
--- what the tracee published at its stop
-abbrev pub published : CallsHandle → ℕ → Content
-published a row = content_after a.view.roster a.view.seen row
-
--- a call that shows something of a claimed stop
+-- a call that shows something of a claimed record
 abbrev pub IsShownOf : {T : Type 0} → CallsHandle → ℤ → (Content → T) → Result T Errno → Type 0
-IsShownOf a pid shown (Ok answer) = (row : ℕ) × HasClaimed a pid row × (answer ≡ shown (published a row))
+IsShownOf a pid shown (Ok answer) = (row : ℕ) × HasClaimed a pid row × (answer ≡ shown (claimed_record a row))
 IsShownOf a pid shown (Err errno.ESRCH) = HasNotClaimed a pid
 IsShownOf a pid shown (Err errno.EINVAL) = ⊥
 IsShownOf a pid shown (Err errno.ECHILD) = ⊥
@@ -49,12 +46,13 @@ IsShownOf a pid shown (Err errno.EIO) = ⊥
 abbrev pub restart_of : Kind → Option ℕ → Restart
 restart_of kind signal = record { kind = kind; signal = unwrap_or signal 0 }
 
--- the stop that was claimed is resumed
+-- the stop that was claimed is resumed, with the record as it is now
 abbrev pub IsRestart : CallsHandle → CallsHandle → ℤ → Kind → Option ℕ → Result (Unit {0}) Errno → Type 0
 IsRestart a b pid kind signal (Ok done) =
     ((row : ℕ) × HasClaimed a pid row
     × ((before : List Entry) × EndsWith a.view b.view before
-    (bare (event.Resume row (published a row).number (restart_of kind signal) a.view.number))))
+    (resume_of row (claimed_record a row).number (restart_of kind signal) a.view.number (claimed_record a row)))
+    × (b.records ≡ slice_set a.records row None))
     × (unwrap_or signal 0 ≤ LAST_SIGNAL) × (b.counts ≡ a.counts)
 IsRestart a b pid kind signal (Err errno.ESRCH) = HasNotClaimed a pid × (b ≡ a)
 IsRestart a b pid kind signal (Err errno.EIO) =
@@ -84,9 +82,41 @@ IsAbsentAt memory address =
 abbrev pub IsWordRead : CallsHandle → ℤ → ℕ → Result ℤ Errno → Type 0
 IsWordRead a pid address (Ok word) =
     (row : ℕ) × HasClaimed a pid row
-    × ((bits : ℕ) × IsWordAt (published a row).memory address bits × (word ≡ cast_signed w64 bits))
+    × ((bits : ℕ) × IsWordAt (claimed_record a row).memory address bits × (word ≡ cast_signed w64 bits))
 IsWordRead a pid address (Err errno.ESRCH) = HasNotClaimed a pid
 IsWordRead a pid address (Err errno.EIO) =
-    (row : ℕ) × HasClaimed a pid row × IsAbsentAt (published a row).memory address
+    (row : ℕ) × HasClaimed a pid row × IsAbsentAt (claimed_record a row).memory address
 IsWordRead a pid address (Err errno.EINVAL) = ⊥
 IsWordRead a pid address (Err errno.ECHILD) = ⊥
+
+-- ---- writes
+
+-- the caller, once it has written to the record of a row that it has claimed
+abbrev pub with_record : CallsHandle → ℕ → Content → CallsHandle
+with_record a row content = record {
+  table_id = a.table_id;
+  view = a.view;
+  counts = a.counts;
+  records = slice_set a.records row (Some content);
+}
+
+-- the registers of a claimed record are these, and nothing else has changed
+abbrev pub IsRegsWrite : CallsHandle → CallsHandle → ℤ → Regs → Result (Unit {0}) Errno → Type 0
+IsRegsWrite a b pid regs (Ok done) =
+    (row : ℕ) × HasClaimed a pid row × (b ≡ with_record a row (with_regs (claimed_record a row) regs))
+IsRegsWrite a b pid regs (Err errno.ESRCH) = HasNotClaimed a pid × (b ≡ a)
+IsRegsWrite a b pid regs (Err errno.EINVAL) = ⊥
+IsRegsWrite a b pid regs (Err errno.ECHILD) = ⊥
+IsRegsWrite a b pid regs (Err errno.EIO) = ⊥
+
+-- all bytes of the word at an address are mapped, and they are now those of the value, the lowest first; or nothing has
+-- changed
+abbrev pub IsWordWrite : CallsHandle → CallsHandle → ℤ → ℕ → (value : ℤ) → Result (Unit {0}) Errno → Type 0
+IsWordWrite a b pid address value (Ok done) =
+    (row : ℕ) × HasClaimed a pid row × (run_end (claimed_record a row).memory address WORD ≡ Full)
+    × (b ≡ with_record a row (with_bytes (claimed_record a row) address (to_le_bytes w64 (cast_unsigned w64 value))))
+IsWordWrite a b pid address value (Err errno.ESRCH) = HasNotClaimed a pid × (b ≡ a)
+IsWordWrite a b pid address value (Err errno.EIO) =
+    ((row : ℕ) × HasClaimed a pid row × (run_end (claimed_record a row).memory address WORD ≢ Full)) × (b ≡ a)
+IsWordWrite a b pid address value (Err errno.EINVAL) = ⊥
+IsWordWrite a b pid address value (Err errno.ECHILD) = ⊥

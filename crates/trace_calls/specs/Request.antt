@@ -6,7 +6,7 @@ use Rattle.trace_options.specs.declared.wait_flags.WaitFlags.{WaitFlags}
 use Rattle.trace_options.specs.declared.wait_flags.TheConstants.WaitFlags.{WALL, WCONTINUED, WEXITED, WNOHANG}
 use Rattle.trace_options.specs.declared.wait_flags.TheConstants.WaitFlags.{WNOWAIT, WSTOPPED, WUNTRACED}
 use Rattle.trace_calls.specs.declared.id.Id.{Id}
-use Rattle.trace_calls.specs.declared.request.Request.{Request}
+use Rattle.trace_calls.specs.declared.request.WaitRequest.{WaitRequest}
 use Rattle.trace_calls.specs.declared.selection.Selection.{Selection}
 use Rattle.trace_calls.specs.declared.selection.Selection.TheVariants.{All}
 use Rattle.trace_calls.specs.Selection.{selection_of_id, selection_of_pid}
@@ -14,17 +14,17 @@ use Rattle.trace_calls.specs.Selection.{selection_of_id, selection_of_pid}
 abbrev pub has : WaitFlags → WaitFlags → Bool
 has flags flag = bit_and (wait_flag_bits flags) (wait_flag_bits flag) == wait_flag_bits flag
 
-abbrev pub request_for : Option Selection → (deaths keeps : Bool) → Option Request
+abbrev pub request_for : Option Selection → (deaths keeps : Bool) → Option WaitRequest
 request_for None deaths keeps = None
 request_for (Some selection) deaths keeps =
     Some (record { selection = selection; deaths = deaths; keeps = keeps })
 
 -- of any tracee, its stop or its death
-abbrev pub anyone : Request
+abbrev pub anyone : WaitRequest
 anyone = record { selection = All; deaths = true; keeps = false }
 
 -- waitid waits for deaths with WEXITED, and takes one of WEXITED and WSTOPPED at least, and no WCONTINUED
-abbrev pub waitid_request : Id → WaitFlags → Option Request
+abbrev pub waitid_request : Id → WaitFlags → Option WaitRequest
 waitid_request id flags =
     if not (has flags WEXITED || has flags WSTOPPED) || has flags WCONTINUED then None
     else request_for (selection_of_id id) (has flags WEXITED) (has flags WNOWAIT)
@@ -34,7 +34,7 @@ abbrev pub waitpid_flags : ℕ
 waitpid_flags = bit_or (bit_or (wait_flag_bits WNOHANG) (wait_flag_bits WUNTRACED)) (wait_flag_bits WALL)
 
 -- waitpid always waits for deaths, and takes no other flags
-abbrev pub waitpid_request : ℤ → WaitFlags → Option Request
+abbrev pub waitpid_request : ℤ → WaitFlags → Option WaitRequest
 waitpid_request pid flags =
     if bit_and waitpid_flags (wait_flag_bits flags) == wait_flag_bits flags
     then request_for (selection_of_pid pid) true false

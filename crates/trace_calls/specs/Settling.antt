@@ -21,18 +21,18 @@ IsReportable raw =
     ⊎ ((death : Death) × IsDeath death × (death_status death ≡ raw))
 
 -- the row is there and its status one that can be; the place of a claim is free
-abbrev pub IsPlaced : {A : Type 0} → List Row → List (Option (Claim A)) → Finding A → Type 0
-IsPlaced rows held (finding.Stop claim) =
+abbrev pub CanSettle : {A : Type 0} → List Row → List (Option (Claim A)) → Finding A → Type 0
+CanSettle rows held (finding.Stop claim) =
     (claim.row < length rows) × IsReportable (stop_status claim.stop.stop) × (slice_get held claim.row ≡ Some None)
-IsPlaced rows held (finding.Ended row death number) = (row < length rows) × IsReportable (death_status death)
-IsPlaced rows held (finding.Shows row number status) = (row < length rows) × IsReportable status
-IsPlaced rows held finding.NothingYet = Unit {0}
-IsPlaced rows held finding.NoChild = Unit {0}
+CanSettle rows held (finding.Ended row death number) = (row < length rows) × IsReportable (death_status death)
+CanSettle rows held (finding.Shows row number status) = (row < length rows) × IsReportable status
+CanSettle rows held finding.NothingYet = Unit {0}
+CanSettle rows held finding.NoChild = Unit {0}
 
 -- the status of a row is answered, and counted
-abbrev pub Answers : List Row → (counts counts' : List ℕ) → (row number raw : ℕ) → Result (Option RowStatus) Errno
+abbrev pub AnswersStatus : List Row → (counts counts' : List ℕ) → (row number raw : ℕ) → Result (Option RowStatus) Errno
     → Type 0
-Answers rows counts counts' row number raw result =
+AnswersStatus rows counts counts' row number raw result =
     ((status : WaitStatus) × (result ≡ Ok (Some (record { row = row; number = number; status = status })))
     × IsStatusOf rows row raw status)
     × (counts' ≡ slice_set counts row number)
@@ -40,12 +40,12 @@ Answers rows counts counts' row number raw result =
 abbrev pub Settles : {A : Type 0} → List Row → (held held' : List (Option (Claim A))) → (counts counts' : List ℕ)
     → Finding A → Result (Option RowStatus) Errno → Type 0
 Settles rows held held' counts counts' (finding.Stop claim) result =
-    Answers rows counts counts' claim.row claim.stop.number (stop_status claim.stop.stop) result
+    AnswersStatus rows counts counts' claim.row claim.stop.number (stop_status claim.stop.stop) result
     × (held' ≡ slice_set held claim.row (Some claim))
 Settles rows held held' counts counts' (finding.Ended row death number) result =
-    Answers rows counts counts' row number (death_status death) result × (held' ≡ held)
+    AnswersStatus rows counts counts' row number (death_status death) result × (held' ≡ held)
 Settles rows held held' counts counts' (finding.Shows row number status) result =
-    Answers rows counts counts' row number status result × (held' ≡ held)
+    AnswersStatus rows counts counts' row number status result × (held' ≡ held)
 Settles rows held held' counts counts' finding.NothingYet result =
     (result ≡ Ok None) × (held' ≡ held) × (counts' ≡ counts)
 Settles rows held held' counts counts' finding.NoChild result =

@@ -12,7 +12,7 @@ use Rattle.stop_history.specs.State.{state_after}
 use Rattle.stop_table.specs.Entry.{AreLegal, Begins, Entry, GoesOn, bare, history_of}
 use Rattle.stop_table.specs.Handle.{EndsWith, IsLost, IsPoint, Looked, looks_for}
 use Rattle.stop_table.specs.View.{View, actors_of, looks_at}
-use Rattle.trace_calls.specs.declared.request.Request.{Request}
+use Rattle.trace_calls.specs.declared.request.WaitRequest.{WaitRequest}
 use Rattle.trace_calls.specs.declared.selection.Selection.{Selection}
 use Rattle.trace_calls.specs.Selection.{IsSelected, has_parents, is_selected}
 
@@ -31,15 +31,15 @@ is_pending (state.Claimed number tracer) = true
 is_pending other = false
 
 -- a row that is waitable for the wait, with this raw status; the number is that of its last stop
-abbrev pub Reports : (deaths : Bool) → (number status : ℕ) → State → Type 0
-Reports deaths number status at =
+abbrev pub ReportsStatus : (deaths : Bool) → (number status : ℕ) → State → Type 0
+ReportsStatus deaths number status at =
     (at ≡ state.Stopped number status) ⊎ ((deaths ≡ true) × (at ≡ state.Dead number status))
 
 -- ---- points
 
 -- At a point of the call of its own a row was in a state of this kind: at a look of the call at the row's word (where
 -- the row is unborn, at its parent's), or directly after the claim of it that the call lost to another.
-pub record Saw (v w : View) (row : ℕ) (Kind : State → Type 0) : Type 0 where
+pub record SawState (v w : View) (row : ℕ) (Kind : State → Type 0) : Type 0 where
   pub point : List Entry
   pub sooner : GoesOn (actors_of v) v.seen point
   pub later : Begins point w.seen
@@ -47,12 +47,12 @@ pub record Saw (v w : View) (row : ℕ) (Kind : State → Type 0) : Type 0 where
   pub state : Kind (state_after v.roster (history_of point) row)
 
 abbrev pub WasPassed : Bool → View → View → ℕ → Type 0
-WasPassed deaths v w row = Saw v w row (λ at. is_waitable_for deaths at ≡ false)
+WasPassed deaths v w row = SawState v w row (λ at. is_waitable_for deaths at ≡ false)
 
 -- ---- a status
 
 -- each selected row before it was passed at a point of its own
-pub record IsFirst (request : Request) (v w : View) (row : ℕ) : Type 0 where
+pub record IsFirst (request : WaitRequest) (v w : View) (row : ℕ) : Type 0 where
   pub selected : IsSelected v.roster request.selection row
   pub before : (other : ℕ) → other < row → IsSelected v.roster request.selection other
       → WasPassed request.deaths v w other
@@ -61,11 +61,11 @@ pub record IsFirst (request : Request) (v w : View) (row : ℕ) : Type 0 where
 abbrev pub Claimed : Bool → View → View → (row number status : ℕ) → Type 0
 Claimed deaths v w row number status =
     (before : List Entry) × EndsWith v w before (bare (event.Claim row number v.number))
-    × Reports deaths number status (state_after v.roster (history_of before) row)
+    × ReportsStatus deaths number status (state_after v.roster (history_of before) row)
 
 -- the row was shown: the call only looked, and at one of its points the row was waitable for the wait
 abbrev pub Showed : Bool → View → View → (row number status : ℕ) → Type 0
-Showed deaths v w row number status = Looked v w × Saw v w row (Reports deaths number status)
+Showed deaths v w row number status = Looked v w × SawState v w row (ReportsStatus deaths number status)
 
 -- WNOWAIT
 abbrev pub Took : (keeps deaths : Bool) → View → View → (row number status : ℕ) → Type 0
@@ -73,17 +73,17 @@ Took true deaths v w row number status = Showed deaths v w row number status
 Took false deaths v w row number status = Claimed deaths v w row number status
 
 -- the status of the first row that had one
-abbrev pub Found : Request → View → View → (row number status : ℕ) → Type 0
+abbrev pub Found : WaitRequest → View → View → (row number status : ℕ) → Type 0
 Found request v w row number status =
     IsFirst request v w row × Took request.keeps request.deaths v w row number status
 
 -- ---- no status
 
 -- nothing to report yet: each selected row was passed at a point of its own, and one of them was pending at one
-pub record NothingYet (request : Request) (v w : View) : Type 0 where
+pub record NothingYet (request : WaitRequest) (v w : View) : Type 0 where
   pub looked : Looked v w
   pub passed : (row : ℕ) → IsSelected v.roster request.selection row → WasPassed request.deaths v w row
-  pub pends : (row : ℕ) × IsSelected v.roster request.selection row × Saw v w row (λ at. is_pending at ≡ true)
+  pub pends : (row : ℕ) × IsSelected v.roster request.selection row × SawState v w row (λ at. is_pending at ≡ true)
 
 -- in every legal history that goes on from this one each selected row is gone
 abbrev pub AreGoneForGood : List Row → Selection → (deaths : Bool) → List Entry → Type 0
@@ -93,10 +93,10 @@ AreGoneForGood rows selection deaths h =
 
 -- no child to wait for (ECHILD): each selected row was gone at a point of its own, that is unborn, reaped, or dead and not
 -- asked for. For all tracees, and for a process group, this is so for good.
-pub record NoChild (request : Request) (v w : View) : Type 0 where
+pub record NoChild (request : WaitRequest) (v w : View) : Type 0 where
   pub looked : Looked v w
   pub gone : (row : ℕ) → IsSelected v.roster request.selection row
-      → Saw v w row (λ at. is_gone request.deaths at ≡ true)
+      → SawState v w row (λ at. is_gone request.deaths at ≡ true)
   pub final : has_parents request.selection ≡ true
       → AreGoneForGood v.roster request.selection request.deaths w.seen
 
@@ -108,10 +108,10 @@ looks_below rows selection k at =
     sum (map (λ row. if is_selected selection (row_at rows row) then looks_for rows row at else 0) (range_with_len 0 k))
 
 -- the call tried each selected row below k once at most: it looked at no row's word more often than that takes
-abbrev pub TriesBelow : Request → View → View → (k : ℕ) → Type 0
+abbrev pub TriesBelow : WaitRequest → View → View → (k : ℕ) → Type 0
 TriesBelow request v w k =
     (at : ℕ) → looks_at at w.observations ≤ looks_at at v.observations + looks_below v.roster request.selection k at
 
 -- One try of a wait and no more (WNOHANG): each selected row was tried once at most.
-abbrev pub IsOneTry : Request → View → View → Type 0
+abbrev pub IsOneTry : WaitRequest → View → View → Type 0
 IsOneTry request v w = TriesBelow request v w (length v.roster)

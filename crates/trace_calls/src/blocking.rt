@@ -13,7 +13,7 @@ use crate::calls::Calls;
 use crate::handle::handle_is_legal;
 use crate::id::Id;
 use crate::patience::Patience;
-use crate::request::{Request, waitid_request, waitpid_request};
+use crate::request::{WaitRequest, waitid_request, waitpid_request};
 use crate::row_status::RowStatus;
 use std::alloc::Allocator;
 use std::sync::Wait;
@@ -83,7 +83,7 @@ impl<A: Allocator> Calls<A> {
     fn wait_by<R: Wait + Clock>(
         &mut self,
         rt: &R,
-        request: Request,
+        request: WaitRequest,
         flags: WaitFlags,
     ) -> Result<Option<RowStatus>, Errno>
         ensures table { KeepsTable self.old self.new }
@@ -101,7 +101,7 @@ impl<A: Allocator> Calls<A> {
     fn wait_until<R: Wait + Clock>(
         &mut self,
         rt: &R,
-        request: Request,
+        request: WaitRequest,
     ) -> Result<Option<RowStatus>, Errno>
         ensures table { KeepsTable self.old self.new }
         ensures answer { IsRowAnswer request self.old self.new result }

@@ -6,8 +6,8 @@ ghost use Rattle.trace_record.specs.declared.resume.Kind.TheVariants as kinds;
 ghost use Rattle.trace_status.specs.SyscallInfo.{info_bytes};
 ghost use Rattle.stop_table.specs.Tracer.{is_held};
 ghost use Rattle.trace_calls.specs.ByPid.{HasClaimed, HasNotClaimed, IsAbsentAt, IsRestart, IsShownOf, IsWordAt};
-ghost use Rattle.trace_calls.specs.ByPid.{IsWordRead, published, row_of_pid};
-ghost use Rattle.trace_calls.specs.Handle.{KeepsTable};
+ghost use Rattle.trace_calls.specs.ByPid.{IsWordRead, row_of_pid};
+ghost use Rattle.trace_calls.specs.Handle.{KeepsTable, claimed_record};
 
 use crate::calls::Calls;
 use std::alloc::Allocator;
@@ -17,10 +17,12 @@ use trace_record::{Kind, Resume, StopRecord};
 use trace_regs::Regs;
 
 impl<A: Allocator> Calls<A> {
-    /// The record of the stop that this caller has claimed of a tracee, until it resumes it.
+    /// The record of the stop that this caller has claimed of a tracee, with what the caller has written, until it resumes
+    /// it.
     pub fn claimed(&self, pid: i32) -> Option<&StopRecord<A>>
         ensures none { IfNone result (HasNotClaimed self.now pid) }
-        ensures some { IfSome result (λ r. (row : _) × HasClaimed self.now pid row × (r.now ≡ published self.now row)) }
+        ensures some { IfSome result (λ r. (row : _) × HasClaimed self.now pid row
+            × (r.now ≡ claimed_record self.now row)) }
     {
         let row = self.place(pid)?;
         self.claimed_row(row)
@@ -36,7 +38,8 @@ impl<A: Allocator> Calls<A> {
         Some(self.counts[row as usize])
     }
 
-    /// The registers of a claimed tracee (ptrace(2), `PTRACE_GETREGS`). ESRCH: this caller has not claimed it.
+    /// The registers of a claimed tracee, with what this caller has set since (ptrace(2), `PTRACE_GETREGS`). ESRCH: this
+    /// caller has not claimed it.
     pub fn getregs(&self, pid: i32) -> Result<Regs, Errno>
         ensures { IsShownOf self.now pid (λ c. c.regs) result }
     {
@@ -63,7 +66,7 @@ impl<A: Allocator> Calls<A> {
         ensures full { IsShownOf self.now pid (λ c. length (info_bytes (info_of c.stop c.regs))) result }
         ensures written { MatchResult result
             (λ long. (row : _) × HasClaimed self.now pid row
-            × (let bytes = info_bytes (info_of (published self.now row).stop (published self.now row).regs) in
+            × (let bytes = info_bytes (info_of (claimed_record self.now row).stop (claimed_record self.now row).regs) in
             buffer.new ≡ take (length buffer.old) bytes ++ drop (length bytes) buffer.old))
             (λ error. buffer.new ≡ buffer.old) }
     {
@@ -117,7 +120,7 @@ impl<A: Allocator> Calls<A> {
     }
 
     /// The row of a pid.
-    fn place(&self, pid: i32) -> Option<u32>
+    pub(crate) fn place(&self, pid: i32) -> Option<u32>
         ensures place { result ≡ row_of_pid self.now.view.roster pid }
         ensures within { IfSome result (λ row. row < length self.now.view.roster) }
     {

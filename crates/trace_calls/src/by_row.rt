@@ -2,9 +2,8 @@
 
 ghost use Rattle.std.specs.Prelude.{◌≡◌, IfNone, IfSome};
 ghost use Rattle.trace_calls.specs.Answer.{IsWaitRowAnswer, without_row};
-ghost use Rattle.trace_calls.specs.ByPid.{published};
 ghost use Rattle.trace_calls.specs.ByRow.{HasClaimedRow, HasNotClaimedRow, IsRowRestart};
-ghost use Rattle.trace_calls.specs.Handle.{KeepsTable};
+ghost use Rattle.trace_calls.specs.Handle.{KeepsTable, claimed_record};
 ghost use Rattle.trace_calls.specs.Request.{waitid_request};
 ghost use Rattle.trace_calls.specs.Waiting.{IsOneTry};
 
@@ -31,11 +30,11 @@ impl<A: Allocator> Calls<A> {
         self.wait(request)
     }
 
-    /// `claimed` by row: the record of the stop that this caller has claimed of a row, until it resumes it. None also
-    /// where there is no such row.
+    /// `claimed` by row: the record of the stop that this caller has claimed of a row, with what the caller has written,
+    /// until it resumes it. None also where there is no such row.
     pub fn claimed_row(&self, row: u32) -> Option<&StopRecord<A>>
         ensures none { IfNone result (HasNotClaimedRow self.now row) }
-        ensures some { IfSome result (λ r. HasClaimedRow self.now row × (r.now ≡ published self.now row)) }
+        ensures some { IfSome result (λ r. HasClaimedRow self.now row × (r.now ≡ claimed_record self.now row)) }
     {
         if row >= self.roster.len() {
             return None;
@@ -46,7 +45,7 @@ impl<A: Allocator> Calls<A> {
         }
     }
 
-    /// `syscall` or `cont` by row: lets a claimed row run on. ESRCH: this caller has not claimed it, or there is no
+    /// `syscall` or `cont` by row: lets a claimed row run on, with its record as it is now. ESRCH: this caller has not claimed it, or there is no
     /// such row. EIO: a signal above 64.
     pub fn restart_row(&mut self, row: u32, how: Resume) -> Result<(), Errno>
         ensures table { KeepsTable self.old self.new }

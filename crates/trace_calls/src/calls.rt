@@ -4,14 +4,14 @@ ghost use Rattle.std.specs.Prelude.{◌≡◌, ◌≢◌, [], IfOk, IfSome, Matc
 ghost use Rattle.std.specs.List.{list_any};
 ghost use Rattle.stop_table.specs.Tracer.{IsTracerHandle, held_rows};
 ghost use Rattle.trace_calls.specs.Answer.{IsRowAnswer, IsWaitAnswer};
-ghost use Rattle.trace_calls.specs.Handle.{KeepsTable, handle_of, tracer_of};
+ghost use Rattle.trace_calls.specs.Handle.{HasRecords, KeepsTable, handle_of, tracer_of};
 ghost use Rattle.trace_calls.specs.Request.{waitid_request, waitpid_request};
 ghost use Rattle.trace_calls.specs.Waiting.{IsOneTry};
 
 use crate::by_row::without_row;
 use crate::handle::handle_is_legal;
 use crate::id::Id;
-use crate::request::{Request, waitpid_request};
+use crate::request::{WaitRequest, waitpid_request};
 use crate::row_status::RowStatus;
 use crate::scan::scan;
 use crate::settle::settle;
@@ -35,13 +35,13 @@ pub struct Calls<A: Allocator = Global> {
 impl<A: Allocator> Model for Calls<A> {
     ghost use Rattle.std.specs.Coded.{codes};
     ghost use Rattle.trace_pages.specs.FlatMemory.{flat_code};
-    ghost use Rattle.trace_calls.specs.Handle.{CallsHandle, IsCalls, handle_of};
+    ghost use Rattle.trace_calls.specs.Handle.{CallsHandle, IsCalls, handle_of, records_of};
 
     ghost Value = { CallsHandle };
 
     ghost coded = { Prim.hlevel (codes, flat_code) };
 
-    ghost view = { λ c. handle_of c.tracer c.counts.items };
+    ghost view = { λ c. handle_of c.tracer c.counts.items (records_of c.held.items) };
 
     ghost invariant = { λ c. IsCalls c.tracer c.roster c.held.items c.counts.items };
 }
@@ -56,7 +56,9 @@ impl<A: Allocator + Copy> Calls<A> {
     ) -> Result<Calls<A>, Tracer<A>>
         requires roster { roster.now ≡ tracer.view.roster }
         requires idle { held_rows tracer.view ≡ [] }
-        ensures { MatchResult result (λ c. c ≡ handle_of tracer (replicate (length roster.now) 0)) (λ t. t ≡ tracer) }
+        ensures { MatchResult result
+            (λ c. c ≡ handle_of tracer (replicate (length roster.now) 0) (replicate (length roster.now) None))
+            (λ t. t ≡ tracer) }
     {
         let Ok(copy) = Roster::copy(alloc, roster) else {
             return Err(tracer);
@@ -82,6 +84,7 @@ impl<A: Allocator> Calls<A> {
     pub fn number(&self) -> u32
         ensures number { result ≡ self.now.view.number }
         ensures handle { IsTracerHandle (tracer_of self.now) }
+        ensures records { HasRecords self.now }
     {
         self.tracer.number()
     }
@@ -138,7 +141,7 @@ impl<A: Allocator> Calls<A> {
     }
 
     /// One try of a wait.
-    pub(crate) fn wait(&mut self, request: Request) -> Result<Option<RowStatus>, Errno>
+    pub(crate) fn wait(&mut self, request: WaitRequest) -> Result<Option<RowStatus>, Errno>
         ensures table { KeepsTable self.old self.new }
         ensures answer { IsRowAnswer request self.old self.new result }
         ensures once { IsOneTry request self.old.view self.new.view }

@@ -7,6 +7,7 @@
 //!
 //! - Under their plain names the waits do not block: they act as with WNOHANG. The `_blocking` ones try again.
 //! - "No child" for all tracees or for a process group is final: none of them will ever be reported again.
+//! - `setregs` and `write` change a claimed tracee, which runs on with what they left.
 //! - `wait_row`, `claimed_row` and `restart_row` name a tracee by its row of the roster, and search for no pid.
 //! - No call but `Calls::new` takes memory.
 //!
@@ -25,6 +26,7 @@ mod row_status;
 mod scan;
 mod selection;
 mod settle;
+mod writes;
 
 pub use calls::Calls;
 pub use id::Id;

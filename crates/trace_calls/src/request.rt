@@ -9,7 +9,7 @@ use trace_options::WaitFlags;
 
 /// What a wait asks for.
 #[derive(Clone, Copy)]
-pub(crate) struct Request {
+pub(crate) struct WaitRequest {
     pub(crate) selection: Selection,
     /// Deaths too, and not stops alone.
     pub(crate) deaths: bool,
@@ -18,7 +18,7 @@ pub(crate) struct Request {
 }
 
 /// What the arguments of waitid ask for, or None where they are EINVAL.
-pub(crate) fn waitid_request(id: Id, flags: WaitFlags) -> Option<Request>
+pub(crate) fn waitid_request(id: Id, flags: WaitFlags) -> Option<WaitRequest>
     ensures { result ≡ waitid_request id flags }
 {
     let deaths = flags.contains(WaitFlags::WEXITED);
@@ -30,7 +30,7 @@ pub(crate) fn waitid_request(id: Id, flags: WaitFlags) -> Option<Request>
     }
     let keeps = flags.contains(WaitFlags::WNOWAIT);
     let selection = selection_of_id(id)?;
-    Some(Request {
+    Some(WaitRequest {
         selection,
         deaths,
         keeps,
@@ -38,7 +38,7 @@ pub(crate) fn waitid_request(id: Id, flags: WaitFlags) -> Option<Request>
 }
 
 /// What the arguments of waitpid ask for, or None where they are EINVAL.
-pub(crate) fn waitpid_request(pid: i32, flags: WaitFlags) -> Option<Request>
+pub(crate) fn waitpid_request(pid: i32, flags: WaitFlags) -> Option<WaitRequest>
     ensures { result ≡ waitpid_request pid flags }
 {
     let mut taken = WaitFlags::WNOHANG;
@@ -48,7 +48,7 @@ pub(crate) fn waitpid_request(pid: i32, flags: WaitFlags) -> Option<Request>
         return None;
     }
     let selection = selection_of_pid(pid)?;
-    Some(Request {
+    Some(WaitRequest {
         selection,
         deaths: true,
         keeps: false,

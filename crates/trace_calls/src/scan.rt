@@ -10,7 +10,7 @@ ghost use Rattle.trace_calls.specs.Selection.{IsSelected};
 ghost use Rattle.trace_calls.specs.Waiting.{IsOneTry};
 
 use crate::handle::handle_is_legal;
-use crate::request::Request;
+use crate::request::WaitRequest;
 use std::alloc::Allocator;
 use stop_history::Roster;
 use stop_table::{Claim, Shown, Taken, Tracer};
@@ -41,7 +41,7 @@ pub(crate) enum Finding<A: Allocator> {
 pub(crate) fn scan<A: Allocator>(
     tracer: &mut Tracer<A>,
     roster: &Roster<A>,
-    request: Request,
+    request: WaitRequest,
 ) -> Finding<A>
     requires { roster.now ≡ tracer.old.view.roster }
     ensures handle { KeepsHandle tracer.old tracer.new }
@@ -75,7 +75,7 @@ fn turn<A: Allocator>(
     tracer: &mut Tracer<A>,
     roster: &Roster<A>,
     row: u32,
-    request: Request,
+    request: WaitRequest,
 ) -> Try<A>
     requires { (roster.now ≡ tracer.old.view.roster) × (row < length roster.now) }
     ensures handle { KeepsHandle tracer.old tracer.new }
@@ -92,7 +92,7 @@ fn turn<A: Allocator>(
 }
 
 /// Looks at a row (`WNOWAIT`).
-fn peek<A: Allocator>(tracer: &mut Tracer<A>, row: u32, request: Request) -> Try<A>
+fn peek<A: Allocator>(tracer: &mut Tracer<A>, row: u32, request: WaitRequest) -> Try<A>
     requires { (row < length tracer.old.view.roster) × (request.keeps ≡ true) }
     ensures handle { KeepsHandle tracer.old tracer.new }
     ensures tried { IsTried request tracer.old.view tracer.new.view row result }
@@ -108,7 +108,7 @@ fn peek<A: Allocator>(tracer: &mut Tracer<A>, row: u32, request: Request) -> Try
 }
 
 /// Claims a row's stop, or its death where deaths are asked for.
-fn take<A: Allocator>(tracer: &mut Tracer<A>, row: u32, request: Request) -> Try<A>
+fn take<A: Allocator>(tracer: &mut Tracer<A>, row: u32, request: WaitRequest) -> Try<A>
     requires { (row < length tracer.old.view.roster) × (request.keeps ≡ false) }
     ensures handle { KeepsHandle tracer.old tracer.new }
     ensures tried { IsTried request tracer.old.view tracer.new.view row result }

@@ -2,7 +2,7 @@
 
 ghost use Rattle.std.specs.Prelude.{◌≡◌, ◌<◌, None, Some, length, slice_get, slice_set};
 ghost use Rattle.trace_calls.specs.Answer.{IsStatusOf};
-ghost use Rattle.trace_calls.specs.Settling.{IsPlaced, IsReportable, Settles};
+ghost use Rattle.trace_calls.specs.Settling.{CanSettle, IsReportable, Settles};
 
 use crate::row_status::RowStatus;
 use crate::scan::Finding;
@@ -20,7 +20,7 @@ pub(crate) fn settle<A: Allocator>(
     held: &mut Vec<Option<Claim<A>>, A>,
     counts: &mut Vec<u32, A>,
 ) -> Result<Option<RowStatus>, Errno>
-    requires placed { IsPlaced roster.now held.old.items found }
+    requires placed { CanSettle roster.now held.old.items found }
     requires held { length held.old.items ≡ length roster.now }
     requires counts { length counts.old.items ≡ length roster.now }
     ensures { Settles roster.now held.old.items held.new.items counts.old.items counts.new.items found result }

@@ -5,7 +5,7 @@ use Rattle.std.specs.Int.RustNames.{bit_and}
 use Rattle.bitflags.specs.Sets.{known_bits}
 use Rattle.trace_options.specs.declared.options.Options.{Options}
 use Rattle.trace_options.specs.declared.options.TheConstants.Options.{TRACESYSGOOD, TRACEFORK, TRACEVFORK}
-use Rattle.trace_options.specs.declared.options.TheConstants.Options.{TRACECLONE, TRACEVFORKDONE, TRACEEXIT}
+use Rattle.trace_options.specs.declared.options.TheConstants.Options.{TRACECLONE, TRACEVFORKDONE}
 
 -- the bits of a set of options
 abbrev pub option_bits : Options → ℕ
@@ -32,11 +32,10 @@ all_options = known_bits option_table
 abbrev pub Has : ℕ → Options → Type 0
 Has options option = bit_and options (option_bits option) ≡ option_bits option
 
--- the sets that a tracer takes: syscall-stops are reported apart, forks and clones are followed alike, and no vfork,
--- end of a vfork or exit stops its caller
-pub record IsTaken (options : ℕ) : Type 0 where
+-- the sets that a tracer takes: syscall-stops are reported apart, forks and clones are followed alike, and neither a
+-- vfork nor its end stops its caller
+pub record AreValidOptions (options : ℕ) : Type 0 where
   pub good : Has options TRACESYSGOOD
   pub alike : Has options TRACEFORK ↔ Has options TRACECLONE
   pub no_vfork : ¬ Has options TRACEVFORK
   pub no_vfork_done : ¬ Has options TRACEVFORKDONE
-  pub no_exit : ¬ Has options TRACEEXIT

@@ -2,7 +2,7 @@
 
 ghost use Rattle.std.specs.Prelude.{⊤, ◌≡◌, ◌==◌, ◌↔◌, IsSome, IfSome, IsOk, IfErr};
 ghost use Rattle.std.specs.Int.RustNames.{bit_and, bit_or};
-ghost use Rattle.trace_options.specs.Options.{IsTaken, all_options, option_bits, option_table};
+ghost use Rattle.trace_options.specs.Options.{AreValidOptions, all_options, option_bits, option_table};
 
 use crate::errno::Errno;
 use bitflags::{Flag, Flags};
@@ -118,16 +118,15 @@ impl Options {
 }
 
 /// Whether a tracer takes these options: TRACESYSGOOD is among them, TRACEFORK and TRACECLONE both or neither, and
-/// none of TRACEVFORK, TRACEVFORKDONE and TRACEEXIT. Otherwise EINVAL.
+/// neither TRACEVFORK nor TRACEVFORKDONE. Otherwise EINVAL.
 pub fn check(options: Options) -> Result<(), Errno>
-    ensures taken { IsOk result ↔ IsTaken (option_bits options) }
+    ensures taken { IsOk result ↔ AreValidOptions (option_bits options) }
     ensures invalid { IfErr result (λ error. error ≡ Errno.EINVAL) }
 {
     let follows = options.contains(Options::TRACEFORK) == options.contains(Options::TRACECLONE);
     if options.contains(Options::TRACESYSGOOD)
         && !options.contains(Options::TRACEVFORK)
         && !options.contains(Options::TRACEVFORKDONE)
-        && !options.contains(Options::TRACEEXIT)
         && follows
     {
         Ok(())

@@ -97,13 +97,15 @@ fn a_tracer_takes_some_options(rt: HostRuntime) {
         (0x1, Ok(())),
         (0x1b, Ok(())),
         (0x9b, Ok(())),
+        (0x41, Ok(())),
+        (0x5b, Ok(())),
         (0x0, Err(Errno::EINVAL)),
         (0x1a, Err(Errno::EINVAL)),
         (0x3, Err(Errno::EINVAL)),
         (0x9, Err(Errno::EINVAL)),
         (0x5, Err(Errno::EINVAL)),
         (0x21, Err(Errno::EINVAL)),
-        (0x41, Err(Errno::EINVAL)),
+        (0x65, Err(Errno::EINVAL)),
     ] {
         assert_eq!(rt;
             Options::from_bits(bits).map(check),

@@ -1,23 +1,24 @@
 -- Addresses, the pages that they are on, and runs of them: for whoever asks whether an address is one of a run
--- (`is_among`), or computes with the page of an address.
+-- (`is_in_span`), or computes with the page of an address.
 use Rattle.std.proofs.Common.{◌≡◌, ◌⊎◌, ℕ, ◌+◌, ◌%◌, ◌<◌, ◌≤◌, true, false, inl, inr, arith}
 use Rattle.std.proofs.lemmas.Bool.Decides.{nat_tests}
 use Rattle.std.proofs.lemmas.Bool.{cases_lt}
-use Rattle.trace_pages.specs.FlatMemory.{is_among}
+use Rattle.trace_pages.specs.FlatMemory.{is_in_span}
 use Rattle.trace_pages.specs.Pages.{base_of}
 
-pub among_yes : (from count address : ℕ) → from ≤ address → address < from + count → is_among from count address ≡ true
+pub among_yes : (from count address : ℕ) → from ≤ address → address < from + count
+    → is_in_span from count address ≡ true
 among_yes from count address low high = grind (arith, nat_tests)
 
-pub among_below : (from count address : ℕ) → address < from → is_among from count address ≡ false
+pub among_below : (from count address : ℕ) → address < from → is_in_span from count address ≡ false
 among_below from count address low = grind (arith, nat_tests)
 
-pub among_above : (from count address : ℕ) → from + count ≤ address → is_among from count address ≡ false
+pub among_above : (from count address : ℕ) → from + count ≤ address → is_in_span from count address ≡ false
 among_above from count address high = grind (arith, nat_tests)
 
 -- an address is among some, or before them, or after them
 pub among_cases : (from count address : ℕ) → ((from ≤ address) × (address < from + count))
-    ⊎ (is_among from count address ≡ false)
+    ⊎ (is_in_span from count address ≡ false)
 among_cases from count address = elim (cases_lt address from) [
   | inl below ↦ inr (among_below from count address below)
   | inr above ↦ elim (cases_lt address (from + count)) [

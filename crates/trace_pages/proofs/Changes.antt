@@ -10,7 +10,7 @@ use Rattle.std.proofs.lemmas.List.Edits.{get_or-insert_above, get_or-insert_at, 
 use Rattle.std.specs.List.{insert}
 use Rattle.std.specs.Prelude.{Result, Ok, Err, OnOk, OnErr}
 use Rattle.std.specs.FinMap.{len}
-use Rattle.trace_pages.specs.FlatMemory.{byte_at, byte_after_map, byte_after_store, is_among, zeros}
+use Rattle.trace_pages.specs.FlatMemory.{byte_at, byte_after_map, byte_after_store, is_in_span, zeros}
 use Rattle.trace_pages.specs.Pages.{ArePages, HasNoPage, base_of, flat_of, overwritten}
 use Rattle.trace_pages.proofs.Counts.{len-flat_of}
 use Rattle.trace_pages.proofs.Among.{among_cases, among_yes, base-page, base_on, offset_on, page-base, same_page}
@@ -130,7 +130,7 @@ module _ (addresses : List ℕ) (pages : List (List ℕ)) (piece : List ℕ) (ke
       ∙ ap (λ (byte : ℕ). Some byte) (overwritten_inside old_page piece (addr % 4096) fits (a - addr) (omega arith)))
 
   -- an address of a page, and not of the piece
-  off_piece : (a : ℕ) → base_of a ≡ base_of addr → is_among addr (length piece) a ≡ false
+  off_piece : (a : ℕ) → base_of a ≡ base_of addr → is_in_span addr (length piece) a ≡ false
       → (a % 4096 < addr % 4096) ⊎ (addr % 4096 + length piece ≤ a % 4096)
   off_piece a base off = elim (cases_lt (a % 4096) (addr % 4096)) [
     | inl below ↦ inl below
@@ -138,13 +138,13 @@ module _ (addresses : List ℕ) (pages : List (List ℕ)) (piece : List ℕ) (ke
       | inr past ↦ inr past
       | inl inside ↦
           let page : a + addr % 4096 ≡ addr + a % 4096 = same_page a addr base in
-          let yes : is_among addr (length piece) a ≡ true =
+          let yes : is_in_span addr (length piece) a ≡ true =
           among_yes addr (length piece) a (omega arith) (omega arith) in
           absurd (false≢true (sym off ∙ yes))
     ]
   ]
 
-  same_byte : (a i : ℕ) → get_or addresses i 0 ≡ base_of a → is_among addr (length piece) a ≡ false
+  same_byte : (a i : ℕ) → get_or addresses i 0 ≡ base_of a → is_in_span addr (length piece) a ≡ false
       → get_or (get_or new_pages i []) (a % 4096) 0 ≡ get_or (get_or pages i []) (a % 4096) 0
   unfolding new_page old_page
   same_byte a i same off = elim (eqb_tells i place) [
@@ -156,7 +156,7 @@ module _ (addresses : List ℕ) (pages : List (List ℕ)) (piece : List ℕ) (ke
   ]
 
   stored_outside : (a i : ℕ) → i < length addresses → get_or addresses i 0 ≡ base_of a
-      → is_among addr (length piece) a ≡ false
+      → is_in_span addr (length piece) a ≡ false
       → byte_at (flat_of addresses new_pages) a ≡ byte_after_store (flat_of addresses pages) addr piece a
   stored_outside a i hi same off =
       rw off (byte_at-found addresses new_pages kept' i a hi same

@@ -10,7 +10,7 @@ use Rattle.std.proofs.lemmas.Bool.{cases_lt}
 use Rattle.std.proofs.lemmas.Bool.Decides.{eqb_tells}
 use Rattle.std.proofs.lemmas.List.{length-replicate}
 use Rattle.trace_pages.specs.FlatMemory.{FlatMemory, MapsPage, RunEnd, SameAddresses, StoresBytes, Full, Top}
-use Rattle.trace_pages.specs.FlatMemory.{byte_after_map, byte_after_store, byte_at, end_from, is_among, mapped}
+use Rattle.trace_pages.specs.FlatMemory.{byte_after_map, byte_after_store, byte_at, end_from, is_in_span, mapped}
 use Rattle.trace_pages.specs.FlatMemory.{run_end, stored, zeros}
 use Rattle.trace_pages.proofs.Among.{among_above, among_below, among_cases, among_yes}
 use Rattle.trace_pages.proofs.Entries.{tie_other, tie_same}
@@ -24,7 +24,7 @@ after_inside : (m : FlatMemory) (at a : ℕ) (bytes : List ℕ) → at ≤ a →
     → byte_after_store m at bytes a ≡ Some (get_or bytes (a - at) 0)
 after_inside m at a bytes low high = rw (among_yes at (length bytes) a low high) refl
 
-after_outside : (m : FlatMemory) (at a : ℕ) (bytes : List ℕ) → is_among at (length bytes) a ≡ false
+after_outside : (m : FlatMemory) (at a : ℕ) (bytes : List ℕ) → is_in_span at (length bytes) a ≡ false
     → byte_after_store m at bytes a ≡ byte_at m a
 after_outside m at a bytes off = rw off refl
 
@@ -96,7 +96,7 @@ get_or-zeros (suc count) zero = refl
 get_or-zeros (suc count) (suc k) = get_or-zeros count k
 
 after_zeros : (m : FlatMemory) (page count a : ℕ)
-    → byte_after_store m page (zeros count) a ≡ (if is_among page count a then Some 0 else byte_at m a)
+    → byte_after_store m page (zeros count) a ≡ (if is_in_span page count a then Some 0 else byte_at m a)
 after_zeros m page count a = rw (length-zeros count, get_or-zeros count (a - page)) refl
 
 pub byte_at-map : (m : FlatMemory) (page a : ℕ) → byte_at (mapped m page) a ≡ byte_after_map m page a

@@ -8,7 +8,7 @@ use Rattle.std.proofs.lemmas.Bool.{cases_lt}
 use Rattle.std.proofs.lemmas.Bool.Decides.{eqb_tells}
 use Rattle.std.proofs.lemmas.List.{length-drop, get_or-drop}
 use Rattle.trace_pages.specs.FlatMemory.{IsPiece, byte_at}
-use Rattle.trace_pages.specs.Pages.{ArePages, AreRising, HasNoPage, IsPlace, base_of, entries_of, flat_of}
+use Rattle.trace_pages.specs.Pages.{ArePages, AreRising, HasNoPage, IsPagePlace, base_of, entries_of, flat_of}
 use Rattle.trace_pages.proofs.Among.{base-page, base_on, offset_on, page-base}
 use Rattle.trace_pages.proofs.Entries.{find_on_page, find_off_page}
 
@@ -101,7 +101,7 @@ byte_at-absent addresses pages kept a absent =
 
 -- an address is of some page, or of none
 abbrev pub IsKept : List ℕ → ℕ → Type 0
-IsKept addresses a = (i : ℕ) × IsPlace addresses a i
+IsKept addresses a = (i : ℕ) × IsPagePlace addresses a i
 
 pub place_cases : (addresses : List ℕ) (a : ℕ) → IsKept addresses a ⊎ IsAbsent addresses a
 place_cases [] a = inr (λ k h. absurd (omega arith))

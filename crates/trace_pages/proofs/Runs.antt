@@ -7,7 +7,7 @@ use Rattle.std.specs.Prelude.{IsSome, if◌then◌else◌}
 use Rattle.std.proofs.lemmas.Bool.{cases_lt, lt-ltb, le-ltb, ltb-true}
 use Rattle.std.proofs.lemmas.List.{append-nil, length-take-le, length-drop, get_or-take, get_or-drop}
 use Rattle.trace_pages.specs.FlatMemory.{FlatMemory, IsPiece, RunEnd, Full, Absent, Top, byte_at, byte_after_store}
-use Rattle.trace_pages.specs.FlatMemory.{end_from, is_among, run, run_end}
+use Rattle.trace_pages.specs.FlatMemory.{end_from, is_in_span, run, run_end}
 use Rattle.trace_pages.proofs.Among.{among_above, among_below, among_yes}
 
 -- ---- one step of a run
@@ -261,9 +261,9 @@ module _ (old mid new : FlatMemory) (at done count : ℕ) (bytes : List ℕ) (wi
       → byte_at new a ≡ byte_after_store old at (take (done + count) bytes) a
   in_next a low high =
       let place : done + (a - (at + done)) ≡ a - at = omega arith in
-      let later : is_among (at + done) (length (take count (drop done bytes))) a ≡ true =
+      let later : is_in_span (at + done) (length (take count (drop done bytes))) a ≡ true =
       among_yes (at + done) _ a low (omega (arith, next_length)) in
-      let one : is_among at (length (take (done + count) bytes)) a ≡ true =
+      let one : is_in_span at (length (take (done + count) bytes)) a ≡ true =
       among_yes at _ a (omega arith) (omega (arith, all_length)) in
       let put : byte_at new a ≡ Some (get_or (take count (drop done bytes)) (a - (at + done)) 0) =
       rw later at (next a) in
@@ -275,11 +275,11 @@ module _ (old mid new : FlatMemory) (at done count : ℕ) (bytes : List ℕ) (wi
   -- an address of the earlier ones
   in_front : (a : ℕ) → at ≤ a → a < at + done → byte_at new a ≡ byte_after_store old at (take (done + count) bytes) a
   in_front a low high =
-      let later : is_among (at + done) (length (take count (drop done bytes))) a ≡ false =
+      let later : is_in_span (at + done) (length (take count (drop done bytes))) a ≡ false =
       among_below (at + done) _ a high in
-      let here : is_among at (length (take done bytes)) a ≡ true =
+      let here : is_in_span at (length (take done bytes)) a ≡ true =
       among_yes at _ a low (omega (arith, front_length)) in
-      let one : is_among at (length (take (done + count) bytes)) a ≡ true =
+      let one : is_in_span at (length (take (done + count) bytes)) a ≡ true =
       among_yes at _ a low (omega (arith, all_length)) in
       let kept : byte_at new a ≡ byte_at mid a = rw later at (next a) in
       let put : byte_at mid a ≡ Some (get_or (take done bytes) (a - at) 0) = rw here at (front a) in
@@ -291,18 +291,19 @@ module _ (old mid new : FlatMemory) (at done count : ℕ) (bytes : List ℕ) (wi
   in_neither : (a : ℕ) → (a < at) ⊎ (at + (done + count) ≤ a)
       → byte_at new a ≡ byte_after_store old at (take (done + count) bytes) a
   in_neither a (inl low) =
-      let later : is_among (at + done) (length (take count (drop done bytes))) a ≡ false =
+      let later : is_in_span (at + done) (length (take count (drop done bytes))) a ≡ false =
       among_below (at + done) _ a (omega arith) in
-      let here : is_among at (length (take done bytes)) a ≡ false = among_below at _ a low in
-      let one : is_among at (length (take (done + count) bytes)) a ≡ false = among_below at _ a low in
+      let here : is_in_span at (length (take done bytes)) a ≡ false = among_below at _ a low in
+      let one : is_in_span at (length (take (done + count) bytes)) a ≡ false = among_below at _ a low in
       let kept : byte_at new a ≡ byte_at mid a = rw later at (next a) in
       let put : byte_at mid a ≡ byte_at old a = rw here at (front a) in
       rw one (kept ∙ put)
   in_neither a (inr high) =
-      let later : is_among (at + done) (length (take count (drop done bytes))) a ≡ false =
+      let later : is_in_span (at + done) (length (take count (drop done bytes))) a ≡ false =
       among_above (at + done) _ a (omega (arith, next_length)) in
-      let here : is_among at (length (take done bytes)) a ≡ false = among_above at _ a (omega (arith, front_length)) in
-      let one : is_among at (length (take (done + count) bytes)) a ≡ false =
+      let here : is_in_span at (length (take done bytes)) a ≡ false =
+      among_above at _ a (omega (arith, front_length)) in
+      let one : is_in_span at (length (take (done + count) bytes)) a ≡ false =
       among_above at _ a (omega (arith, all_length)) in
       let kept : byte_at new a ≡ byte_at mid a = rw later at (next a) in
       let put : byte_at mid a ≡ byte_at old a = rw here at (front a) in
@@ -325,6 +326,6 @@ pub byte_at-stored_before : (old mid : FlatMemory) (at done : ℕ) (bytes : List
     → ((a : ℕ) → byte_at mid a ≡ byte_after_store old at (take done bytes) a)
     → byte_at mid (at + done) ≡ byte_at old (at + done)
 byte_at-stored_before old mid at done bytes within front =
-    let past : is_among at (length (take done bytes)) (at + done) ≡ false =
+    let past : is_in_span at (length (take done bytes)) (at + done) ≡ false =
     among_above at _ (at + done) (omega (arith, length-take-le done bytes within)) in
     rw past at (front (at + done))

@@ -50,17 +50,17 @@ run_end memory address (suc more) =
 -- ---- what a change leaves at each address
 
 -- an address is one of this many from another on
-abbrev pub is_among : ℕ → ℕ → ℕ → Bool
-is_among from count address = nat_le from address && nat_lt address (from + count)
+abbrev pub is_in_span : ℕ → ℕ → ℕ → Bool
+is_in_span from count address = nat_le from address && nat_lt address (from + count)
 
 -- the byte there after a page of zeros was mapped
 abbrev pub byte_after_map : FlatMemory → ℕ → ℕ → Option ℕ
-byte_after_map before page address = if is_among page PAGE_SIZE address then Some 0 else byte_at before address
+byte_after_map before page address = if is_in_span page PAGE_SIZE address then Some 0 else byte_at before address
 
 -- the byte there after bytes were stored from an address on
 abbrev pub byte_after_store : FlatMemory → ℕ → List ℕ → ℕ → Option ℕ
 byte_after_store before at bytes address =
-    if is_among at (length bytes) address then Some (slice_index bytes (address - at)) else byte_at before address
+    if is_in_span at (length bytes) address then Some (slice_index bytes (address - at)) else byte_at before address
 
 -- these are the changes, and the only ones
 abbrev pub MapsPage : FlatMemory → FlatMemory → ℕ → Type 0

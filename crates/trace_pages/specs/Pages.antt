@@ -44,8 +44,8 @@ abbrev pub base_of : ℕ → ℕ
 base_of address = address - address % PAGE_SIZE
 
 -- the place of an address's page in the list
-abbrev pub IsPlace : List ℕ → ℕ → ℕ → Type 0
-IsPlace addresses address place = (place < length addresses) × (slice_index addresses place ≡ base_of address)
+abbrev pub IsPagePlace : List ℕ → ℕ → ℕ → Type 0
+IsPagePlace addresses address place = (place < length addresses) × (slice_index addresses place ≡ base_of address)
 
 -- the page is not there: those before this place are below it, and the others above
 abbrev pub HasNoPage : List ℕ → ℕ → ℕ → Type 0

@@ -5,7 +5,7 @@ ghost use Rattle.std.specs.Prelude.{◌≡◌, ◌≤◌, ◌<◌, ◌+◌, ◌-
 ghost use Rattle.std.specs.Prelude.{MatchOption, MatchResult, drop, length, take, ◌++◌};
 ghost use Rattle.std.specs.List.{insert};
 ghost use Rattle.trace_pages.specs.FlatMemory.{IsPiece, StoresBytes, byte_at, zeros};
-ghost use Rattle.trace_pages.specs.Pages.{ArePages, AreRising, HasNoPage, IsPlace, base_of, flat_of, overwritten};
+ghost use Rattle.trace_pages.specs.Pages.{ArePages, AreRising, HasNoPage, IsPagePlace, base_of, flat_of, overwritten};
 
 use std::alloc::Allocator;
 use std::marker::Model;
@@ -79,7 +79,7 @@ pub(crate) fn rest_of_page(addr: u64) -> usize
 /// The place of the page of an address, or the place that the page would have.
 pub(crate) fn place_of(addresses: &[u64], addr: u64) -> Result<usize, usize>
     requires { AreRising addresses.now }
-    ensures { MatchResult result (λ place. IsPlace addresses.now addr place)
+    ensures { MatchResult result (λ place. IsPagePlace addresses.now addr place)
         (λ place. HasNoPage addresses.now addr place) }
 {
     addresses.binary_search(&(addr - addr % PAGE_SIZE))

@@ -10,8 +10,10 @@ use Rattle.trace_regs.specs.declared.regs.Regs.{Regs}
 use Rattle.trace_status.specs.declared.syscall_info.SyscallInfo.{SyscallInfo}
 use Rattle.trace_status.specs.declared.syscall_info.Part.{Part}
 use Rattle.trace_status.specs.declared.syscall_info.Part.TheVariants as part
+use Rattle.trace_record.specs.Death.{death_status}
 use Rattle.trace_record.specs.declared.stop.Stop.{Stop}
 use Rattle.trace_record.specs.declared.stop.Stop.TheVariants.{Start, Enter, Exit, Seccomp, Fork, Clone, Exec, Signal}
+use Rattle.trace_record.specs.declared.stop.Stop.TheVariants.{Ending}
 use Rattle.trace_record.specs.declared.stop_record.TheConstants.{AUDIT_ARCH_X86_64}
 
 -- the content: whose stop it is, its number, the stop, the registers and the flat memory there
@@ -72,6 +74,7 @@ part_of (Fork child) regs = part.Quiet
 part_of (Clone child) regs = part.Quiet
 part_of (Exec former) regs = part.Quiet
 part_of (Signal signal) regs = part.Quiet
+part_of (Ending death) regs = part.Quiet
 
 -- the information of a stop
 abbrev pub info_of : Stop → Regs → SyscallInfo
@@ -87,3 +90,5 @@ message_of Start = 0
 message_of Enter = 0
 message_of Exit = 0
 message_of (Signal signal) = 0
+-- the wait status of the death that comes
+message_of (Ending death) = death_status death

@@ -7,8 +7,10 @@ use Rattle.trace_status.specs.WaitStatus.{IsSignal, raw_event, raw_stop}
 use Rattle.trace_status.specs.declared.wait_status.TheConstants.{SIGTRAP, SYSCALL_TRAP}
 use Rattle.trace_status.specs.declared.wait_status.WaitStatus.{WaitStatus}
 use Rattle.trace_status.specs.declared.wait_status.WaitStatus.TheVariants.{Stopped, PtraceEvent, PtraceSyscall}
+use Rattle.trace_record.specs.Death.{IsDeath}
 use Rattle.trace_record.specs.declared.stop.Stop.{Stop}
 use Rattle.trace_record.specs.declared.stop.Stop.TheVariants.{Start, Enter, Exit, Seccomp, Fork, Clone, Exec, Signal}
+use Rattle.trace_record.specs.declared.stop.Stop.TheVariants.{Ending}
 
 -- the wait status that a wait for the tracee pid returns at a stop
 abbrev pub stop_wait_status : ℕ → Stop → WaitStatus
@@ -20,6 +22,7 @@ stop_wait_status pid (Fork child) = PtraceEvent pid SIGTRAP (code_of event.Fork)
 stop_wait_status pid (Clone child) = PtraceEvent pid SIGTRAP (code_of event.Clone)
 stop_wait_status pid (Exec former) = PtraceEvent pid SIGTRAP (code_of event.Exec)
 stop_wait_status pid (Signal signal) = Stopped pid signal
+stop_wait_status pid (Ending death) = PtraceEvent pid SIGTRAP (code_of event.Exit)
 
 -- its raw value
 abbrev pub stop_status : Stop → ℕ
@@ -31,10 +34,12 @@ stop_status (Fork child) = raw_event (code_of event.Fork)
 stop_status (Clone child) = raw_event (code_of event.Clone)
 stop_status (Exec former) = raw_event (code_of event.Exec)
 stop_status (Signal signal) = raw_stop signal
+stop_status (Ending death) = raw_event (code_of event.Exit)
 
--- a stop that a tracee can make: a signal that arrives is one of Linux's
+-- a stop that a tracee can make: a signal that arrives is one of Linux's, a death that comes is one that it can have
 abbrev pub IsStop : Stop → Type 0
 IsStop (Signal signal) = IsSignal signal
+IsStop (Ending death) = IsDeath death
 IsStop Start = Unit {0}
 IsStop Enter = Unit {0}
 IsStop Exit = Unit {0}
@@ -53,3 +58,4 @@ child_of Exit = None
 child_of (Seccomp ret_data) = None
 child_of (Exec former) = None
 child_of (Signal signal) = None
+child_of (Ending death) = None

@@ -4,6 +4,7 @@ ghost use Rattle.std.specs.Prelude.{◌≡◌};
 ghost use Rattle.trace_options.specs.Event.{code_of};
 ghost use Rattle.trace_status.specs.WaitStatus.{raw_event, raw_stop};
 
+use crate::death::Death;
 use trace_options::Event;
 use trace_status::{SIGTRAP, STOPPED, SYSCALL_TRAP};
 
@@ -26,6 +27,8 @@ pub enum Stop {
     Exec(u32),
     /// A signal-delivery-stop, with the signal that arrives.
     Signal(u8),
+    /// `PTRACE_EVENT_EXIT`, with the death that comes.
+    Ending(Death),
 }
 
 impl Stop {
@@ -43,6 +46,7 @@ impl Stop {
             Stop::Clone(_) => event_stop(Event::Clone),
             Stop::Exec(_) => event_stop(Event::Exec),
             Stop::Signal(signal) => signal_stop(signal),
+            Stop::Ending(_) => event_stop(Event::Exit),
         }
     }
 

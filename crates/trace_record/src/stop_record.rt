@@ -78,7 +78,8 @@ impl<A: Allocator> StopRecord<A> {
         }
     }
 
-    /// The event message of the stop, or 0 where it has none (ptrace(2), `PTRACE_GETEVENTMSG`).
+    /// The event message of the stop, or 0 where it has none (ptrace(2), `PTRACE_GETEVENTMSG`). At the stop before a
+    /// death it is the raw wait status of the death.
     pub fn event_message(&self) -> u64
         ensures { result ≡ message_of self.now.stop }
     {
@@ -86,6 +87,7 @@ impl<A: Allocator> StopRecord<A> {
             Stop::Fork(child) | Stop::Clone(child) => u64::from(child),
             Stop::Exec(former) => u64::from(former),
             Stop::Seccomp(ret_data) => u64::from(ret_data),
+            Stop::Ending(death) => u64::from(death.status()),
             _ => 0,
         }
     }

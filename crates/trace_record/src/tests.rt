@@ -3,6 +3,18 @@ use super::*;
 use trace_regs::Regs;
 use trace_status::{Part, SyscallInfo, WaitStatus, decode};
 
+/// Killed by SIGTERM.
+const TERMINATED: Death = Death::Signaled {
+    signal: 15,
+    core: false,
+};
+
+/// Killed by SIGSEGV, with a core dump.
+const DUMPED: Death = Death::Signaled {
+    signal: 11,
+    core: true,
+};
+
 #[test]
 fn a_stop_decodes_as_its_name_says(rt: HostRuntime) {
     for (stop, raw, status) in [
@@ -19,6 +31,16 @@ fn a_stop_decodes_as_its_name_says(rt: HostRuntime) {
         (Stop::Exec(8), 0x4057f, WaitStatus::PtraceEvent(9, 5, 4)),
         (Stop::Signal(15), 0x0f7f, WaitStatus::Stopped(9, 15)),
         (Stop::Signal(64), 0x407f, WaitStatus::Stopped(9, 64)),
+        (
+            Stop::Ending(Death::Exited(3)),
+            0x6057f,
+            WaitStatus::PtraceEvent(9, 5, 6),
+        ),
+        (
+            Stop::Ending(TERMINATED),
+            0x6057f,
+            WaitStatus::PtraceEvent(9, 5, 6),
+        ),
     ] {
         assert_eq!(rt; stop.status(), raw, "{stop:?}");
         assert_eq!(rt; decode(9, raw), Some(status), "{stop:?}");
@@ -31,6 +53,7 @@ fn a_birth_names_its_child(rt: HostRuntime) {
     assert_eq!(rt; Stop::Clone(11).child(), Some(11));
     assert_eq!(rt; Stop::Exec(12).child(), None);
     assert_eq!(rt; Stop::Start.child(), None);
+    assert_eq!(rt; Stop::Ending(Death::Exited(13)).child(), None);
 }
 
 #[test]
@@ -160,6 +183,9 @@ fn a_record_shows_its_stop(rt: HostRuntime) {
         (Stop::Clone(11), 0x3057f, Part::Quiet, 11),
         (Stop::Exec(8), 0x4057f, Part::Quiet, 8),
         (Stop::Signal(15), 0x0f7f, Part::Quiet, 0),
+        (Stop::Ending(Death::Exited(3)), 0x6057f, Part::Quiet, 768),
+        (Stop::Ending(TERMINATED), 0x6057f, Part::Quiet, 15),
+        (Stop::Ending(DUMPED), 0x6057f, Part::Quiet, 139),
     ] {
         record.stop = stop;
         assert_eq!(rt; record.status(), raw, "{stop:?}");

@@ -2,27 +2,30 @@
 use Rattle.std.proofs.Common.{refl, ◌≡◌, ◌%◌, ◌<◌, ◌∷◌, ◌++◌, [], ℕ, Bool, true, false, List, Option, Some, None}
 use Rattle.std.proofs.Common.{◌&&◌, nat_le, not, length, cond, eqb, arith, ap, sym, ◌∙◌, subst, inl, inr}
 use Rattle.std.proofs.lemmas.Bool.Decides.{eqb_tells, nat_tests}
-use Rattle.trace_options.specs.declared.options.TheConstants.Options.{TRACEEXEC}
+use Rattle.trace_options.specs.declared.options.TheConstants.Options.{TRACEEXEC, TRACEEXIT}
 use Rattle.trace_pages.specs.FlatMemory.{RunEnd, Full, Absent, Top, run_end, stored}
 use Rattle.trace_pages.specs.Memory.{store_answer}
+use Rattle.trace_record.specs.Death.{IsDeath}
 use Rattle.trace_record.specs.Resume.{IsResume}
 use Rattle.trace_record.specs.Stop.{IsStop, child_of}
+use Rattle.trace_record.specs.declared.death.Death.{Death}
 use Rattle.trace_record.specs.declared.death.Death.TheVariants.{Signaled}
 use Rattle.trace_record.specs.declared.resume.Resume.{Resume}
 use Rattle.trace_record.specs.declared.stop.Stop.{Stop}
-use Rattle.trace_script.specs.Births.{AreGood, AreInRange, IsGoodOutcome, IsInRange, NamesByOption, ReportsBirths}
-use Rattle.trace_script.specs.Births.{ReportsNoBirths, born_by, children_of, children_reported, may_halt, reported_if, with_child}
+use Rattle.trace_script.specs.Births.{AreGood, HasValidSignal, HaveValidSignals, IsGoodOutcome, NamesByOption}
+use Rattle.trace_script.specs.Births.{ReportsBirths, ReportsNoBirths, born_by, children_of, children_reported, may_halt}
+use Rattle.trace_script.specs.Births.{reported_if, with_child}
 use Rattle.trace_script.specs.CaseFacts.{AreSteps}
 use Rattle.trace_script.specs.Script.{Fill, Script, Step}
 use Rattle.trace_script.specs.Script as step
 use Rattle.trace_script.specs.Signals.{can_arrive, kills_or_stops}
-use Rattle.trace_script.specs.StepStops.{Act, Halts, Loads, Calls, Becomes, Stores, Answers, Delivers, Dies, acts_of}
+use Rattle.trace_script.specs.StepStops.{Act, Halts, Loads, Calls, Becomes, Stores, Answers, Delivers, Exits, Dies}
 use Rattle.trace_script.specs.StepStops.{When, Always, Traced, Filtered, ByOption, acts_of_script, acts_of_steps, halts}
-use Rattle.trace_script.specs.StepStops.{has_option}
-use Rattle.trace_script.specs.StopTrace.{Context, Stops, GoesOn, Ends}
-use Rattle.trace_script.specs.StopTrace.{advance, context, outcome_by, store_effect}
+use Rattle.trace_script.specs.StepStops.{acts_of, has_option}
+use Rattle.trace_script.specs.StopTrace.{Context, Stops, StopsLast, GoesOn, Ends, Outcome}
+use Rattle.trace_script.specs.StopTrace.{advance, context, exit_effect, outcome_by, store_effect}
+use Rattle.trace_script.specs.declared.case.signals.TheConstants.{LAST_STANDARD}
 use Rattle.trace_script.specs.declared.setting.Setting.{Setting}
-use Rattle.trace_script.specs.declared.signals.TheConstants.{LAST_STANDARD}
 use Rattle.trace_status.specs.WaitStatus.{IsSignal}
 
 -- ---- what comes next
@@ -55,13 +58,23 @@ at_store s how Full acts x y again = again
 at_store s how (Absent address) acts x y again = tt
 at_store s how Top acts x y again = tt
 
+at_exit : (s : Setting) (b : Bool) (death : Death) (children : List ℕ) (acts : List Act) (x : Context)
+    (more : Context → Outcome) → IsDeath death
+    → IsGoodOutcome s children (outcome_by (cond b (StopsLast death) (Ends death)) acts x more)
+at_exit s true death children acts x more is = is
+at_exit s false death children acts x more is = is
+
 at_signal : (s : Setting) (how : Resume) (acts : List Act) (x : Context) → IsResume how
     → IsGoodOutcome s (children_reported s acts) (advance s how acts x)
     → IsGoodOutcome s (children_reported s acts)
-    (outcome_by (cond (eqb how.signal 0) (GoesOn x) (Ends (Signaled how.signal false))) acts x (advance s how acts))
+    (outcome_by (cond (eqb how.signal 0) (GoesOn x) (exit_effect s (Signaled how.signal false))) acts x
+    (advance s how acts))
 at_signal s how acts x range again = elim (eqb_tells how.signal 0) [
   | inl none ↦ rw none.0 again
-  | inr some ↦ rw some.0 (omega (arith, some.1), range)
+  | inr some ↦
+      (let is : IsDeath (Signaled how.signal false) = (omega (arith, some.1), range) in
+      rw some.0 (at_exit s (has_option s TRACEEXIT) (Signaled how.signal false) (children_reported s acts) acts x
+      (advance s how acts) is))
 ]
 
 pub good_next : (s : Setting) (how : Resume) (acts : List Act) (x : Context) → IsResume how → AreGood acts
@@ -79,6 +92,8 @@ good_next s how (Stores fill ∷ acts) x range good =
     at_store s how (run_end x.memory fill.address (length fill.bytes)) acts x y (good_next s how acts y range good)
 good_next s how (Answers answer ∷ acts) x range good = good_next s how acts _ range good
 good_next s how (Delivers ∷ acts) x range good = at_signal s how acts x range (good_next s how acts x range good)
+good_next s how (Exits death ∷ acts) x range good =
+    at_exit s (has_option s TRACEEXIT) death (children_reported s acts) acts x (advance s how acts) good.0
 good_next s how (Dies death ∷ acts) x range good = good.0
 
 -- ---- scripts
@@ -92,9 +107,10 @@ good_append (Becomes image ∷ a) b first second = good_append a b first second
 good_append (Stores fill ∷ a) b first second = good_append a b first second
 good_append (Answers answer ∷ a) b first second = good_append a b first second
 good_append (Delivers ∷ a) b first second = good_append a b first second
+good_append (Exits death ∷ a) b first second = (first.0, good_append a b first.1 second)
 good_append (Dies death ∷ a) b first second = (first.0, good_append a b first.1 second)
 
-good_step : (s : Setting) (step : Step) → IsInRange step → AreGood (acts_of s step)
+good_step : (s : Setting) (step : Step) → HasValidSignal step → AreGood (acts_of s step)
 good_step s (step.Call nr arguments answer None) range = ((tt, tt), ((tt, tt), ((tt, tt), tt)))
 good_step s (step.Call nr arguments answer (Some fill)) range = ((tt, tt), ((tt, tt), ((tt, tt), tt)))
 good_step s (step.Fork child) range = ((tt, tt), ((tt, tt), ((tt, tt), ((tt, tt), tt))))
@@ -105,13 +121,13 @@ good_step s (step.Signal signal false) range = ((range, tt), tt)
 good_step s (step.Exit status) range =
     let low : status % 256 < 256 = omega arith in ((tt, tt), ((tt, tt), (low, tt)))
 
-good_steps : (s : Setting) (steps : List Step) → AreInRange steps → AreGood (acts_of_steps s steps)
+good_steps : (s : Setting) (steps : List Step) → HaveValidSignals steps → AreGood (acts_of_steps s steps)
 unfolding acts_of_steps
-good_steps s [] range = tt
+good_steps s [] range = let low : 0 < 256 = omega arith in (low, tt)
 good_steps s (step ∷ steps) range =
     good_append (acts_of s step) (acts_of_steps s steps) (good_step s step range.0) (good_steps s steps range.1)
 
-pub good_script : (s : Setting) (script : Script) → AreInRange script.steps → AreGood (acts_of_script s script)
+pub good_script : (s : Setting) (script : Script) → HaveValidSignals script.steps → AreGood (acts_of_script s script)
 good_script s script range = ((tt, tt), good_steps s script.steps range)
 
 with_append : (child : Option ℕ) (a b : List ℕ) → with_child child (a ++ b) ≡ with_child child a ++ b
@@ -129,6 +145,7 @@ reported_append s (Becomes image ∷ a) b = reported_append s a b
 reported_append s (Stores fill ∷ a) b = reported_append s a b
 reported_append s (Answers answer ∷ a) b = reported_append s a b
 reported_append s (Delivers ∷ a) b = reported_append s a b
+reported_append s (Exits death ∷ a) b = reported_append s a b
 reported_append s (Dies death ∷ a) b = reported_append s a b
 
 reported_step : (s : Setting) (step : Step) → ReportsBirths s → children_reported s (acts_of s step) ≡ children_of step
@@ -187,7 +204,7 @@ arriving : (signal : ℕ) → can_arrive signal ≡ true → IsSignal signal
 arriving signal can =
     arriving_by (nat_le 1 signal) (nat_le signal LAST_STANDARD) signal (not (kills_or_stops signal)) refl refl can
 
-pub arriving_in_range : (steps : List Step) → AreSteps steps → AreInRange steps
+pub arriving_in_range : (steps : List Step) → AreSteps steps → HaveValidSignals steps
 arriving_in_range [] can = tt
 arriving_in_range (step.Call nr arguments answer fill ∷ steps) can = (tt, arriving_in_range steps can.1)
 arriving_in_range (step.Fork child ∷ steps) can = (tt, arriving_in_range steps can.1)

@@ -8,7 +8,7 @@ use Rattle.stop_history.specs.History.{is_next_child}
 use Rattle.stop_history.specs.Roster.{fault_after, first_fault, is_leader, push_fault, row_at, row_of}
 use Rattle.trace_pages.specs.FlatMemory.{FlatMemory}
 use Rattle.trace_script.specs.Signals.{can_arrive, kills_or_stops}
-use Rattle.trace_script.specs.declared.signals.TheConstants.{LAST_STANDARD}
+use Rattle.trace_script.specs.declared.case.signals.TheConstants.{LAST_STANDARD}
 use Rattle.std.proofs.lemmas.Bool.{and_parts}
 use Rattle.stop_history.specs.declared.limits.TheConstants.{MOST_ROWS}
 use Rattle.stop_history.specs.declared.roster.Row.{Row}

@@ -2,22 +2,24 @@
 -- for a program that is put in, and its own stores are mapped in it.
 use Rattle.std.proofs.Common.{refl, ◌≡◌, ◌≢◌, ◌+◌, ◌∷◌, [], ℕ, Bool, true, false, List, Some, None, length}
 use Rattle.std.proofs.Common.{cond, eqb, sym, ◌∙◌, subst}
+use Rattle.trace_options.specs.declared.options.TheConstants.Options.{TRACEEXIT}
 use Rattle.trace_pages.specs.FlatMemory.{FlatMemory, Full, SameAddresses, run_end, stored}
 use Rattle.trace_pages.proofs.Memories.{same_run_end, stored_same}
 use Rattle.trace_record.specs.Content.{Content, content_by}
 use Rattle.trace_record.specs.declared.death.Death.{Death}
+use Rattle.trace_record.specs.declared.death.Death.TheVariants.{Signaled}
 use Rattle.trace_record.specs.declared.resume.Resume.{Resume}
 use Rattle.trace_record.specs.declared.stop.Stop.{Stop}
 use Rattle.trace_script.specs.Fills.{AreFillsMapped, EndsDead, HasMappedFills, KeepsAddresses}
 use Rattle.trace_script.specs.Script.{Fill, Script, Step}
 use Rattle.trace_script.specs.Script as step
-use Rattle.trace_script.specs.StepStops.{Act, Halts, Loads, Calls, Becomes, Stores, Answers, Delivers, Dies}
-use Rattle.trace_script.specs.StepStops.{acts_of_script, acts_of_steps, halts}
-use Rattle.trace_script.specs.StopTrace.{Context, Stops, GoesOn, Ends, FaultIs, Follows, Outcome}
-use Rattle.trace_script.specs.StopTrace.{Stopped, Through, Died, Faulted, Policy, Position, StopIs, Trace, Turn, advance}
-use Rattle.trace_script.specs.StopTrace.{context, context_after, element_by, next_element, opening_position}
-use Rattle.trace_script.specs.StopTrace.{outcome_at, outcome_by, position_after, position_by, trace_by}
-use Rattle.trace_script.specs.StopTrace.{trace_from}
+use Rattle.trace_script.specs.StepStops.{Act, Halts, Loads, Calls, Becomes, Stores, Answers, Delivers, Exits, Dies}
+use Rattle.trace_script.specs.StepStops.{acts_of_script, acts_of_steps, halts, has_option}
+use Rattle.trace_script.specs.StopTrace.{Context, Stops, StopsLast, GoesOn, Ends, FaultIs, FollowsTrace, Outcome}
+use Rattle.trace_script.specs.StopTrace.{Stopped, Exiting, Through}
+use Rattle.trace_script.specs.StopTrace.{Died, Faulted, Policy, Position, StopIs, Trace, Turn, advance, context}
+use Rattle.trace_script.specs.StopTrace.{context_after, element_by, next_element, opening_position, outcome_at}
+use Rattle.trace_script.specs.StopTrace.{outcome_by, position_after, position_by, trace_by, trace_from}
 use Rattle.trace_script.specs.declared.setting.Setting.{Setting}
 use Rattle.trace_script.proofs.Looks.{same_back, same_on}
 
@@ -32,6 +34,7 @@ AreStoresMapped m (Halts when at ∷ acts) = AreStoresMapped m acts
 AreStoresMapped m (Calls nr arguments ∷ acts) = AreStoresMapped m acts
 AreStoresMapped m (Answers answer ∷ acts) = AreStoresMapped m acts
 AreStoresMapped m (Delivers ∷ acts) = AreStoresMapped m acts
+AreStoresMapped m (Exits death ∷ acts) = AreStoresMapped m acts
 AreStoresMapped m (Dies death ∷ acts) = AreStoresMapped m acts
 
 mapped_steps : (s : Setting) (m : FlatMemory) (steps : List Step) → AreFillsMapped m steps
@@ -75,6 +78,7 @@ record IsMappedAt (m : FlatMemory) (left : List Act) : Type 0 where
 
 abbrev KeepsMapped : Outcome → Type 0
 KeepsMapped (Stopped left at y) = IsMappedAt y.memory left
+KeepsMapped (Exiting death y) = Unit {0}
 KeepsMapped (Through y) = Unit {0}
 KeepsMapped (Died death) = Unit {0}
 KeepsMapped (Faulted address) = ⊥
@@ -85,11 +89,17 @@ at_halt : (s : Setting) (how : Resume) (b : Bool) (at : Stop) (acts : List Act) 
 at_halt s how true at acts x here again = here
 at_halt s how false at acts x here again = again
 
-at_signal : (s : Setting) (how : Resume) (b : Bool) (death : Death) (acts : List Act) (x : Context)
+at_exit : (b : Bool) (death : Death) (acts : List Act) (x : Context) (more : Context → Outcome)
+    → KeepsMapped (outcome_by (cond b (StopsLast death) (Ends death)) acts x more)
+at_exit true death acts x more = tt
+at_exit false death acts x more = tt
+
+at_signal : (s : Setting) (how : Resume) (b stops : Bool) (death : Death) (acts : List Act) (x : Context)
     → KeepsMapped (advance s how acts x)
-    → KeepsMapped (outcome_by (cond b (GoesOn x) (Ends death)) acts x (advance s how acts))
-at_signal s how true death acts x again = again
-at_signal s how false death acts x again = tt
+    → KeepsMapped (outcome_by (cond b (GoesOn x) (cond stops (StopsLast death) (Ends death))) acts x
+    (advance s how acts))
+at_signal s how true stops death acts x again = again
+at_signal s how false stops death acts x again = at_exit stops death acts x (advance s how acts)
 
 keeps_mapped : (s : Setting) (how : Resume) (acts : List Act) (x : Context) (m : FlatMemory)
     → SameAddresses m x.memory → AreStoresMapped m acts → KeepsMapped (advance s how acts x)
@@ -108,7 +118,10 @@ keeps_mapped s how (Stores fill ∷ acts) x m same mapped =
     rw whole (keeps_mapped s how acts y m (store_keeps m x fill same whole) mapped.1)
 keeps_mapped s how (Answers answer ∷ acts) x m same mapped = keeps_mapped s how acts _ m same mapped
 keeps_mapped s how (Delivers ∷ acts) x m same mapped =
-    at_signal s how (eqb how.signal 0) _ acts x (keeps_mapped s how acts x m same mapped)
+    at_signal s how (eqb how.signal 0) (has_option s TRACEEXIT) (Signaled how.signal false) acts x
+    (keeps_mapped s how acts x m same mapped)
+keeps_mapped s how (Exits death ∷ acts) x m same mapped =
+    at_exit (has_option s TRACEEXIT) death acts x (advance s how acts)
 keeps_mapped s how (Dies death ∷ acts) x m same mapped = tt
 
 -- ---- a run
@@ -118,6 +131,7 @@ after_stop : (p : Position) (o : Outcome) (c : Content) → KeepsMapped o → el
 after_stop p (Stopped left at y) c keeps h =
     let same : content_by p.setting.tid (p.number + 1) at y.regs y.memory ≡ c = cc in
     subst (λ (d : Content). IsMappedAt d.memory left) same keeps
+after_stop p (Exiting death y) c keeps h = record { image = c.memory; same = λ q. refl; mapped = tt }
 after_stop p (Through y) c keeps h = cc
 after_stop p (Died death) c keeps h = cc
 after_stop p (Faulted address) c keeps h = cc
@@ -130,7 +144,7 @@ next_keeps : (p : Position) (how : Resume) (x : Context) → IsMappedAt x.memory
 next_keeps p how x at = keeps_mapped p.setting how p.left x at.image at.same at.mapped
 
 run_mapped : (s : Setting) (script : Script) (x : Context) (turns : List Turn) → HasMappedFills script
-    → Follows (opening_position s script) turns → KeepsAddresses x turns
+    → FollowsTrace (opening_position s script) turns → KeepsAddresses x turns
     → IsMappedAt (context_after x turns).memory (position_after (opening_position s script) turns).left
 run_mapped s script x [] mapped follows keeps =
     record { image = x.memory; same = λ q. refl; mapped = mapped_script s x.memory script mapped }
@@ -142,12 +156,13 @@ run_mapped s script x (turn ∷ turns) mapped follows keeps =
 
 no_fault : (p : Position) (o : Outcome) (a : ℕ) → KeepsMapped o → element_by p o ≢ FaultIs a
 no_fault p (Stopped left at y) a keeps = λ h. cc
+no_fault p (Exiting death y) a keeps = λ h. cc
 no_fault p (Through y) a keeps = λ h. cc
 no_fault p (Died death) a keeps = λ h. cc
 no_fault p (Faulted address) a keeps = λ h. keeps
 
 pub runs_never_fault : (s : Setting) (script : Script) (x : Context) (turns : List Turn) (how : Resume) (now : Context)
-    (address : ℕ) → HasMappedFills script → Follows (opening_position s script) turns → KeepsAddresses x turns
+    (address : ℕ) → HasMappedFills script → FollowsTrace (opening_position s script) turns → KeepsAddresses x turns
     → SameAddresses now.memory (context_after x turns).memory
     → next_element (position_after (opening_position s script) turns) how now ≢ FaultIs address
 runs_never_fault s script x turns how now address mapped follows keeps same =
@@ -164,11 +179,16 @@ trace_halt : (b : Bool) (at : Stop) (x : Context) (content : Stop → Content) (
 trace_halt true at x content stopped more first second = first
 trace_halt false at x content stopped more first second = second
 
-trace_signal : (b : Bool) (death : Death) (x : Context) (content : Stop → Content) (stopped : Content → Trace)
+trace_exit : (b : Bool) (death : Death) (content : Stop → Content) (stopped : Content → Trace) (more : Context → Trace)
+    → EndsDead (trace_by (cond b (StopsLast death) (Ends death)) content stopped more).ending
+trace_exit true death content stopped more = tt
+trace_exit false death content stopped more = tt
+
+trace_signal : (b stops : Bool) (death : Death) (x : Context) (content : Stop → Content) (stopped : Content → Trace)
     (more : Context → Trace) → EndsDead (more x).ending
-    → EndsDead (trace_by (cond b (GoesOn x) (Ends death)) content stopped more).ending
-trace_signal true death x content stopped more again = again
-trace_signal false death x content stopped more again = tt
+    → EndsDead (trace_by (cond b (GoesOn x) (cond stops (StopsLast death) (Ends death))) content stopped more).ending
+trace_signal true stops death x content stopped more again = again
+trace_signal false stops death x content stopped more again = trace_exit stops death content stopped more
 
 trace_ends : (policy : Policy) (s : Setting) (number : ℕ) (how : Resume) (acts : List Act) (x : Context)
     (m : FlatMemory) → SameAddresses m x.memory → AreStoresMapped m acts
@@ -192,9 +212,13 @@ trace_ends policy s number how (Stores fill ∷ acts) x m same mapped =
 trace_ends policy s number how (Answers answer ∷ acts) x m same mapped =
     trace_ends policy s number how acts _ m same mapped
 trace_ends policy s number how (Delivers ∷ acts) x m same mapped =
-    trace_signal (eqb how.signal 0) _ x (λ at. content_by s.tid (number + 1) at x.regs x.memory)
+    trace_signal (eqb how.signal 0) (has_option s TRACEEXIT) (Signaled how.signal false) x
+    (λ at. content_by s.tid (number + 1) at x.regs x.memory)
     (λ c. trace_from policy s (number + 1) (policy c) acts x) (λ y. trace_from policy s number how acts y)
     (trace_ends policy s number how acts x m same mapped)
+trace_ends policy s number how (Exits death ∷ acts) x m same mapped =
+    trace_exit (has_option s TRACEEXIT) death (λ at. content_by s.tid (number + 1) at x.regs x.memory)
+    (λ c. trace_from policy s (number + 1) (policy c) acts x) (λ y. trace_from policy s number how acts y)
 trace_ends policy s number how (Dies death ∷ acts) x m same mapped = tt
 
 pub traces_never_fault : (policy : Policy) (s : Setting) (script : Script) (number : ℕ) (how : Resume) (x : Context)

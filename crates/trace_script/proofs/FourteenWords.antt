@@ -13,10 +13,10 @@ use Rattle.trace_script.specs.declared.case.keyword.Keyword.{Keyword}
 use Rattle.trace_script.specs.declared.case.keyword.Keyword.TheVariants as keyword
 use Rattle.trace_script.specs.declared.case.keyword.Place.{Place}
 use Rattle.trace_script.specs.CaseFile.{Reading, line_read, with_line}
-use Rattle.trace_script.specs.CaseLine.{Line, Nothing, answered_call, arguments_before, call_of, data_part, does}
-use Rattle.trace_script.specs.CaseLine.{exec_step, exit_step, few_before, filled_call, fork_step, is_deadly_word, is_equals}
-use Rattle.trace_script.specs.CaseLine.{is_fill, keyword_at, line_of, loads, named_call, only_word, nr_named, page_part, plain_call}
-use Rattle.trace_script.specs.CaseLine.{rest_of, signal_of, signal_step, start_part, thread_step}
+use Rattle.trace_script.specs.CaseLine.{Line, Nothing, answered_call, argument_count, call_of, data_part, does}
+use Rattle.trace_script.specs.CaseLine.{exec_step, exit_step, few_before, filled_call, fork_step, is_deadly_word}
+use Rattle.trace_script.specs.CaseLine.{is_equals, is_fill, keyword_at, line_of, loads, named_call, only_word, nr_named}
+use Rattle.trace_script.specs.CaseLine.{page_part, plain_call, rest_of, signal_of, signal_step, start_part, thread_step}
 use Rattle.trace_script.specs.CaseLine as line
 use Rattle.trace_script.specs.Draft.{words_read}
 use Rattle.trace_script.specs.Reading.{with_cause}
@@ -90,7 +90,7 @@ found at count = few_before (cond (nat_lt at count) (Some at) None)
 same_found : (m at count : ℕ) → 6 < m → at ≤ count → found (min m at) (min m count) ≡ found at count
 same_found m at count many within = grind (arith, nat_tests)
 
-counted : (m : ℕ) (words : List (List ℕ)) → 6 < m → arguments_before (take m words) ≡ arguments_before words
+counted : (m : ℕ) (words : List (List ℕ)) → 6 < m → argument_count (take m words) ≡ argument_count words
 counted m words many =
     ap (λ n. found n (length (take m words))) (first_of_take is_equals m words)
     ∙ ap (found (min m (position_or_len is_equals words))) (length-take m words)
@@ -139,7 +139,7 @@ named : (m nr : ℕ) (words : List (List ℕ)) → 11 < m → named_call nr (tak
 named m nr words many =
     ap (λ r. r >>= λ count. answered_call nr (take count (take m words)) (drop (count + 1) (take m words)))
     (counted m words (omega arith))
-    ∙ parted_by m nr words (arguments_before words) many (few_found (position is_equals words))
+    ∙ parted_by m nr words (argument_count words) many (few_found (position is_equals words))
 
 call_words : (words : List (List ℕ))
     → (nr_named (nth_word (take 13 words) 0) >>= λ nr. named_call nr (drop 1 (take 13 words)))

@@ -13,7 +13,7 @@ use Rattle.std.specs.FinMap.Entries.{below_all, is_sorted}
 use Rattle.std.specs.FinMap.{contains_key-keys, empty, entries, entries_sorted, get-empty, keys, len, len-empty}
 use Rattle.std.specs.FinMap.{len-insert}
 use Rattle.text_lines.specs.Ranges.{◌>>=◌}
-use Rattle.trace_pages.specs.FlatMemory.{FlatMemory, Full, byte_after_store, byte_at, is_among, mapped, run, run_end}
+use Rattle.trace_pages.specs.FlatMemory.{FlatMemory, Full, byte_after_store, byte_at, is_in_span, mapped, run, run_end}
 use Rattle.trace_pages.specs.FlatMemory.{stored}
 use Rattle.trace_pages.specs.Pages.{base_of}
 use Rattle.trace_pages.specs.Memory.{map_refusal}
@@ -84,20 +84,20 @@ full_page memory page whole begins below is =
 -- ---- the bytes of pages
 stored_byte : (m memory : FlatMemory) (page a : ℕ) → run_end memory page 4096 ≡ Full
     → byte_at (stored m page (run memory page 4096)) a ≡
-    (if is_among page 4096 a then byte_at memory a else byte_at m a)
+    (if is_in_span page 4096 a then byte_at memory a else byte_at m a)
 stored_byte m memory page a full =
     byte_at-store m page (run memory page 4096) a
-    ∙ ap (λ n. if is_among page n a then Some (get_or (run memory page 4096) (a - page) 0) else byte_at m a)
+    ∙ ap (λ n. if is_in_span page n a then Some (get_or (run memory page 4096) (a - page) 0) else byte_at m a)
     (length-run-Full memory page 4096 full)
     ∙ elim (among_cases page 4096 a) as
-    (λ _. (if is_among page 4096 a then Some (get_or (run memory page 4096) (a - page) 0) else byte_at m a)
-    ≡ (if is_among page 4096 a then byte_at memory a else byte_at m a)) [
+    (λ _. (if is_in_span page 4096 a then Some (get_or (run memory page 4096) (a - page) 0) else byte_at m a)
+    ≡ (if is_in_span page 4096 a then byte_at memory a else byte_at m a)) [
       | inl inside ↦
           let on : page + (a - page) ≡ a = omega (arith, inside.0) in
           let here : byte_at memory a ≡ Some (get_or (run memory page 4096) (a - page) 0) =
           ap (byte_at memory) (sym on)
           ∙ get_or-run memory page 4096 (a - page) full (omega (arith, inside.0, inside.1)) in
-          ap (λ (o : Option ℕ). if is_among page 4096 a then o else byte_at m a) (sym here)
+          ap (λ (o : Option ℕ). if is_in_span page 4096 a then o else byte_at m a) (sym here)
       | inr off ↦ rw off refl
     ]
 
@@ -111,14 +111,14 @@ either true false h = inr (refl, refl)
 either false false h = cc
 
 abbrev on_pages : ℕ → List ℕ → Bool
-on_pages a pages = list_any (λ page. is_among page 4096 a) pages
+on_pages a pages = list_any (λ page. is_in_span page 4096 a) pages
 
 other_bytes : (memory m : FlatMemory) (pages : List ℕ) (a : ℕ) → AllByRecursion
     (λ page. run_end memory page 4096 ≡ Full) pages
     → on_pages a pages ≡ false → byte_at (with_pages memory m pages) a ≡ byte_at m a
 other_bytes memory m [] a full off = refl
 other_bytes memory m (page ∷ pages) a full off =
-    let parts = neither (is_among page 4096 a) (on_pages a pages) off in
+    let parts = neither (is_in_span page 4096 a) (on_pages a pages) off in
     other_bytes memory (stored m page (run memory page 4096)) pages a full.1 parts.1
     ∙ stored_byte m memory page a full.0 ∙ rw parts.0 refl
 
@@ -126,7 +126,7 @@ page_bytes : (memory m : FlatMemory) (pages : List ℕ) (a : ℕ) → AllByRecur
     (λ page. run_end memory page 4096 ≡ Full) pages
     → on_pages a pages ≡ true → byte_at (with_pages memory m pages) a ≡ byte_at memory a
 page_bytes memory m [] a full on = cc
-page_bytes memory m (page ∷ pages) a full on = elim (either (is_among page 4096 a) (on_pages a pages) on) [
+page_bytes memory m (page ∷ pages) a full on = elim (either (is_in_span page 4096 a) (on_pages a pages) on) [
   | inl later ↦ page_bytes memory (stored m page (run memory page 4096)) pages a full.1 later
   | inr here ↦
       other_bytes memory (stored m page (run memory page 4096)) pages a full.1 here.1
@@ -266,7 +266,7 @@ each_there (e ∷ es) = (
 )
 
 -- a page that has a key is found for each of its addresses
-page_found : (page a : ℕ) (es : List (ℕ × ℕ)) → page % 4096 ≡ 0 → is_among page 4096 a ≡ true
+page_found : (page a : ℕ) (es : List (ℕ × ℕ)) → page % 4096 ≡ 0 → is_in_span page 4096 a ≡ true
     → list_any (eq_by_cmp nat_cmp page) (map (λ e. e.0) es) ≡ true → on_pages a (pages_in es) ≡ true
 page_found page a [] begins inside is = cc
 page_found page a (e ∷ es) begins inside is =
@@ -274,14 +274,14 @@ page_found page a (e ∷ es) begins inside is =
       | inl later ↦
           let rest = page_found page a es begins inside later in
           elim (e.0 % 4096 == 0) as (λ b. on_pages a (cond b (e.0 ∷ pages_in es) (pages_in es)) ≡ true) [
-            | true ↦ or_later (is_among e.0 4096 a) (on_pages a (pages_in es)) rest
+            | true ↦ or_later (is_in_span e.0 4096 a) (on_pages a (pages_in es)) rest
             | false ↦ rest
           ]
       | inr here ↦
           let same : page ≡ e.0 = eqb-true page e.0 (sym (unsigned_tied page e.0) ∙ here.0) in
           let mark : (e.0 % 4096 == 0) ≡ true = ap (λ n. n % 4096 == 0) (sym same) ∙ eq-eqb (page % 4096) 0 begins in
           ap (λ b. on_pages a (cond b (e.0 ∷ pages_in es) (pages_in es))) mark
-          ∙ ap (λ b. b || on_pages a (pages_in es)) (ap (λ n. is_among n 4096 a) (sym same) ∙ inside)
+          ∙ ap (λ b. b || on_pages a (pages_in es)) (ap (λ n. is_in_span n 4096 a) (sym same) ∙ inside)
     ]
 
 -- ---- an image

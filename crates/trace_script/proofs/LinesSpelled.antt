@@ -23,16 +23,16 @@ use Rattle.text_lines.proofs.Decimals.{decimal_is_word, decimal_read, integer_is
 use Rattle.text_lines.proofs.Spelled.{AreWords, all_above, is_word}
 use Rattle.trace_script.specs.declared.case.keyword.Place.{Place}
 use Rattle.trace_script.specs.declared.case.keyword.Place.TheVariants.{Loading, Outside, Stepping}
-use Rattle.trace_script.specs.CaseLine.{Part, Line, any_number, argument, arguments_before, arguments_of, call_of}
+use Rattle.trace_script.specs.CaseLine.{Part, Line, any_number, argument, argument_count, argument_numbers, call_of}
 use Rattle.trace_script.specs.CaseLine.{data_part, does, filled_call, has_own_line, is_equals, loads, named_call}
 use Rattle.trace_script.specs.CaseLine.{no_image, nr_in, nr_named, page_part, plain_call, start_part, answer_of}
-use Rattle.trace_script.specs.CaseLine.{answered_call, bytes_of, bytes_written, is_byte_word, line_of, whole_page}
-use Rattle.trace_script.specs.CaseLine.{word_of}
+use Rattle.trace_script.specs.CaseLine.{answered_call, bytes_of_word, bytes_written, is_byte_word, line_of, whole_page}
+use Rattle.trace_script.specs.CaseLine.{rax_of}
 use Rattle.trace_script.specs.CaseLine as line
 use Rattle.trace_script.specs.Script.{Fill, Image, Step}
 use Rattle.trace_script.specs.Script as step
-use Rattle.trace_script.specs.CaseSpelling.{AreFills, IsCall, IsFill, answer_word, fill_words, name_in, part_words}
-use Rattle.trace_script.specs.CaseSpelling.{step_words}
+use Rattle.trace_script.specs.CaseSpelling.{AreFills, IsCall, IsFill, answer_word, fill_words, part_words, step_words}
+use Rattle.trace_script.specs.CaseSpelling.{syscall_name}
 use Rattle.trace_script.specs.RowWords.{spelled_row}
 use Rattle.trace_script.proofs.RowsBack.{HasRanges, id_ends, id_read, row_read}
 use Rattle.stop_history.specs.Roster.{is_id}
@@ -74,7 +74,7 @@ hex_is_byte_word bytes are some =
     (eq-eqb (length (encode_lower bytes) % 2) 0 known.0)
     (list_all-from_AllPass is_hex_digit (encode_lower bytes) known.1))
 
-pub bytes_read : (bytes : List ℕ) → IsBytes bytes → 1 ≤ length bytes → bytes_of (encode_lower bytes) ≡ Ok bytes
+pub bytes_read : (bytes : List ℕ) → IsBytes bytes → 1 ≤ length bytes → bytes_of_word (encode_lower bytes) ≡ Ok bytes
 unfolding bytes_written
 bytes_read bytes are some =
     ap (λ b. if b then Ok (result_unwrap_or (decode_of (encode_lower bytes)) []) else Err BadHex)
@@ -93,7 +93,7 @@ small_integer answer small = (sfits_to_z {w = w64} {n = answer} (record { fits =
 
 pub answer_read : (answer : ℕ) → answer < 2 ^ 64 → answer_of (answer_word answer) ≡ Ok answer
 answer_read answer small =
-    ap word_of (integer_read (cast_signed w64 answer) (small_integer answer small))
+    ap rax_of (integer_read (cast_signed w64 answer) (small_integer answer small))
     ∙ ap Ok (of_z-to_z w64 answer small)
 
 answer_is_word : (answer : ℕ) → answer < 2 ^ 64 → is_word (answer_word answer) ≡ true
@@ -119,7 +119,7 @@ page_said page small begins =
 data_said : (address : ℕ) (bytes : List ℕ) → address < 2 ^ 64 → 1 ≤ length bytes → IsBytes bytes
     → data_part (decimal address) (encode_lower bytes) ≡ Ok (line.Data address bytes)
 data_said address bytes small some are =
-    ap (λ r. r >>= λ at. bytes_of (encode_lower bytes) >>= λ b. Ok (line.Data at b)) (any_read address small)
+    ap (λ r. r >>= λ at. bytes_of_word (encode_lower bytes) >>= λ b. Ok (line.Data at b)) (any_read address small)
     ∙ ap (λ r. r >>= λ b. Ok (line.Data address b)) (bytes_read bytes are some)
 
 start_said : (rip rsp : ℕ) → rip < 2 ^ 64 → rsp < 2 ^ 64
@@ -177,25 +177,25 @@ passes test (y ∷ xs) x is =
     ] refl is
 
 named : (nr : ℕ) (o : Option SyscallRow) → syscall_numbered nr ≡ o → IsSome o → has_own_line nr ≡ false
-    → IfSome o (λ call. syscall_named call.name ≡ Some call) → nr_named (name_in o) ≡ Ok nr
+    → IfSome o (λ call. syscall_named call.name ≡ Some call) → nr_named (syscall_name o) ≡ Ok nr
 named nr None is there other back = cc
 named nr (Some call) is there other back =
     let same : call.number ≡ nr = eqb-true call.number nr (passes (λ c. c.number == nr) syscall_table call is) in
     ap nr_in back ∙ rw same (ap (λ b. if b then Err UnknownWord else Ok nr) other)
 
 pub nr_read : (nr : ℕ) → IsSome (syscall_numbered nr) → has_own_line nr ≡ false → nr_named
-    (name_in (syscall_numbered nr)) ≡ Ok nr
+    (syscall_name (syscall_numbered nr)) ≡ Ok nr
 nr_read nr known other =
     named nr (syscall_numbered nr) refl known other
     (found {X = SyscallRow} (λ call. call.number == nr)
     (λ call. syscall_named call.name ≡ Some call) syscall_table found_by_name)
 
 name_word : (o : Option SyscallRow) → IsSome o → IfSome o (λ call. is_word call.name ≡ true) → is_word
-    (name_in o) ≡ true
+    (syscall_name o) ≡ true
 name_word None there is = cc
 name_word (Some call) there is = is
 
-name_is_word : (nr : ℕ) → IsSome (syscall_numbered nr) → is_word (name_in (syscall_numbered nr)) ≡ true
+name_is_word : (nr : ℕ) → IsSome (syscall_numbered nr) → is_word (syscall_name (syscall_numbered nr)) ≡ true
 name_is_word nr known =
     name_word (syscall_numbered nr) known
     (found {X = SyscallRow} (λ call. call.number == nr) (λ call. is_word call.name ≡ true) syscall_table is_named)
@@ -211,37 +211,37 @@ no_equals_in n small = no_equals (decimal n) (decimal_is_IsNumeral n small).0.1
 
 six_before : (a b c d e f : List ℕ) (rest : List (List ℕ)) → is_equals a ≡ false → is_equals b ≡ false
     → is_equals c ≡ false → is_equals d ≡ false → is_equals e ≡ false → is_equals f ≡ false
-    → arguments_before (a ∷ b ∷ c ∷ d ∷ e ∷ f ∷ codes "=" ∷ rest) ≡ Ok 6
+    → argument_count (a ∷ b ∷ c ∷ d ∷ e ∷ f ∷ codes "=" ∷ rest) ≡ Ok 6
 six_before a b c d e f rest ha hb hc hd he hf =
     let inside : nat_lt 6 (length (a ∷ b ∷ c ∷ d ∷ e ∷ f ∷ codes "=" ∷ rest)) ≡ true =
     lt-ltb 6 (length (a ∷ b ∷ c ∷ d ∷ e ∷ f ∷ codes "=" ∷ rest)) (omega arith) in
     rw (ha, hb, hc, hd, he, hf, inside) refl
 
 six_read : (a b c d e f : ℕ) → a < 2 ^ 64 → b < 2 ^ 64 → c < 2 ^ 64 → d < 2 ^ 64 → e < 2 ^ 64 → f < 2 ^ 64
-    → arguments_of (decimal a ∷ decimal b ∷ decimal c ∷ decimal d ∷ decimal e ∷ decimal f ∷ []) ≡ Ok
+    → argument_numbers (decimal a ∷ decimal b ∷ decimal c ∷ decimal d ∷ decimal e ∷ decimal f ∷ []) ≡ Ok
     (a ∷ b ∷ c ∷ d ∷ e ∷ f ∷ [])
 six_read a b c d e f ha hb hc hd he hf =
     rw (any_read a ha, any_read b hb, any_read c hc, any_read d hd, any_read e he, any_read f hf) refl
 
-plain_said : (nr : ℕ) (words : List (List ℕ)) (arguments : List ℕ) (answer : ℕ) → arguments_of words ≡ Ok arguments
+plain_said : (nr : ℕ) (words : List (List ℕ)) (arguments : List ℕ) (answer : ℕ) → argument_numbers words ≡ Ok arguments
     → answer < 2 ^ 64 → plain_call nr words (answer_word answer) ≡ Ok (step.Call nr arguments answer None)
 plain_said nr words arguments answer reads small =
     ap (λ r. r >>= λ numbers. answer_of (answer_word answer) >>= λ word. Ok (step.Call nr numbers word None)) reads
     ∙ ap (λ r. r >>= λ word. Ok (step.Call nr arguments word None)) (answer_read answer small)
 
 filled_said : (nr : ℕ) (words : List (List ℕ)) (arguments : List ℕ) (answer : ℕ) (fill : Fill)
-    → arguments_of words ≡ Ok arguments → answer < 2 ^ 64 → IsFill fill
+    → argument_numbers words ≡ Ok arguments → answer < 2 ^ 64 → IsFill fill
     → filled_call nr words (answer_word answer) (decimal fill.address) (encode_lower fill.bytes)
     ≡ Ok (step.Call nr arguments answer (Some fill))
 filled_said nr words arguments answer fill reads small is =
     ap (λ r. r >>= λ numbers. answer_of (answer_word answer) >>= λ word. any_number (decimal fill.address) >>= λ at.
-    bytes_of (encode_lower fill.bytes) >>= λ written. Ok
+    bytes_of_word (encode_lower fill.bytes) >>= λ written. Ok
     (step.Call nr numbers word (Some (record { address = at; bytes = written })))) reads
     ∙ ap (λ r. r >>= λ word. any_number (decimal fill.address) >>= λ at.
-    bytes_of (encode_lower fill.bytes) >>= λ written. Ok
+    bytes_of_word (encode_lower fill.bytes) >>= λ written. Ok
     (step.Call nr arguments word (Some (record { address = at; bytes = written })))) (answer_read answer small)
     ∙ ap (λ r. r >>= λ at.
-    bytes_of (encode_lower fill.bytes) >>= λ written. Ok
+    bytes_of_word (encode_lower fill.bytes) >>= λ written. Ok
     (step.Call nr arguments answer (Some (record { address = at; bytes = written }))))
     (any_read fill.address is.address)
     ∙ ap (λ r. r >>= λ written. Ok
@@ -249,7 +249,7 @@ filled_said nr words arguments answer fill reads small is =
     (bytes_read fill.bytes is.bytes is.some)
 
 answered : (nr : ℕ) (words : List (List ℕ)) (arguments : List ℕ) (answer : ℕ) (fill : Option Fill)
-    → arguments_of words ≡ Ok arguments → answer < 2 ^ 64 → AreFills fill
+    → argument_numbers words ≡ Ok arguments → answer < 2 ^ 64 → AreFills fill
     → answered_call nr words (answer_word answer ∷ fill_words fill) ≡ Ok (step.Call nr arguments answer fill)
 answered nr words arguments answer None reads small is = plain_said nr words arguments answer reads small
 answered nr words arguments answer
@@ -262,14 +262,14 @@ with_name name rest =
     (ne_eqb (length (name ∷ rest)) 0 (λ none. omega (arith, none)))
 
 call_said : (nr : ℕ) (arguments : List ℕ) (answer : ℕ) (fill : Option Fill) → IsCall nr arguments answer fill
-    → call_of (name_in (syscall_numbered nr) ∷
+    → call_of (syscall_name (syscall_numbered nr) ∷
     (map decimal arguments ++ codes "=" ∷ answer_word answer ∷ fill_words fill))
     ≡ Ok (step.Call nr arguments answer fill)
 call_said nr (a ∷ b ∷ c ∷ d ∷ e ∷ f ∷ []) answer fill is =
     let n = is.numbers in
     let words = decimal a ∷ decimal b ∷ decimal c ∷ decimal d ∷ decimal e ∷ decimal f ∷ [] in
     let rest = answer_word answer ∷ fill_words fill in
-    with_name (name_in (syscall_numbered nr)) (words ++ codes "=" ∷ rest)
+    with_name (syscall_name (syscall_numbered nr)) (words ++ codes "=" ∷ rest)
     ∙ ap (λ r. r >>= λ nr. named_call nr (words ++ codes "=" ∷ rest)) (nr_read nr is.known is.other)
     ∙ ap (λ r. r >>= λ count. answered_call nr (take count (words ++ codes "=" ∷ rest))
     (drop (count + 1) (words ++ codes "=" ∷ rest)))

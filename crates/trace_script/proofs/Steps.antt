@@ -1,27 +1,30 @@
 -- What is left of steps at a place: the next act and what comes after it, or the steps after a step that is done.
 use Rattle.std.proofs.Common.{refl, ◌≡◌, ◌≢◌, ◌+◌, ◌-◌, ◌<◌, ◌≤◌, ◌∷◌, ◌++◌, [], ℕ, zero, suc, List, length, drop}
-use Rattle.std.proofs.Common.{get_or, arith, ap, sym, ◌∙◌, Option, None, Some, IfSome, Result, true, false, slice_set, take}
+use Rattle.std.proofs.Common.{get_or, arith, ap, cond, sym, ◌∙◌, Option, None, Some, IfSome, Result, Bool, true, false}
+use Rattle.std.proofs.Common.{slice_set, take}
 use Rattle.std.specs.Prelude.{option_map, slice_get}
 use Rattle.std.proofs.Math.Seq.{take-append_seam}
 use Rattle.std.proofs.lemmas.List.{drop-set, drop-set-lt}
 use Rattle.std.proofs.lemmas.Option.{slice_get_within}
 use Rattle.text_lines.specs.Ranges.{◌>>=◌}
+use Rattle.trace_options.specs.declared.options.TheConstants.Options.{TRACEEXIT}
 use Rattle.trace_pages.specs.FlatMemory.{FlatMemory}
+use Rattle.trace_record.specs.declared.death.Death.{Death}
 use Rattle.trace_record.specs.declared.resume.Resume.{Resume}
 use Rattle.trace_record.specs.declared.stop.Stop.{Stop}
-use Rattle.trace_script.specs.Arrivals.{effect_by, next_outcome}
+use Rattle.trace_script.specs.Arrivals.{act_outcome, effect_by, exit_outcome, next_outcome}
 use Rattle.trace_script.specs.Kept.{step_of, steps_of}
 use Rattle.trace_script.specs.Left.{acts_at, left_in, most_acts}
 use Rattle.trace_script.specs.LookAhead.{look_at, look_over}
 use Rattle.trace_script.specs.Script.{Image, Step}
 use Rattle.trace_script.specs.Script as step
-use Rattle.trace_script.specs.StepStops.{Act, acts_of, acts_of_steps}
-use Rattle.trace_script.specs.StopTrace.{Context, Outcome, advance, effect_of, outcome_by}
-use Rattle.trace_script.specs.declared.effect.Effect.{Effect as KeptEffect}
-use Rattle.trace_script.specs.declared.effect.Effect.TheVariants as kept
-use Rattle.trace_script.specs.declared.found.Found.{Found}
+use Rattle.trace_script.specs.StepStops.{Act, acts_of, acts_of_steps, has_option}
+use Rattle.trace_script.specs.StopTrace.{Context, StopsLast, Ends, Stopped, advance, effect_of, outcome_by}
 use Rattle.trace_script.specs.declared.script.Step.{Step as KeptStep}
 use Rattle.trace_script.specs.declared.setting.Setting.{Setting}
+use Rattle.trace_script.specs.declared.step.effect.Effect.{Effect as KeptEffect}
+use Rattle.trace_script.specs.declared.step.effect.Effect.TheVariants as kept
+use Rattle.trace_script.specs.declared.step.found.Found.{Found}
 
 -- ---- lists
 
@@ -83,14 +86,22 @@ within_acts s step place said is =
 
 -- ---- an act that was done
 
-same_outcome : (effect : KeptEffect) (stop : Stop) (x y : Context) (acts : List Act) (more : Context → Outcome)
-    → (effect ≡ kept.Stops → y ≡ x)
-    → outcome_by (effect_by effect stop y) acts x more ≡ outcome_by (effect_by effect stop y) acts y more
-same_outcome kept.Stops stop x y acts more stays =
-    ap (λ z. outcome_by (effect_by kept.Stops stop y) acts z more) (sym (stays refl))
-same_outcome kept.GoesOn stop x y acts more stays = refl
-same_outcome (kept.Ends death) stop x y acts more stays = refl
-same_outcome (kept.Faults address) stop x y acts more stays = refl
+-- after an exit no act is reached
+exit_is_last : (s : Setting) (how : Resume) (b : Bool) (death : Death) (acts : List Act) (x : Context)
+    → outcome_by (cond b (StopsLast death) (Ends death)) acts x (advance s how acts)
+    ≡ outcome_by (cond b (StopsLast death) (Ends death)) [] x (advance s how [])
+exit_is_last s how true death acts x = refl
+exit_is_last s how false death acts x = refl
+
+done_leads : (s : Setting) (how : Resume) (effect : KeptEffect) (stop : Stop) (x y : Context) (acts : List Act)
+    → (effect ≡ kept.Stops → y ≡ x) → ((death : Death) → effect ≡ kept.Exits death → y ≡ x)
+    → outcome_by (effect_by s effect stop y) acts x (advance s how acts) ≡ act_outcome s how effect acts stop y
+done_leads s how kept.Stops stop x y acts stays exits = ap (λ z. Stopped acts stop z) (sym (stays refl))
+done_leads s how kept.GoesOn stop x y acts stays exits = refl
+done_leads s how (kept.Exits death) stop x y acts stays exits =
+    exit_is_last s how (has_option s TRACEEXIT) death acts x
+    ∙ ap (λ z. exit_outcome s how death z) (sym (exits death refl))
+done_leads s how (kept.Faults address) stop x y acts stays exits = refl
 
 module _ {Z : Type 0} where
   -- ---- what is left
@@ -170,20 +181,21 @@ module _ {Z : Type 0} where
   pub act_next : (s : Setting) (how : Resume) (filled : List ℕ) (steps : List (KeptStep Z)) (index : ℕ)
       (step new : KeptStep Z) (place : ℕ) (said : Option Act) (effect : KeptEffect) (stop : Stop) (x y : Context)
       → index < length steps → IsAct said (slice_get (acts_of s (step_of filled (get_or steps index step))) place)
-      → IfSome said (λ act. effect_of s how act x ≡ effect_by effect stop y) → (effect ≡ kept.Stops → y ≡ x)
+      → IfSome said (λ act. effect_of s how act x ≡ effect_by s effect stop y) → (effect ≡ kept.Stops → y ≡ x)
+      → ((death : Death) → effect ≡ kept.Exits death → y ≡ x)
       → ((p : ℕ) → said ≡ slice_get (acts_of s (step_of filled (get_or steps index step))) p
       → acts_at s (step_of filled new) (p + 1) ≡ acts_at s (step_of filled (get_or steps index step)) (p + 1))
       → advance s how (left_in s filled (drop index steps) place) x
       ≡ next_outcome s how (Some effect) (left_in s filled (drop index (slice_set steps index new)) (place + 1))
       (left_in s filled (drop (index + 1) (slice_set steps index new)) 0) stop y
-  act_next s how filled steps index step new place said effect stop x y within is done stays after =
+  act_next s how filled steps index step new place said effect stop x y within is done stays exits after =
       let act = act_is said (slice_get (acts_of s (step_of filled (get_or steps index step))) place) is in
       let rest = left_in s filled (drop index steps) (place + 1) in
-      let at : effect_of s how act.0 x ≡ effect_by effect stop y = rw act.1 at done in
+      let at : effect_of s how act.0 x ≡ effect_by s effect stop y = rw act.1 at done in
       ap (λ acts. advance s how acts x) (next_left s filled steps index step place act.0 within act.2)
       ∙ ap (λ e. outcome_by e rest x (advance s how rest)) at
-      ∙ same_outcome effect stop x y rest (advance s how rest) stays
-      ∙ ap (λ acts. outcome_by (effect_by effect stop y) acts y (advance s how acts))
+      ∙ done_leads s how effect stop x y rest stays exits
+      ∙ ap (λ acts. act_outcome s how effect acts stop y)
       (sym (set_left s filled steps index step new (place + 1) within (after place (act.1 ∙ sym act.2))))
 
   pub act_none : (s : Setting) (how : Resume) (filled : List ℕ) (steps : List (KeptStep Z)) (index : ℕ)

@@ -7,9 +7,9 @@ use Rattle.trace_record.specs.Stop.{IsStop, child_of}
 use Rattle.trace_status.specs.WaitStatus.{IsSignal}
 use Rattle.trace_script.specs.Script.{Step}
 use Rattle.trace_script.specs.Script as step
-use Rattle.trace_script.specs.StepStops.{Act, Halts, Loads, Calls, Becomes, Stores, Answers, Delivers, Dies}
+use Rattle.trace_script.specs.StepStops.{Act, Halts, Loads, Calls, Becomes, Stores, Answers, Delivers, Exits, Dies}
 use Rattle.trace_script.specs.StepStops.{When, Always, Traced, Filtered, ByOption, has_option}
-use Rattle.trace_script.specs.StopTrace.{Outcome, Stopped, Through, Died, Faulted}
+use Rattle.trace_script.specs.StopTrace.{Outcome, Stopped, Exiting, Through, Died, Faulted}
 use Rattle.trace_script.specs.declared.setting.Setting.{Setting}
 
 -- ---- scripts
@@ -25,13 +25,13 @@ born_by [] = []
 born_by (step ∷ steps) = children_of step ++ born_by steps
 
 -- each signal that arrives is one of Linux's
-abbrev pub IsInRange : Step → Type 0
-IsInRange (step.Signal signal deadly) = IsSignal signal
-IsInRange other = Unit {0}
+abbrev pub HasValidSignal : Step → Type 0
+HasValidSignal (step.Signal signal deadly) = IsSignal signal
+HasValidSignal other = Unit {0}
 
-abbrev pub AreInRange : List Step → Type 0
-AreInRange [] = Unit {0}
-AreInRange (step ∷ steps) = IsInRange step × AreInRange steps
+abbrev pub HaveValidSignals : List Step → Type 0
+HaveValidSignals [] = Unit {0}
+HaveValidSignals (step ∷ steps) = HasValidSignal step × HaveValidSignals steps
 
 -- ---- acts
 
@@ -59,6 +59,7 @@ children_reported s (Becomes image ∷ acts) = children_reported s acts
 children_reported s (Stores fill ∷ acts) = children_reported s acts
 children_reported s (Answers answer ∷ acts) = children_reported s acts
 children_reported s (Delivers ∷ acts) = children_reported s acts
+children_reported s (Exits death ∷ acts) = children_reported s acts
 children_reported s (Dies death ∷ acts) = children_reported s acts
 
 -- a stop that names a child comes by an option alone
@@ -73,6 +74,7 @@ NamesByOption (Filtered nr) (Some child) = ⊥
 abbrev pub AreGood : List Act → Type 0
 AreGood [] = Unit {0}
 AreGood (Halts when at ∷ acts) = (IsStop at × NamesByOption when (child_of at)) × AreGood acts
+AreGood (Exits death ∷ acts) = IsDeath death × AreGood acts
 AreGood (Dies death ∷ acts) = IsDeath death × AreGood acts
 AreGood (Loads image ∷ acts) = AreGood acts
 AreGood (Calls nr arguments ∷ acts) = AreGood acts
@@ -86,6 +88,7 @@ AreGood (Delivers ∷ acts) = AreGood acts
 abbrev pub IsGoodOutcome : Setting → (children : List ℕ) → Outcome → Type 0
 IsGoodOutcome s children (Stopped left at x) =
     IsStop at × AreGood left × (children ≡ with_child (child_of at) (children_reported s left))
+IsGoodOutcome s children (Exiting death x) = IsDeath death
 IsGoodOutcome s children (Died death) = IsDeath death
 IsGoodOutcome s children (Through x) = Unit {0}
 IsGoodOutcome s children (Faulted address) = Unit {0}

@@ -87,8 +87,8 @@ is_byte_word word = nat_le 2 (length word) && (length word % 2 == 0 && list_all 
 unfoldable pub bytes_written : List ℕ → List ℕ
 bytes_written word = result_unwrap_or (decode_of word) []
 
-abbrev pub bytes_of : List ℕ → Result (List ℕ) LineFault
-bytes_of word = if is_byte_word word then Ok (bytes_written word) else Err BadHex
+abbrev pub bytes_of_word : List ℕ → Result (List ℕ) LineFault
+bytes_of_word word = if is_byte_word word then Ok (bytes_written word) else Err BadHex
 
 -- the address of a page is a multiple of its size
 abbrev pub whole_page : ℕ → Result ℕ LineFault
@@ -98,12 +98,12 @@ abbrev pub page_address : List ℕ → Result ℕ LineFault
 page_address word = any_number word >>= whole_page
 
 -- a negative answer is in rax by its two's complement
-abbrev pub word_of : Option ℤ → Result ℕ LineFault
-word_of None = Err BadNumber
-word_of (Some n) = Ok (cast_unsigned w64 n)
+abbrev pub rax_of : Option ℤ → Result ℕ LineFault
+rax_of None = Err BadNumber
+rax_of (Some n) = Ok (cast_unsigned w64 n)
 
 abbrev pub answer_of : List ℕ → Result ℕ LineFault
-answer_of word = word_of (integer_of word)
+answer_of word = rax_of (integer_of word)
 
 -- ---- call NAME A1 .. An = R, and the same with `fill ADDR BYTES`
 
@@ -127,15 +127,15 @@ abbrev pub few_before : Option ℕ → Result ℕ LineFault
 few_before None = Err UnknownWord
 few_before (Some count) = if nat_le count 6 then Ok count else Err UnknownWord
 
-abbrev pub arguments_before : List (List ℕ) → Result ℕ LineFault
-arguments_before words = few_before (position is_equals words)
+abbrev pub argument_count : List (List ℕ) → Result ℕ LineFault
+argument_count words = few_before (position is_equals words)
 
 -- an argument by its place, 0 where it is missing
 abbrev pub argument : List (List ℕ) → ℕ → Result ℕ LineFault
 argument words i = if nat_lt i (length words) then any_number (nth_word words i) else Ok 0
 
-abbrev pub arguments_of : List (List ℕ) → Result (List ℕ) LineFault
-arguments_of words = do
+abbrev pub argument_numbers : List (List ℕ) → Result (List ℕ) LineFault
+argument_numbers words = do
   a ← argument words 0
   b ← argument words 1
   c ← argument words 2
@@ -146,17 +146,17 @@ arguments_of words = do
 
 abbrev pub plain_call : (nr : ℕ) → (arguments : List (List ℕ)) → (answer : List ℕ) → Result Step LineFault
 plain_call nr arguments answer = do
-  numbers ← arguments_of arguments
+  numbers ← argument_numbers arguments
   word ← answer_of answer
   Ok (step.Call nr numbers word None)
 
 abbrev pub filled_call : (nr : ℕ) → (arguments : List (List ℕ)) → (answer address bytes : List ℕ)
     → Result Step LineFault
 filled_call nr arguments answer address bytes = do
-  numbers ← arguments_of arguments
+  numbers ← argument_numbers arguments
   word ← answer_of answer
   at ← any_number address
-  written ← bytes_of bytes
+  written ← bytes_of_word bytes
   Ok (step.Call nr numbers word (Some (record { address = at; bytes = written })))
 
 abbrev pub is_fill : List ℕ → Bool
@@ -173,7 +173,7 @@ answered_call nr arguments after =
 -- what follows the name
 abbrev pub named_call : (nr : ℕ) → List (List ℕ) → Result Step LineFault
 named_call nr words = do
-  count ← arguments_before words
+  count ← argument_count words
   answered_call nr (take count words) (drop (count + 1) words)
 
 abbrev pub call_of : List (List ℕ) → Result Step LineFault
@@ -191,7 +191,7 @@ page_part address = page_address address >>= λ page. Ok (Page page)
 abbrev pub data_part : (address bytes : List ℕ) → Result Part LineFault
 data_part address bytes = do
   at ← any_number address
-  written ← bytes_of bytes
+  written ← bytes_of_word bytes
   Ok (Data at written)
 
 -- at RIP RSP

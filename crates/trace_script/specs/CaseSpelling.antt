@@ -47,9 +47,9 @@ image_lines image = map part_words (image_parts image)
 
 -- ---- steps
 
-abbrev pub name_in : Option SyscallRow → List ℕ
-name_in None = []
-name_in (Some call) = call.name
+abbrev pub syscall_name : Option SyscallRow → List ℕ
+syscall_name None = []
+syscall_name (Some call) = call.name
 
 -- the answer of a call with its sign
 abbrev pub answer_word : ℕ → List ℕ
@@ -61,7 +61,7 @@ fill_words (Some fill) = codes "fill" ∷ decimal fill.address ∷ encode_lower 
 
 abbrev pub step_words : Step → List (List ℕ)
 step_words (step.Call nr arguments answer fill) =
-    codes "call" ∷ name_in (syscall_numbered nr) ∷
+    codes "call" ∷ syscall_name (syscall_numbered nr) ∷
     (map decimal arguments ++ codes "=" ∷ answer_word answer ∷ fill_words fill)
 step_words (step.Fork child) = codes "fork" ∷ decimal child ∷ []
 step_words (step.Thread child) = codes "thread" ∷ decimal child ∷ []

@@ -2,9 +2,9 @@
 use Rattle.std.specs.Prelude.{◌∷◌, ◌++◌, [], ℕ, List, drop}
 use Rattle.trace_script.specs.Kept.{image_of, step_of, steps_of}
 use Rattle.trace_script.specs.Script.{Step}
-use Rattle.trace_script.specs.StepStops.{Act, Dies, acts_of, acts_of_script, acts_of_steps}
-use Rattle.trace_script.specs.declared.progress.Progress.{Progress}
-use Rattle.trace_script.specs.declared.progress.Progress.TheVariants as progress
+use Rattle.trace_script.specs.StepStops.{Act, Dies, acts_of, acts_of_script, acts_of_steps, last_acts}
+use Rattle.trace_script.specs.declared.machine.progress.Progress.{Progress}
+use Rattle.trace_script.specs.declared.machine.progress.Progress.TheVariants as progress
 use Rattle.trace_script.specs.declared.script.Image.{Image as KeptImage}
 use Rattle.trace_script.specs.declared.script.Step.{Step as KeptStep}
 use Rattle.trace_script.specs.declared.setting.Setting.{Setting}
@@ -17,9 +17,9 @@ acts_at s step place = drop place (acts_of s step)
 abbrev pub most_acts : ℕ
 most_acts = 7
 
--- those that are left of steps, from a place in the first one on
+-- those that are left of steps, from a place in the first one on; where no step is left, the tracee exits
 abbrev pub left_in : {Z : Type 0} → Setting → (filled : List ℕ) → List (KeptStep Z) → (place : ℕ) → List Act
-left_in s filled [] place = []
+left_in s filled [] place = last_acts
 left_in s filled (step ∷ steps) place =
     acts_at s (step_of filled step) place ++ acts_of_steps s (steps_of filled steps)
 

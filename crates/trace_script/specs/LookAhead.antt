@@ -7,10 +7,11 @@ use Rattle.trace_pages.specs.FlatMemory.{FlatMemory, run_end}
 use Rattle.trace_pages.specs.Memory.{store_answer}
 use Rattle.trace_pages.specs.declared.fault.Fault.{Fault as Missing}
 use Rattle.trace_record.specs.declared.resume.Resume.{Resume}
-use Rattle.trace_script.specs.StepStops.{Act, Halts, Loads, Calls, Becomes, Stores, Answers, Delivers, Dies, halts}
-use Rattle.trace_script.specs.declared.found.Found.{Found}
-use Rattle.trace_script.specs.declared.found.Found.TheVariants.{Fault, Halt}
+use Rattle.trace_script.specs.StepStops.{Act, Halts, Loads, Calls, Becomes, Stores, Answers, Delivers, Exits, Dies}
+use Rattle.trace_script.specs.StepStops.{halts}
 use Rattle.trace_script.specs.declared.setting.Setting.{Setting}
+use Rattle.trace_script.specs.declared.step.found.Found.{Found}
+use Rattle.trace_script.specs.declared.step.found.Found.TheVariants.{Fault, Halt}
 
 -- a store: done, or its fault
 abbrev pub fill_check : Result (Unit {0}) Missing → Result (Unit {0}) Found
@@ -27,6 +28,7 @@ look_at s how (Stores fill) memory =
     fill_check (store_answer (run_end memory fill.address (length fill.bytes))) >>= λ done. Ok memory
 look_at s how (Answers answer) memory = Ok memory
 look_at s how Delivers memory = if how.signal == 0 then Ok memory else Err Halt
+look_at s how (Exits death) memory = Err Halt
 look_at s how (Dies death) memory = Err Halt
 
 -- acts in a row

@@ -2,8 +2,8 @@
 use Rattle.std.specs.Prelude.{◌≡◌}
 use Rattle.trace_record.specs.Content.{Content}
 use Rattle.trace_script.specs.StopTrace.{Element, StopIs, DeathIs, FaultIs}
-use Rattle.trace_script.specs.declared.next.Next.{Next}
-use Rattle.trace_script.specs.declared.next.Next.TheVariants as next
+use Rattle.trace_script.specs.declared.machine.next.Next.{Next}
+use Rattle.trace_script.specs.declared.machine.next.Next.TheVariants as next
 
 -- the next element of the trace as the answer: a stop's content is in the record, and a fault leaves the record
 abbrev pub IsAnswer : Element → Next → (old new : Content) → Type 0

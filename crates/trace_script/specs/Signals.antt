@@ -1,6 +1,7 @@
 -- The signals that may arrive at a tracee of a case.
 use Rattle.std.specs.Prelude.{◌==◌, ◌&&◌, ◌||◌, ℕ, Bool, not, nat_le}
-use Rattle.trace_script.specs.declared.signals.TheConstants.{LAST_STANDARD, SIGKILL, SIGSTOP, SIGTSTP, SIGTTIN, SIGTTOU}
+use Rattle.trace_script.specs.declared.case.signals.TheConstants.{LAST_STANDARD, SIGKILL, SIGSTOP, SIGTSTP, SIGTTIN}
+use Rattle.trace_script.specs.declared.case.signals.TheConstants.{SIGTTOU}
 
 -- a tracer never sees SIGKILL, and four signals stop the tracee's whole group (signal(7); ptrace(2), "Group-stop")
 abbrev pub kills_or_stops : ℕ → Bool

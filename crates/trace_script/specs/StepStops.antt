@@ -46,6 +46,8 @@ pub data Act : Type 0 where
   Answers : (answer : ℕ) → Act
   -- the signal of the restart kills, where it is not 0
   Delivers : Act
+  -- an exit: the tracee stops before its death, where PTRACE_O_TRACEEXIT is set, and dies
+  Exits : (death : Death) → Act
   Dies : (death : Death) → Act
 
 abbrev pub is_traced : Kind → Bool
@@ -77,13 +79,13 @@ nr_of (step.Exit status) = EXIT
 abbrev pub one_argument : ℕ → List ℕ
 one_argument first = first ∷ 0 ∷ 0 ∷ 0 ∷ 0 ∷ 0 ∷ []
 
-abbrev pub arguments_of : Step → List ℕ
-arguments_of (step.Call nr arguments answer fill) = arguments
-arguments_of (step.Fork child) = one_argument 0
-arguments_of (step.Thread child) = one_argument CLONE_THREAD_FLAGS
-arguments_of (step.Exec path image) = one_argument path
-arguments_of (step.Signal signal deadly) = one_argument 0
-arguments_of (step.Exit status) = one_argument status
+abbrev pub step_arguments : Step → List ℕ
+step_arguments (step.Call nr arguments answer fill) = arguments
+step_arguments (step.Fork child) = one_argument 0
+step_arguments (step.Thread child) = one_argument CLONE_THREAD_FLAGS
+step_arguments (step.Exec path image) = one_argument path
+step_arguments (step.Signal signal deadly) = one_argument 0
+step_arguments (step.Exit status) = one_argument status
 
 -- ---- the acts of a step, from each place on at which its tracee may stop
 
@@ -110,7 +112,7 @@ after_filter s (step.Fork child) = Halts (ByOption TRACEFORK) (stop.Fork child) 
 after_filter s (step.Thread child) = Halts (ByOption TRACECLONE) (stop.Clone child) ∷ answers child
 after_filter s (step.Exec path image) = Becomes image ∷ Halts (ByOption TRACEEXEC) (stop.Exec s.tid) ∷ answers 0
 after_filter s (step.Signal signal deadly) = []
-after_filter s (step.Exit status) = Dies (Exited (status % 256)) ∷ []
+after_filter s (step.Exit status) = Exits (Exited (status % 256)) ∷ []
 
 -- after the syscall-enter-stop
 abbrev pub after_enter : Setting → Step → List Act
@@ -125,7 +127,7 @@ abbrev pub from_entry : Setting → Step → List Act
 from_entry s step = Halts Traced stop.Enter ∷ after_enter s step
 
 abbrev pub call_acts : Setting → Step → List Act
-call_acts s step = Calls (nr_of step) (arguments_of step) ∷ from_entry s step
+call_acts s step = Calls (nr_of step) (step_arguments step) ∷ from_entry s step
 
 -- the whole step
 abbrev pub acts_of : Setting → Step → List Act
@@ -136,8 +138,12 @@ acts_of s (step.Thread child) = call_acts s (step.Thread child)
 acts_of s (step.Exec path image) = call_acts s (step.Exec path image)
 acts_of s (step.Exit status) = call_acts s (step.Exit status)
 
+-- steps that run out: the tracee exits with code 0, without a call
+abbrev pub last_acts : List Act
+last_acts = Exits (Exited 0) ∷ []
+
 unfoldable pub acts_of_steps : Setting → List Step → List Act
-acts_of_steps s [] = []
+acts_of_steps s [] = last_acts
 acts_of_steps s (step ∷ steps) = acts_of s step ++ acts_of_steps s steps
 
 -- the whole script: its program is loaded, and the tracee's first stop is made

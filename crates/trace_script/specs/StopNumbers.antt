@@ -1,6 +1,6 @@
 -- How many stops acts can still make; with the number of the last stop, a bound on all numbers of a tracee.
 use Rattle.std.specs.Prelude.{◌+◌, ◌≤◌, ◌∷◌, [], ℕ, List}
-use Rattle.trace_script.specs.StepStops.{Act, Halts, Loads, Calls, Becomes, Stores, Answers, Delivers, Dies}
+use Rattle.trace_script.specs.StepStops.{Act, Halts, Loads, Calls, Becomes, Stores, Answers, Delivers, Exits, Dies}
 use Rattle.trace_script.specs.StopTrace.{Position}
 
 -- the places at which a tracee may stop
@@ -12,7 +12,9 @@ stops_in (Calls nr arguments ∷ acts) = stops_in acts
 stops_in (Becomes image ∷ acts) = stops_in acts
 stops_in (Stores fill ∷ acts) = stops_in acts
 stops_in (Answers answer ∷ acts) = stops_in acts
-stops_in (Delivers ∷ acts) = stops_in acts
+-- before the death, where the signal kills
+stops_in (Delivers ∷ acts) = stops_in acts + 1
+stops_in (Exits death ∷ acts) = stops_in acts + 1
 stops_in (Dies death ∷ acts) = stops_in acts
 
 -- no stop from a position on has a number above this one

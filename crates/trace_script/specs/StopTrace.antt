@@ -2,6 +2,7 @@
 -- and from it the whole list of stops and the death under a restart policy (ptrace(2), "Stopped states").
 use Rattle.std.specs.Prelude.{◌≡◌, ◌==◌, ◌+◌, ◌∷◌, [], ℕ, false, List, Result, Ok, Err, length, if◌then◌else◌}
 use Rattle.std.specs.FinMap as finite
+use Rattle.trace_options.specs.declared.options.TheConstants.Options.{TRACEEXIT}
 use Rattle.trace_pages.specs.FlatMemory.{FlatMemory, run_end, stored}
 use Rattle.trace_pages.specs.Memory.{store_answer}
 use Rattle.trace_pages.specs.declared.fault.Fault.{Fault}
@@ -12,10 +13,11 @@ use Rattle.trace_record.specs.declared.death.Death.TheVariants.{Exited, Signaled
 use Rattle.trace_record.specs.declared.resume.Kind.TheVariants.{Cont}
 use Rattle.trace_record.specs.declared.resume.Resume.{Resume}
 use Rattle.trace_record.specs.declared.stop.Stop.{Stop}
+use Rattle.trace_record.specs.declared.stop.Stop.TheVariants as stop
 use Rattle.trace_script.specs.Registers.{first_regs, with_answer, with_call, with_start}
 use Rattle.trace_script.specs.Script.{Script}
-use Rattle.trace_script.specs.StepStops.{Act, Halts, Loads, Calls, Becomes, Stores, Answers, Delivers, Dies}
-use Rattle.trace_script.specs.StepStops.{acts_of_script, halts}
+use Rattle.trace_script.specs.StepStops.{Act, Halts, Loads, Calls, Becomes, Stores, Answers, Delivers, Exits, Dies}
+use Rattle.trace_script.specs.StepStops.{acts_of_script, halts, has_option}
 use Rattle.trace_script.specs.declared.setting.Setting.{Setting}
 
 -- what a tracee computes with
@@ -33,6 +35,8 @@ context_of content = context content.regs content.memory
 
 pub data Effect : Type 0 where
   Stops : (at : Stop) → Effect
+  -- the tracee's last stop, before this death
+  StopsLast : (death : Death) → Effect
   GoesOn : Context → Effect
   Ends : Death → Effect
   Faults : (address : ℕ) → Effect
@@ -40,6 +44,10 @@ pub data Effect : Type 0 where
 abbrev pub store_effect : Result (Unit {0}) Fault → Context → Effect
 store_effect (Ok done) x = GoesOn x
 store_effect (Err fault) x = Faults fault.addr
+
+-- a tracee that exits or is killed stops once more, where PTRACE_O_TRACEEXIT is set (ptrace(2), PTRACE_EVENT_EXIT)
+abbrev pub exit_effect : Setting → Death → Effect
+exit_effect s death = if has_option s TRACEEXIT then StopsLast death else Ends death
 
 abbrev pub effect_of : Setting → Resume → Act → Context → Effect
 effect_of s how (Halts when at) x = if halts s how when then Stops at else GoesOn x
@@ -50,13 +58,16 @@ effect_of s how (Stores fill) x =
     store_effect (store_answer (run_end x.memory fill.address (length fill.bytes)))
     (context x.regs (stored x.memory fill.address fill.bytes))
 effect_of s how (Answers answer) x = GoesOn (context (with_answer answer x.regs) x.memory)
-effect_of s how Delivers x = if how.signal == 0 then GoesOn x else Ends (Signaled how.signal false)
+effect_of s how Delivers x = if how.signal == 0 then GoesOn x else exit_effect s (Signaled how.signal false)
+effect_of s how (Exits death) x = exit_effect s death
 effect_of s how (Dies death) x = Ends death
 
 -- ---- acts, up to the next stop, the death or a fault
 
 pub data Outcome : Type 0 where
   Stopped : (left : List Act) → (at : Stop) → Context → Outcome
+  -- at the stop before this death, which alone is left
+  Exiting : (death : Death) → Context → Outcome
   -- no act is left
   Through : Context → Outcome
   Died : Death → Outcome
@@ -64,6 +75,7 @@ pub data Outcome : Type 0 where
 
 abbrev pub outcome_by : Effect → List Act → Context → (Context → Outcome) → Outcome
 outcome_by (Stops at) acts x more = Stopped acts at x
+outcome_by (StopsLast death) acts x more = Exiting death x
 outcome_by (GoesOn y) acts x more = more y
 outcome_by (Ends death) acts x more = Died death
 outcome_by (Faults address) acts x more = Faulted address
@@ -92,9 +104,11 @@ pub data Element : Type 0 where
   DeathIs : Death → Element
   FaultIs : (address : ℕ) → Element
 
--- a script that runs out exits with code 0
+-- the acts of a script end with an exit, so they never run out; other acts that do end so too, with code 0
 abbrev pub element_by : Position → Outcome → Element
 element_by p (Stopped left at x) = StopIs (content_by p.setting.tid (p.number + 1) at x.regs x.memory)
+element_by p (Exiting death x) =
+    StopIs (content_by p.setting.tid (p.number + 1) (stop.Ending death) x.regs x.memory)
 element_by p (Through x) = DeathIs (Exited 0)
 element_by p (Died death) = DeathIs death
 element_by p (Faulted address) = FaultIs address
@@ -102,6 +116,7 @@ element_by p (Faulted address) = FaultIs address
 -- after a death, the death comes again; after a fault, nothing has changed
 abbrev pub position_by : Position → Outcome → Position
 position_by p (Stopped left at x) = position p.setting (p.number + 1) left
+position_by p (Exiting death x) = position p.setting (p.number + 1) (Dies death ∷ [])
 position_by p (Through x) = position p.setting p.number (Dies (Exited 0) ∷ [])
 position_by p (Died death) = position p.setting p.number (Dies death ∷ [])
 position_by p (Faulted address) = p
@@ -127,10 +142,10 @@ position_after p [] = p
 position_after p (turn ∷ turns) = next_position (position_after p turns) turn.how turn.before
 
 -- each stop is the next element of the trace
-abbrev pub Follows : Position → List Turn → Type 0
-Follows p [] = Unit {0}
-Follows p (turn ∷ turns) =
-    (next_element (position_after p turns) turn.how turn.before ≡ StopIs turn.content) × Follows p turns
+abbrev pub FollowsTrace : Position → List Turn → Type 0
+FollowsTrace p [] = Unit {0}
+FollowsTrace p (turn ∷ turns) =
+    (next_element (position_after p turns) turn.how turn.before ≡ StopIs turn.content) × FollowsTrace p turns
 
 -- how a tracer restarts its tracee at each stop
 abbrev pub Policy : Type 0
@@ -166,8 +181,8 @@ pub record Trace : Type 0 where
 abbrev pub with_stop : Content → Trace → Trace
 with_stop content t = record { stops = content ∷ t.stops; ending = t.ending }
 
-abbrev pub ended : Ending → Trace
-ended ending = record { stops = []; ending = ending }
+abbrev pub ended_trace : Ending → Trace
+ended_trace ending = record { stops = []; ending = ending }
 
 -- the stops of a run, before those of a trace
 abbrev pub with_stops : List Turn → Trace → Trace
@@ -176,12 +191,14 @@ with_stops (turn ∷ turns) t = with_stops turns (with_stop turn.content t)
 
 abbrev pub trace_by : Effect → (Stop → Content) → (Content → Trace) → (Context → Trace) → Trace
 trace_by (Stops at) content stopped more = with_stop (content at) (stopped (content at))
+-- whatever the restart from its last stop is, the tracee dies
+trace_by (StopsLast death) content stopped more = with_stop (content (stop.Ending death)) (ended_trace (Dead death))
 trace_by (GoesOn y) content stopped more = more y
-trace_by (Ends death) content stopped more = ended (Dead death)
-trace_by (Faults address) content stopped more = ended (Broken address)
+trace_by (Ends death) content stopped more = ended_trace (Dead death)
+trace_by (Faults address) content stopped more = ended_trace (Broken address)
 
 unfoldable pub trace_from : Policy → Setting → (number : ℕ) → Resume → List Act → Context → Trace
-trace_from policy s number how [] x = ended (Dead (Exited 0))
+trace_from policy s number how [] x = ended_trace (Dead (Exited 0))
 trace_from policy s number how (act ∷ acts) x =
     trace_by (effect_of s how act x) (λ at. content_by s.tid (number + 1) at x.regs x.memory)
     (λ c. trace_from policy s (number + 1) (policy c) acts x)

@@ -22,6 +22,8 @@ mod late;
 mod line;
 mod raw_line;
 mod reading;
+pub(crate) mod row_words;
+mod signals;
 mod words;
 
 use crate::case::draft::Draft;

@@ -10,7 +10,7 @@ ghost use Rattle.trace_record.specs.declared.resume.Resume.{Resume};
 ghost use Rattle.trace_record.specs.Content.{Content};
 ghost use Rattle.trace_pages.specs.FlatMemory.{SameAddresses};
 ghost use Rattle.trace_pages.specs.declared.pages.TheConstants.{MOST_PAGES, PAGE_SIZE};
-ghost use Rattle.trace_script.specs.Births.{AreGood, AreInRange, IsGoodOutcome, ReportsBirths, ReportsNoBirths};
+ghost use Rattle.trace_script.specs.Births.{AreGood, HaveValidSignals, IsGoodOutcome, ReportsBirths, ReportsNoBirths};
 ghost use Rattle.trace_script.specs.Births.{born_by, children_reported};
 ghost use Rattle.trace_script.specs.CaseFacts.{IsCase, IsScript};
 ghost use Rattle.trace_script.specs.CaseFile.{CaseContent, case_of};
@@ -18,37 +18,38 @@ ghost use Rattle.trace_script.specs.CaseSpelling.{IsSpelled, case_spelling};
 ghost use Rattle.trace_script.specs.Fills.{EndsDead, HasMappedFills, KeepsAddresses};
 ghost use Rattle.trace_script.specs.Script.{Script};
 ghost use Rattle.trace_script.specs.StopNumbers.{IsWithin};
-ghost use Rattle.trace_script.specs.StopTrace.{Broken, Context, Dead, DeathIs, FaultIs, Follows, Obeys, Policy};
-ghost use Rattle.trace_script.specs.StopTrace.{Position, StopIs, Turn, context_after, ended, how_after};
+ghost use Rattle.trace_script.specs.StopTrace.{Broken, Context, Dead, DeathIs, FaultIs, FollowsTrace, Obeys, Policy};
+ghost use Rattle.trace_script.specs.StopTrace.{Position, StopIs, Turn, context_after, ended_trace, how_after};
 ghost use Rattle.trace_script.specs.StopTrace.{next_element, next_position, opening_position, outcome_at};
 ghost use Rattle.trace_script.specs.StopTrace.{position_after, trace_at, trace_of, with_stops};
 ghost use Rattle.trace_script.specs.declared.calls.TheConstants.{CLONE, CLONE_THREAD_FLAGS, EXECVE, EXIT, FORK};
 ghost use Rattle.trace_script.specs.declared.case.keyword.TheConstants.{KEYWORDS};
+ghost use Rattle.trace_script.specs.declared.case.signals.TheConstants.{LAST_STANDARD, SIGKILL, SIGSTOP, SIGTSTP};
+ghost use Rattle.trace_script.specs.declared.case.signals.TheConstants.{SIGTTIN, SIGTTOU};
 ghost use Rattle.trace_script.specs.declared.limits.TheConstants.{MOST_BYTES, MOST_STEPS};
 ghost use Rattle.trace_script.specs.declared.setting.Setting.{Setting};
-ghost use Rattle.trace_script.specs.declared.signals.TheConstants.{LAST_STANDARD, SIGKILL, SIGSTOP, SIGTSTP, SIGTTIN};
-ghost use Rattle.trace_script.specs.declared.signals.TheConstants.{SIGTTOU};
 
 /// A run is the trace: where each stop is the next element for the restart and the content taken up, and each restart
 /// the policy's, the stops of the run are those with which the trace under the policy begins; and it ends as the run
 /// ends.
 pub fn runs_are_traces()
     ensures stops { (policy : Policy) (p : Position) (how : Resume) (x : Context) (turns : List Turn) →
-        Follows p turns → Obeys policy how x turns → trace_at policy p how x
+        FollowsTrace p turns → Obeys policy how x turns → trace_at policy p how x
         ≡ with_stops turns
         (trace_at policy (position_after p turns) (how_after policy how turns) (context_after x turns)) }
     ensures death { (policy : Policy) (p : Position) (how : Resume) (x : Context) (death : Death) →
-        next_element p how x ≡ DeathIs death → trace_at policy p how x ≡ ended (Dead death) }
+        next_element p how x ≡ DeathIs death → trace_at policy p how x ≡ ended_trace (Dead death) }
     ensures fault { (policy : Policy) (p : Position) (how : Resume) (x : Context) (address : ℕ) →
-        next_element p how x ≡ FaultIs address → trace_at policy p how x ≡ ended (Broken address) }
+        next_element p how x ≡ FaultIs address → trace_at policy p how x ≡ ended_trace (Broken address) }
     ensures opening { (policy : Policy) (s : Setting) (script : Script) (how : Resume) (x : Context) →
         trace_of policy s script ≡ trace_at policy (opening_position s script) how x }
 {}
 
-/// The stops of a script are numbered 1, 2, 3 and so on, and a script of n steps makes at most 4 n + 1 stops.
+/// The stops of a script are numbered 1, 2, 3 and so on, and a script of n steps makes at most 4 n + 2 stops: four in
+/// a step, the first one, and where the steps run out the one before the death.
 pub fn stops_are_numbered()
     ensures opening { (s : Setting) (script : Script) →
-        IsWithin (1 + 4 * length script.steps) (opening_position s script) }
+        IsWithin (2 + 4 * length script.steps) (opening_position s script) }
     ensures stays { (most : ℕ) (p : Position) (how : Resume) (x : Context) →
         IsWithin most p → IsWithin most (next_position p how x) }
     ensures setting { (p : Position) (how : Resume) (x : Context) → (next_position p how x).setting ≡ p.setting }
@@ -62,7 +63,7 @@ pub fn stops_are_numbered()
 pub fn stops_are_in_range()
     ensures next { (p : Position) (how : Resume) (x : Context) → IsResume how → AreGood p.left →
         IsGoodOutcome p.setting (children_reported p.setting p.left) (outcome_at p how x) }
-    ensures opening { (s : Setting) (script : Script) → AreInRange script.steps →
+    ensures opening { (s : Setting) (script : Script) → HaveValidSignals script.steps →
         AreGood (opening_position s script).left }
     ensures births { (s : Setting) (script : Script) → ReportsBirths s →
         children_reported s (opening_position s script).left ≡ born_by script.steps }
@@ -76,7 +77,8 @@ pub fn mapped_fills_never_fault()
     ensures trace { (policy : Policy) (s : Setting) (script : Script) → HasMappedFills script →
         EndsDead (trace_of policy s script).ending }
     ensures run { (s : Setting) (script : Script) (x : Context) (turns : List Turn) (how : Resume) (now : Context)
-        (address : ℕ) → HasMappedFills script → Follows (opening_position s script) turns → KeepsAddresses x turns →
+        (address : ℕ) → HasMappedFills script → FollowsTrace (opening_position s script) turns →
+        KeepsAddresses x turns →
         SameAddresses now.memory (context_after x turns).memory →
         next_element (position_after (opening_position s script) turns) how now ≢ FaultIs address }
 {}
@@ -126,5 +128,5 @@ pub fn what_a_case_spells_is_read()
 pub fn scripts_of_cases_are_in_range()
     ensures { (content : CaseContent) (row : ℕ) (script : Script) → IsCase content →
         slice_get content.scripts row ≡ Some script →
-        IsScript content.rows row script × AreInRange script.steps }
+        IsScript content.rows row script × HaveValidSignals script.steps }
 {}

@@ -4,12 +4,14 @@
 //! traced and how, the number of the last stop, and what is left of the script from there on.
 //!
 //! What is left is kept so: before the first stop, the program and all steps; after it, the steps from the one underway
-//! on, and the place in that one; after the death, the death. That no number of a stop that is left passes the
+//! on, and the place in that one; from the exit on, the death. That no number of a stop that is left passes the
 //! last one is the type's invariant.
 
 mod calls;
+pub(crate) mod next;
+mod progress;
 
-use crate::progress::Progress;
+use crate::machine::progress::Progress;
 use crate::script::{Image, Step};
 use crate::setting::Setting;
 use std::alloc::{Allocator, Global};

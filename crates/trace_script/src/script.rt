@@ -1,5 +1,8 @@
 //! The script of a tracee: the program that it loads, and what it does, step by step.
 
+pub(crate) mod copies;
+mod fill_bytes;
+
 use std::alloc::{Allocator, Global};
 use trace_pages::Memory;
 

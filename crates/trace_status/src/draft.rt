@@ -10,12 +10,12 @@ pub(crate) const LONGEST: usize = 84;
 
 /// The bytes so far, no more than the longest layout has.
 #[derive(Drop)]
-pub(crate) struct Draft {
+pub(crate) struct InfoDraft {
     bytes: [u8; LONGEST],
     len: usize,
 }
 
-impl Model for Draft {
+impl Model for InfoDraft {
     ghost use Rattle.std.specs.Prelude.{ℕ, ◌≤◌, List, take};
     ghost use Rattle.trace_status.specs.declared.draft.TheConstants.{LONGEST};
 
@@ -26,12 +26,12 @@ impl Model for Draft {
     ghost invariant = { λ d. d.len ≤ LONGEST };
 }
 
-impl Draft {
+impl InfoDraft {
     /// No bytes.
-    pub(crate) fn new() -> Draft
+    pub(crate) fn new() -> InfoDraft
         ensures { result ≡ [] }
     {
-        Draft {
+        InfoDraft {
             bytes: [0; LONGEST],
             len: 0,
         }

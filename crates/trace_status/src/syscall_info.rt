@@ -14,7 +14,7 @@ ghost use Rattle.std.specs.List.{flat_map};
 ghost use Rattle.trace_status.specs.SyscallInfo.{AreArguments, IsInfo, FitsU64, info_bytes};
 ghost use Rattle.trace_status.specs.declared.syscall_info.SyscallInfo.{SyscallInfo};
 
-use crate::draft::{Draft, LONGEST};
+use crate::draft::{InfoDraft, LONGEST};
 
 /// What `PTRACE_GET_SYSCALL_INFO` gives of a stop (ptrace(2), `struct ptrace_syscall_info`).
 #[derive(Clone, Copy, Debug, PartialEq, Eq, Hash)]
@@ -81,10 +81,10 @@ impl SyscallInfo {
     }
 
     /// The bytes of the layout.
-    fn draft(&self) -> Draft
+    fn draft(&self) -> InfoDraft
         ensures { result ≡ info_bytes self.now }
     {
-        let mut draft = Draft::new();
+        let mut draft = InfoDraft::new();
         draft.push(&[self.part.op(), 0, 0, 0]);
         draft.push(&self.arch.to_le_bytes());
         draft.push_word(self.ip);
@@ -124,7 +124,7 @@ impl Part {
 ghost use Rattle.trace_status.specs.SyscallInfo.{call_layout, field_bytes};
 
 /// Puts the number of a system call and its arguments behind the bytes.
-fn push_call(draft: &mut Draft, nr: u64, args: &[u64; 6])
+fn push_call(draft: &mut InfoDraft, nr: u64, args: &[u64; 6])
     requires { length draft.old ≡ 24 }
     ensures { draft.new ≡ draft.old ++ flat_map field_bytes (call_layout nr args.now) }
 {
@@ -138,7 +138,7 @@ fn push_call(draft: &mut Draft, nr: u64, args: &[u64; 6])
 }
 
 /// Puts the result of a system call behind the bytes.
-fn push_result(draft: &mut Draft, rval: &i64)
+fn push_result(draft: &mut InfoDraft, rval: &i64)
     requires { length draft.old + 8 ≤ LONGEST }
     ensures { draft.new ≡ draft.old ++ to_le_bytes w64 (cast_unsigned w64 rval.now) }
 {

@@ -16,12 +16,12 @@ use Rattle.tracer_cli.specs.declared.grammar.Line.TheVariants as line
 use Rattle.tracer_cli.specs.declared.grammar.Numbered.{Numbered}
 use Rattle.tracer_cli.specs.declared.grammar.Numbered.TheVariants as numbered
 use Rattle.tracer_cli.specs.Command.{IsCommand}
-use Rattle.tracer_cli.specs.Grammar.{claim_line, exit_line, kind_of, line_of, numbered_stop, plain_stop}
-use Rattle.tracer_cli.specs.Grammar.{publish_numbered}
-use Rattle.tracer_cli.specs.Grammar.{publish_plain, resume_line, state_line, stop_of, tracer_of}
+use Rattle.tracer_cli.specs.Grammar.{claim_line, exit_line, kind_of, numbered_stop, plain_stop, publish_numbered}
+use Rattle.tracer_cli.specs.Grammar.{publish_ending, publish_plain}
+use Rattle.tracer_cli.specs.Grammar.{replay_line_of, resume_line, state_line, stop_with_number, tracer_number}
 use Rattle.text_lines.specs.Ranges.{◌>>=◌, number_between}
 use Rattle.trace_options.specs.declared.signal.TheConstants.{LAST_SIGNAL}
-use Rattle.tracer_cli.specs.Spelling.{IsSpelled, command_words, kind_word, row_words}
+use Rattle.tracer_cli.specs.Spelling.{IsSpelledCommand, command_words, kind_word, row_words}
 use Rattle.text_lines.proofs.Decimals.{decimal_between}
 use Rattle.text_lines.proofs.Spelled.{AreWords, is_word}
 use Rattle.trace_script.specs.RowWords.{id_of}
@@ -29,7 +29,7 @@ use Rattle.trace_script.proofs.RowsBack.{HasRanges, id_read, id_word, row_are_wo
 
 -- ---- rows
 
-pub row_line_read : (row : Row) → HasRanges row → line_of false (row_words row) ≡ Ok (line.Row row)
+pub row_line_read : (row : Row) → HasRanges row → replay_line_of false (row_words row) ≡ Ok (line.Row row)
 row_line_read row has = ap (λ r. r >>= λ row. Ok (line.Row row)) (row_read row has)
 
 pub row_line_are_words : (row : Row) → HasRanges row → AreWords (row_words row)
@@ -37,7 +37,7 @@ row_line_are_words row has = (refl, row_are_words row has)
 
 -- ---- commands
 
-tracer_read : (c : ℕ) → c < TRACERS → tracer_of (decimal c) ≡ Ok c
+tracer_read : (c : ℕ) → c < TRACERS → tracer_number (decimal c) ≡ Ok c
 tracer_read c some = decimal_between 0 (TRACERS - 1) c (omega arith) (omega arith) (lit< tt)
 
 plain_said : (tid name : List ℕ) (t : ℕ) (s : Stop) → id_of tid ≡ Ok t → plain_stop name ≡ Ok s
@@ -47,26 +47,28 @@ plain_said tid name t s id is =
     ∙ ap (λ r. r >>= λ t. Ok (line.Command t (command.Publish s))) id
 
 numbered_said : (tid name number : List ℕ) (w : Numbered) (t : ℕ) (s : Stop) → id_of tid ≡ Ok t
-    → numbered_stop name ≡ Ok w → stop_of w number ≡ Ok s
+    → numbered_stop name ≡ Ok w → stop_with_number w number ≡ Ok s
     → publish_numbered tid name number ≡ Ok (line.Command t (command.Publish s))
 numbered_said tid name number w t s id is says =
-    ap (λ r. r >>= λ w. id_of tid >>= λ t. stop_of w number >>= λ s. Ok (line.Command t (command.Publish s))) is
-    ∙ ap (λ r. r >>= λ t. stop_of w number >>= λ s. Ok (line.Command t (command.Publish s))) id
+    ap (λ r. r >>= λ w. id_of tid >>= λ t. stop_with_number w number
+    >>= λ s. Ok (line.Command t (command.Publish s))) is
+    ∙ ap (λ r. r >>= λ t. stop_with_number w number >>= λ s. Ok (line.Command t (command.Publish s))) id
     ∙ ap (λ r. r >>= λ s. Ok (line.Command t (command.Publish s))) says
 
-claim_said : (tid tracer : List ℕ) (t c : ℕ) → id_of tid ≡ Ok t → tracer_of tracer ≡ Ok c
+claim_said : (tid tracer : List ℕ) (t c : ℕ) → id_of tid ≡ Ok t → tracer_number tracer ≡ Ok c
     → claim_line tid tracer ≡ Ok (line.Command t (command.Claim c))
 claim_said tid tracer t c id is =
-    ap (λ r. r >>= λ t. tracer_of tracer >>= λ c. Ok (line.Command t (command.Claim c))) id
+    ap (λ r. r >>= λ t. tracer_number tracer >>= λ c. Ok (line.Command t (command.Claim c))) id
     ∙ ap (λ r. r >>= λ c. Ok (line.Command t (command.Claim c))) is
 
-resume_said : (tid tracer name signal : List ℕ) (t c : ℕ) (how : Resume) → id_of tid ≡ Ok t → tracer_of tracer ≡ Ok c
+resume_said : (tid tracer name signal : List ℕ) (t c : ℕ) (how : Resume) → id_of tid ≡ Ok t
+    → tracer_number tracer ≡ Ok c
     → kind_of name ≡ Ok how.kind → number_between 0 LAST_SIGNAL signal ≡ Ok how.signal
     → resume_line tid tracer name signal ≡ Ok (line.Command t (command.Resume c how))
 resume_said tid tracer name signal t c how id is kind handed =
-    ap (λ r. r >>= λ k. id_of tid >>= λ t. tracer_of tracer >>= λ c. number_between 0 LAST_SIGNAL signal >>= λ s. Ok
+    ap (λ r. r >>= λ k. id_of tid >>= λ t. tracer_number tracer >>= λ c. number_between 0 LAST_SIGNAL signal >>= λ s. Ok
     (line.Command t (command.Resume c (record { kind = k; signal = s })))) kind
-    ∙ ap (λ r. r >>= λ t. tracer_of tracer >>= λ c. number_between 0 LAST_SIGNAL signal >>= λ s. Ok
+    ∙ ap (λ r. r >>= λ t. tracer_number tracer >>= λ c. number_between 0 LAST_SIGNAL signal >>= λ s. Ok
     (line.Command t (command.Resume c (record { kind = how.kind; signal = s })))) id
     ∙ ap (λ r. r >>= λ c. number_between 0 LAST_SIGNAL signal >>= λ s. Ok
     (line.Command t (command.Resume c (record { kind = how.kind; signal = s })))) is
@@ -85,6 +87,23 @@ killed_said tid number t n id is =
     ap (λ r. r >>= λ t. (number_between 1 LAST_SIGNAL number >>= λ n. Ok (death.Signaled n false)) >>= λ d. Ok
     (line.Command t (command.Exit d))) id
     ∙ ap (λ r. (r >>= λ n. Ok (death.Signaled n false)) >>= λ d. Ok (line.Command t (command.Exit d))) is
+
+ending_exited_said : (tid number : List ℕ) (t n : ℕ) → id_of tid ≡ Ok t → number_between 0 255 number ≡ Ok n
+    → publish_ending tid (codes "ending") (codes "exited") number
+    ≡ Ok (line.Command t (command.Publish (stop.Ending (death.Exited n))))
+ending_exited_said tid number t n id is =
+    ap (λ r. r >>= λ t. (number_between 0 255 number >>= λ n. Ok (death.Exited n)) >>= λ d. Ok
+    (line.Command t (command.Publish (stop.Ending d)))) id
+    ∙ ap (λ r. (r >>= λ n. Ok (death.Exited n)) >>= λ d. Ok (line.Command t (command.Publish (stop.Ending d)))) is
+
+ending_killed_said : (tid number : List ℕ) (t n : ℕ) → id_of tid ≡ Ok t → number_between 1 LAST_SIGNAL number ≡ Ok n
+    → publish_ending tid (codes "ending") (codes "killed") number
+    ≡ Ok (line.Command t (command.Publish (stop.Ending (death.Signaled n false))))
+ending_killed_said tid number t n id is =
+    ap (λ r. r >>= λ t. (number_between 1 LAST_SIGNAL number >>= λ n. Ok (death.Signaled n false)) >>= λ d. Ok
+    (line.Command t (command.Publish (stop.Ending d)))) id
+    ∙ ap (λ r. (r >>= λ n. Ok (death.Signaled n false)) >>= λ d. Ok
+    (line.Command t (command.Publish (stop.Ending d)))) is
 
 state_said : (tid : List ℕ) (t : ℕ) → id_of tid ≡ Ok t → state_line tid ≡ Ok (line.Command t command.State)
 state_said tid t id = ap (λ r. r >>= λ t. Ok (line.Command t command.State)) id
@@ -105,8 +124,8 @@ range_stop : (w : ℕ → Stop) (low high n : ℕ) → low ≤ n → n ≤ high 
 range_stop w low high n least most small = ap (λ r. r >>= λ n. Ok (w n)) (decimal_between low high n least most small)
 
 -- the words of a command say it
-command_read : (tid : ℕ) (c : Command) → is_id tid ≡ true → IsCommand c → IsSpelled c
-    → line_of false (command_words tid c) ≡ Ok (line.Command tid c)
+command_read : (tid : ℕ) (c : Command) → is_id tid ≡ true → IsCommand c → IsSpelledCommand c
+    → replay_line_of false (command_words tid c) ≡ Ok (line.Command tid c)
 command_read tid (command.Publish stop.Start) id range spelled =
     plain_said (decimal tid) (codes "start") tid stop.Start (id_read tid id) refl
 command_read tid (command.Publish stop.Enter) id range spelled =
@@ -128,6 +147,13 @@ command_read tid (command.Publish (stop.Exec n)) id range spelled =
 command_read tid (command.Publish (stop.Signal n)) id range spelled =
     numbered_said (decimal tid) (codes "signal") (decimal n) numbered.Signal tid (stop.Signal n) (id_read tid id) refl
     (range_stop (λ n. stop.Signal n) 1 LAST_SIGNAL n range.0 range.1 (lit< tt))
+command_read tid (command.Publish (stop.Ending (death.Exited n))) id range spelled =
+    ending_exited_said (decimal tid) (decimal n) tid n (id_read tid id)
+    (decimal_between 0 255 n (omega arith) (omega arith) (lit< tt))
+command_read tid (command.Publish (stop.Ending (death.Signaled n core))) id range spelled =
+    ending_killed_said (decimal tid) (decimal n) tid n (id_read tid id)
+    (decimal_between 1 LAST_SIGNAL n range.0 range.1 (lit< tt))
+    ∙ ap (λ b. Ok (line.Command tid (command.Publish (stop.Ending (death.Signaled n b))))) (sym spelled)
 command_read tid (command.Claim c) id range spelled =
     claim_said (decimal tid) (decimal c) tid c (id_read tid id) (tracer_read c spelled)
 command_read tid (command.Resume c how) id range spelled =
@@ -144,19 +170,20 @@ command_read tid (command.Exit (death.Signaled n core)) id range spelled =
 command_read tid command.State id range spelled = state_said (decimal tid) tid (id_read tid id)
 
 -- a command reads the same before and after the first of them
-said_again : (tid : ℕ) (c : Command) → line_of true (command_words tid c) ≡ line_of false (command_words tid c)
+said_again : (tid : ℕ) (c : Command)
+    → replay_line_of true (command_words tid c) ≡ replay_line_of false (command_words tid c)
 said_again tid (command.Publish s) = refl
 said_again tid (command.Claim c) = refl
 said_again tid (command.Resume c how) = refl
 said_again tid (command.Exit d) = refl
 said_again tid command.State = refl
 
-pub command_line_read : (begun : Bool) (tid : ℕ) (c : Command) → is_id tid ≡ true → IsCommand c → IsSpelled c
-    → line_of begun (command_words tid c) ≡ Ok (line.Command tid c)
+pub command_line_read : (begun : Bool) (tid : ℕ) (c : Command) → is_id tid ≡ true → IsCommand c → IsSpelledCommand c
+    → replay_line_of begun (command_words tid c) ≡ Ok (line.Command tid c)
 command_line_read true tid c id range spelled = said_again tid c ∙ command_read tid c id range spelled
 command_line_read false tid c id range spelled = command_read tid c id range spelled
 
-pub command_are_words : (tid : ℕ) (c : Command) → is_id tid ≡ true → IsCommand c → IsSpelled c
+pub command_are_words : (tid : ℕ) (c : Command) → is_id tid ≡ true → IsCommand c → IsSpelledCommand c
     → AreWords (command_words tid c)
 command_are_words tid (command.Publish stop.Start) id range spelled = (refl, (id_word tid id, (refl, tt)))
 command_are_words tid (command.Publish stop.Enter) id range spelled = (refl, (id_word tid id, (refl, tt)))
@@ -171,6 +198,10 @@ command_are_words tid (command.Publish (stop.Exec n)) id range spelled =
     (refl, (id_word tid id, (refl, (id_word n spelled, tt))))
 command_are_words tid (command.Publish (stop.Signal n)) id range spelled =
     (refl, (id_word tid id, (refl, (up_to_last n (omega arith), tt))))
+command_are_words tid (command.Publish (stop.Ending (death.Exited n))) id range spelled =
+    (refl, (id_word tid id, (refl, (refl, (up_to_last n (omega arith), tt)))))
+command_are_words tid (command.Publish (stop.Ending (death.Signaled n core))) id range spelled =
+    (refl, (id_word tid id, (refl, (refl, (up_to_last n (omega arith), tt)))))
 command_are_words tid (command.Claim c) id range spelled = (refl, (id_word tid id, (up_to_last c (omega arith), tt)))
 command_are_words tid (command.Resume c how) id range spelled = (
   refl,

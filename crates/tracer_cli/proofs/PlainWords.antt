@@ -1,13 +1,15 @@
--- What clap makes of the shortest words of a replay and of a run.
+-- What clap makes of the shortest words of a replay, of a run and of an exploration.
 use Rattle.std.proofs.Common.{refl, ◌≡◌, ◌∷◌, [], ℕ, List, Option, Some, None, codes, lit<, lit≤, Bor}
 use Rattle.std.specs.Prelude.{option_map}
 use Rattle.clap.proofs.OnLiterals.{clap_on_literals}
 use Rattle.tracer_cli.specs.declared.arguments.RunOptions.{RunOptions}
-use Rattle.tracer_cli.specs.Arguments.{AreOptionsOf, AskReplay, AskRun, IsFollowed}
+use Rattle.tracer_cli.specs.declared.arguments.ExploreOptions.{ExploreOptions}
+use Rattle.tracer_cli.specs.Arguments.{AreExploreOptionsOf, AreOptionsOf, AskExplore, AskReplay, AskRun, IsExploredWhole}
+use Rattle.tracer_cli.specs.Arguments.{IsFollowed}
 
 pub asks_replay : (name : List ℕ) → AskReplay (name ∷ codes "replay" ∷ [])
 unfolding clap_on_literals
-asks_replay name = (refl, refl, refl)
+asks_replay name = (refl, refl, refl, refl)
 
 pub asks_run : (name : List ℕ) → AskRun (name ∷ codes "run" ∷ codes "-f" ∷ [])
 unfolding clap_on_literals
@@ -26,4 +28,18 @@ is_followed name options are = record {
   workers = are.workers ((lit< tt, (lit< tt, tt)), lit< tt, lit≤ tt, lit≤ tt);
   limit = are.limit ((lit< tt, (lit< tt, (lit< tt, tt))), lit< tt, lit≤ tt, lit≤ tt);
   names = no_names options.names are.names;
+}
+
+pub asks_explore : (name : List ℕ) → AskExplore (name ∷ codes "explore" ∷ [])
+unfolding clap_on_literals
+asks_explore name = (refl, refl, refl, refl)
+
+pub is_explored_whole : (name : List ℕ) (options : ExploreOptions)
+    → AreExploreOptionsOf (name ∷ codes "explore" ∷ []) options → IsExploredWhole options
+unfolding clap_on_literals
+is_explored_whole name options are = record {
+  budget = are.budget
+      ((lit< tt, (lit< tt, (lit< tt, (lit< tt, (lit< tt, (lit< tt, (lit< tt, (lit< tt, tt)))))))), lit< tt, lit≤ tt,
+      lit≤ tt);
+  outcome = are.outcome;
 }

@@ -11,11 +11,11 @@ use Rattle.tracer_cli.specs.declared.order.Order.{Order}
 use Rattle.tracer_cli.specs.declared.grammar.Line.{Line}
 use Rattle.tracer_cli.specs.declared.grammar.Line.TheVariants as line
 use Rattle.text_lines.specs.Ranges.{◌>>=◌}
-use Rattle.tracer_cli.specs.Grammar.{line_of}
+use Rattle.tracer_cli.specs.Grammar.{replay_line_of}
 use Rattle.text_lines.specs.Lines.{line_text, lines_of}
 use Rattle.trace_script.specs.Reading.{most_bytes, with_cause}
-use Rattle.tracer_cli.specs.File.{ReplayContent, content_after, content_of, has_begun, line_added, line_read}
-use Rattle.tracer_cli.specs.File.{order_added, row_added}
+use Rattle.tracer_cli.specs.File.{ReplayContent, content_of, has_begun, line_added, order_added, replay_content_after}
+use Rattle.tracer_cli.specs.File.{replay_line_read, row_added}
 use Rattle.tracer_cli.specs.Spelling.{IsContent, IsOrderOf, order_words, orders_text, row_words, rows_text, spelling}
 use Rattle.tracer_cli.proofs.LinesBack.{command_are_words, command_line_read, row_line_are_words, row_line_read}
 use Rattle.text_lines.proofs.Spelled.{AreWords, line_spelled, words_joined}
@@ -24,14 +24,15 @@ use Rattle.trace_script.proofs.RowsBack.{ends_id, row_fits, row_ranges, rows_fin
 
 -- a spelled line is the first line, and its words are read
 first_line : (n : ℕ) (so_far new : ReplayContent) (words : List (List ℕ)) (said : Line) (rest : List ℕ) → AreWords words
-    → line_of (has_begun so_far) words ≡ Ok said → line_added so_far said ≡ Ok new
-    → content_after n so_far (lines_of (line_text words ++ rest)) ≡ content_after (n + 1) new (lines_of rest)
+    → replay_line_of (has_begun so_far) words ≡ Ok said → line_added so_far said ≡ Ok new
+    → replay_content_after n so_far (lines_of (line_text words ++ rest))
+    ≡ replay_content_after (n + 1) new (lines_of rest)
 first_line n so_far new words said rest are says added =
-    let read : line_read so_far (join_with_byte 32 words) ≡ Ok new =
-    ap (λ ws. with_cause (line_of (has_begun so_far) ws) >>= line_added so_far) (words_joined words are)
+    let read : replay_line_read so_far (join_with_byte 32 words) ≡ Ok new =
+    ap (λ ws. with_cause (replay_line_of (has_begun so_far) ws) >>= line_added so_far) (words_joined words are)
     ∙ ap (λ r. with_cause r >>= line_added so_far) says ∙ added in
-    ap (content_after n so_far) (line_spelled words rest are)
-    ∙ goes_on (λ n. line_read) n so_far new (join_with_byte 32 words) (lines_of rest) read
+    ap (replay_content_after n so_far) (line_spelled words rest are)
+    ∙ goes_on (λ n. replay_line_read) n so_far new (join_with_byte 32 words) (lines_of rest) read
 
 abbrev only_rows : List Row → ReplayContent
 only_rows rows = record { rows = rows; orders = [] }
@@ -46,20 +47,20 @@ row_takes before row room fits = ap (row_added (only_rows before) row) (row_fits
 -- rows are read after those before them
 rows_read : (before rows : List Row) (rest : List ℕ) (all : ReplayContent) → first_fault before rows ≡ None
     → length before + length rows ≤ MOST_ROWS
-    → ((n : ℕ) → content_after n (only_rows (before ++ rows)) (lines_of rest) ≡ Ok all)
-    → (n : ℕ) → content_after n (only_rows before) (lines_of (rows_text rows ++ rest)) ≡ Ok all
+    → ((n : ℕ) → replay_content_after n (only_rows (before ++ rows)) (lines_of rest) ≡ Ok all)
+    → (n : ℕ) → replay_content_after n (only_rows before) (lines_of (rows_text rows ++ rest)) ≡ Ok all
 rows_read before [] rest all fine few then n =
-    ap (λ rows. content_after n (only_rows rows) (lines_of rest)) (sym (append-nil before)) ∙ then n
+    ap (λ rows. replay_content_after n (only_rows rows) (lines_of rest)) (sym (append-nil before)) ∙ then n
 rows_read before (row ∷ rows) rest all fine few then n =
     let parts = both_none (fault_after before row) (first_fault (before ++ row ∷ []) rows) fine in
     let has = row_ranges before row parts.0 in
-    ap (λ text. content_after n (only_rows before) (lines_of text))
+    ap (λ text. replay_content_after n (only_rows before) (lines_of text))
     (append_assoc (line_text (row_words row)) (rows_text rows) rest)
     ∙ first_line n (only_rows before) (only_rows (before ++ row ∷ [])) (row_words row) (line.Row row)
     (rows_text rows ++ rest) (row_line_are_words row has) (row_line_read row has)
     (row_takes before row (omega arith) parts.0)
     ∙ rows_read (before ++ row ∷ []) rows rest all parts.1 (let size = length-append before (row ∷ []) in omega arith)
-    (λ m. ap (λ rows. content_after m (only_rows rows) (lines_of rest)) (append_assoc before (row ∷ []) rows)
+    (λ m. ap (λ rows. replay_content_after m (only_rows rows) (lines_of rest)) (append_assoc before (row ∷ []) rows)
     ∙ then m) (n + 1)
 
 order_takes : (rows : List Row) (before : List Order) (order : Order) → IsRoster rows → order.row < length rows
@@ -70,9 +71,9 @@ order_takes rows before order roster there =
 
 -- orders are read after those before them
 orders_read : (rows : List Row) (before orders : List Order) → IsRoster rows → All (IsOrderOf rows) orders → (n : ℕ)
-    → content_after n (with_orders rows before) (lines_of (orders_text rows orders)) ≡ Ok
+    → replay_content_after n (with_orders rows before) (lines_of (orders_text rows orders)) ≡ Ok
     (with_orders rows (before ++ orders))
-orders_read rows before [] roster all n = all_read (λ n. line_read) n (with_orders rows before)
+orders_read rows before [] roster all n = all_read (λ n. replay_line_read) n (with_orders rows before)
     ∙ ap (λ os. Ok (with_orders rows os)) (sym (append-nil before))
 orders_read rows before (order ∷ orders) roster all n =
     let is : IsOrderOf rows order = All-head (IsOrderOf rows) order orders all in

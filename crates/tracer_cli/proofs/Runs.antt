@@ -7,7 +7,8 @@ use Rattle.std.proofs.lemmas.Bool.Decides.{nat_tests}
 use Rattle.std.proofs.lemmas.List.{take_all}
 use Rattle.std.specs.Option.{option_map}
 use Rattle.clap.specs.Words.{takes}
-use Rattle.tracer_cli.specs.declared.arguments.Request.TheVariants.{Replay, Run, Help}
+use Rattle.tracer_cli.specs.declared.arguments.Request.TheVariants.{Replay, Run, Explore, Help}
+use Rattle.tracer_cli.specs.declared.arguments.ExploreOptions.{ExploreOptions}
 use Rattle.tracer_cli.specs.declared.arguments.Request.{Request}
 use Rattle.tracer_cli.specs.declared.arguments.RunOptions.{RunOptions}
 use Rattle.tracer_cli.specs.declared.job.Job.{Job}
@@ -20,15 +21,18 @@ use Rattle.tracer_workers.specs.Config.{plain, text_of}
 use Rattle.tracer_workers.specs.declared.config.Config.{Config}
 use Rattle.tracer_cli.specs.declared.failure.Failure.{Failure}
 use Rattle.tracer_cli.specs.declared.failure.Failure.TheVariants.{UnknownCall, NoMemory}
-use Rattle.tracer_cli.specs.declared.failure.Failure.TheVariants.{CannotRead, CannotWrite}
+use Rattle.tracer_cli.specs.declared.failure.Failure.TheVariants.{CannotRead, CannotWrite, Forbidden}
 use Rattle.trace_script.specs.Reading.{most_bytes}
-use Rattle.tracer_cli.specs.Arguments.{AreOptionsOf, AskReplay, AskRun, IsAskedBy, IsTaken, tracer_app}
+use Rattle.tracer_cli.specs.Arguments.{AreExploreOptionsOf, AreOptionsOf, AskExplore, AskReplay, AskRun, IsAskedBy}
+use Rattle.tracer_cli.specs.Arguments.{IsTakenRequest, tracer_app}
 use Rattle.tracer_cli.specs.CaseText.{HasConfig, case_text_of, config_of}
+use Rattle.tracer_cli.specs.Explored.{PrintsOutcomes}
 use Rattle.tracer_cli.specs.File.{content_of}
 use Rattle.tracer_cli.specs.Job.{HasNoJob, IsDone, IsJob}
+use Rattle.tracer_cli.specs.LitmusFile.{LitmusContent, litmus_content_of}
 use Rattle.tracer_cli.specs.Replay.{replay_of, text_from}
-use Rattle.tracer_cli.specs.Run.{Answers, IsReadFailure, IsReadOf, IsUnwritten, Prints, PrintsCase, Replays, Runs}
-use Rattle.tracer_cli.specs.Run.{RunsNamed, Writes}
+use Rattle.tracer_cli.specs.Run.{AnswersRequest, Explores, ExploresNamed, IsReadFailure, IsReadOf, IsUnwritten, Prints}
+use Rattle.tracer_cli.specs.Run.{PrintsCase, Replays, Runs, RunsNamed, Writes}
 use Rattle.tracer_cli.specs.Shown.{unknown_name}
 
 -- a reader's bytes up to a limit
@@ -56,6 +60,9 @@ replay_too_long text long = ap text_from (content_too_long text long)
 
 case_too_long : (text : List ℕ) → nat_le (length text) most_bytes ≡ false → case_of text ≡ Err too_long
 case_too_long text long = rw long refl
+
+litmus_too_long : (text : List ℕ) → nat_le (length text) most_bytes ≡ false → litmus_content_of text ≡ Err too_long
+litmus_too_long text long = rw long refl
 
 few_enough : (n most : ℕ) → nat_le n most ≡ true → n ≤ most + 1
 few_enough n most fits = let few : n ≤ most = leb-true n most fits in omega arith
@@ -99,6 +106,20 @@ case_ran options config text before after other known has prints = (
   ),
 )
 
+explored : (options : ExploreOptions) (text : List ℕ) (before after : Option (List ℕ))
+    (result : Result (Unit {0}) Failure)
+    → PrintsOutcomes options (litmus_content_of text) before after result → Explores options text before after result
+explored options text before after (Err CannotRead) prints = tt
+explored options text before after other prints = prints
+
+explores_alike : (options : ExploreOptions) (a b : List ℕ) (before after : Option (List ℕ))
+    (result : Result (Unit {0}) Failure)
+    → litmus_content_of a ≡ litmus_content_of b → Explores options a before after result
+    → Explores options b before after result
+explores_alike options a b before after (Err CannotRead) same explores = tt
+explores_alike options a b before after other same explores =
+    subst (λ (r : Result LitmusContent CaseError). PrintsOutcomes options r before after other) same explores
+
 replays_alike : (a b : List ℕ) (before after : Option (List ℕ)) (result : Result (Unit {0}) Failure)
     → replay_of a ≡ replay_of b → Replays a before after result → Replays b before after result
 replays_alike a b before after (Err CannotRead) same replays = tt
@@ -121,7 +142,7 @@ runs_alike options a b before after other same runs =
 replay_answered : (file : Option (Bor (List ℕ))) (text : List ℕ) (input before after : Option (List ℕ))
     (result : Result (Unit {0}) Failure)
     → (file ≡ None → IsReadOf input text) → Replays text before after result
-    → Answers (Replay file) input before after result
+    → AnswersRequest (Replay file) input before after result
 replay_answered None text None before after result read replays = tt
 replay_answered None text (Some all) before after result read replays = replays_alike text all before after result
     (ap replay_of (read refl) ∙ cut_alike replay_of replay_too_long all _ refl) replays
@@ -131,30 +152,51 @@ replay_answered (Some path) text input before after result read replays = (text,
 run_answered : (options : RunOptions) (file : Option (Bor (List ℕ))) (text : List ℕ)
     (input before after : Option (List ℕ)) (result : Result (Unit {0}) Failure)
     → (file ≡ None → IsReadOf input text) → Runs options text before after result
-    → Answers (Run options file) input before after result
+    → AnswersRequest (Run options file) input before after result
 run_answered options None text None before after result read runs = tt
 run_answered options None text (Some all) before after result read runs =
     runs_alike options text all before after result
     (ap case_of (read refl) ∙ cut_alike case_of case_too_long all _ refl) runs
 run_answered options (Some path) text input before after result read runs = (text, runs)
 
+-- and so it is explored
+explore_answered : (options : ExploreOptions) (file : Option (Bor (List ℕ))) (text : List ℕ)
+    (input before after : Option (List ℕ)) (result : Result (Unit {0}) Failure)
+    → (file ≡ None → IsReadOf input text) → Explores options text before after result
+    → AnswersRequest (Explore options file) input before after result
+explore_answered options None text None before after result read explores = tt
+explore_answered options None text (Some all) before after result read explores =
+    explores_alike options text all before after result
+    (ap litmus_content_of (read refl) ∙ cut_alike litmus_content_of litmus_too_long all _ refl) explores
+explore_answered options (Some path) text input before after result read explores = (text, explores)
+
 -- a job that is done answers its request
 pub job_answered : (request : Request) (job : Job) (input before after : Option (List ℕ))
     (result : Result (Unit {0}) Failure)
-    → IsJob request input job → IsDone job before after result → Answers request input before after result
+    → IsJob request input job → IsDone job before after result → AnswersRequest request input before after result
 job_answered (Help text) (job.Print told) input before after result is done =
     subst (λ (bytes : List ℕ). Writes bytes before after result) is done
 job_answered (Help text) (job.Replay bytes) input before after result is done = absurd is
 job_answered (Help text) (job.Run config bytes) input before after result is done = absurd is
+job_answered (Help text) (job.Explore asked bytes) input before after result is done = absurd is
 job_answered (Replay file) (job.Print told) input before after result is done = absurd is
 job_answered (Replay file) (job.Replay bytes) input before after result is done =
     replay_answered file bytes.items input before after result is (replayed bytes.items before after result done)
 job_answered (Replay file) (job.Run config bytes) input before after result is done = absurd is
+job_answered (Replay file) (job.Explore asked bytes) input before after result is done = absurd is
 job_answered (Run options file) (job.Print told) input before after result is done = absurd is
 job_answered (Run options file) (job.Replay bytes) input before after result is done = absurd is
 job_answered (Run options file) (job.Run config bytes) input before after result is done =
     run_answered options file bytes.items input before after result is.2
     (case_ran options config bytes.items before after result is.0 is.1 done)
+job_answered (Run options file) (job.Explore asked bytes) input before after result is done = absurd is
+job_answered (Explore options file) (job.Print told) input before after result is done = absurd is
+job_answered (Explore options file) (job.Replay bytes) input before after result is done = absurd is
+job_answered (Explore options file) (job.Run config bytes) input before after result is done = absurd is
+job_answered (Explore options file) (job.Explore asked bytes) input before after result is done =
+    explore_answered options file bytes.items input before after result is.1
+    (explored options bytes.items before after result
+    (subst (λ (o : ExploreOptions). PrintsOutcomes o (litmus_content_of bytes.items) before after result) is.0 done))
 
 -- and so does a failure to come to a job
 unread_replay : (text : List ℕ) (before after : Option (List ℕ)) (failure : Failure)
@@ -171,8 +213,14 @@ unread_run options file text before after CannotRead has = has
 unread_run options file text before after NoMemory has = tt
 unread_run options file text before after failure has = absurd has
 
+unread_explore : (options : ExploreOptions) (text : List ℕ) (before after : Option (List ℕ)) (failure : Failure)
+    → IsReadFailure failure → Explores options text before after (Err failure)
+unread_explore options text before after CannotRead is = tt
+unread_explore options text before after NoMemory is = tt
+unread_explore options text before after failure is = absurd is
+
 pub no_job_answered : (request : Request) (input before after : Option (List ℕ)) (failure : Failure)
-    → HasNoJob request failure → Answers request input before after (Err failure)
+    → HasNoJob request failure → AnswersRequest request input before after (Err failure)
 no_job_answered (Help text) input before after failure has = absurd has
 no_job_answered (Replay None) None before after failure has = tt
 no_job_answered (Replay None) (Some text) before after failure has = unread_replay text before after failure has
@@ -182,19 +230,27 @@ no_job_answered (Run options None) (Some text) before after failure has =
     unread_run options None text before after failure has
 no_job_answered (Run options (Some path)) input before after failure has =
     ([], unread_run options (Some path) [] before after failure has)
+no_job_answered (Explore options None) None before after failure has = tt
+no_job_answered (Explore options None) (Some text) before after failure has =
+    unread_explore options text before after failure has
+no_job_answered (Explore options (Some path)) input before after failure has =
+    ([], unread_explore options [] before after failure has)
 
 -- ---- by the words
 
 replay_named : (words : List (List ℕ)) (request : Request) (input before after : Option (List ℕ))
     (result : Result (Unit {0}) Failure)
-    → AskReplay words → IsAskedBy words (Ok request) → IsTaken (Ok request) → Answers request input before after result
+    → AskReplay words → IsAskedBy words (Ok request) → IsTakenRequest (Ok request)
+    → AnswersRequest request input before after result
     → IfSome input (λ text. Replays text before after result)
 replay_named words (Help text) input before after result ask asked taken answers = absurd taken
 replay_named words (Replay None) input before after result ask asked taken answers = answers
 replay_named words (Replay (Some file)) input before after result ask asked taken answers =
-    absurd (let is : Some file.now ≡ None = asked.1.1 ∙ ask.2 in cc)
+    absurd (let is : Some file.now ≡ None = asked.1.2 ∙ ask.3 in cc)
 replay_named words (Run options file) input before after result ask asked taken answers =
     absurd (let is : false ≡ true = sym ask.1 ∙ asked.1.0 in cc)
+replay_named words (Explore options file) input before after result ask asked taken answers =
+    absurd (let is : false ≡ true = sym ask.2 ∙ asked.1.1 in cc)
 
 named_runs : (words : List (List ℕ)) (options : RunOptions) (text : List ℕ) (before after : Option (List ℕ))
     (result : Result (Unit {0}) Failure)
@@ -212,7 +268,8 @@ of_input words options (Some text) before after result are runs =
 
 run_named : (words : List (List ℕ)) (request : Request) (input before after : Option (List ℕ))
     (result : Result (Unit {0}) Failure)
-    → AskRun words → IsAskedBy words (Ok request) → IsTaken (Ok request) → Answers request input before after result
+    → AskRun words → IsAskedBy words (Ok request) → IsTakenRequest (Ok request)
+    → AnswersRequest request input before after result
     → IfSome input (λ text. RunsNamed words text before after result)
 run_named words (Help text) input before after result ask asked taken answers = absurd taken
 run_named words (Replay file) input before after result ask asked taken answers =
@@ -221,12 +278,44 @@ run_named words (Run options None) input before after result ask asked taken ans
     of_input words options input before after result asked.1.1 answers
 run_named words (Run options (Some file)) input before after result ask asked taken answers =
     absurd (let is : Some file.now ≡ None = asked.1.2 ∙ ask.2 in cc)
+run_named words (Explore options file) input before after result ask asked taken answers =
+    absurd (let is : true ≡ false = sym ask.1 ∙ asked.1.0 in cc)
+
+named_explores : (words : List (List ℕ)) (options : ExploreOptions) (text : List ℕ) (before after : Option (List ℕ))
+    (result : Result (Unit {0}) Failure)
+    → AreExploreOptionsOf words options → Explores options text before after result
+    → ExploresNamed words text before after result
+named_explores words options text before after (Err NoMemory) are explores = tt
+named_explores words options text before after other are explores = (options, are, explores)
+
+explores_input : (words : List (List ℕ)) (options : ExploreOptions) (input before after : Option (List ℕ))
+    (result : Result (Unit {0}) Failure)
+    → AreExploreOptionsOf words options → IfSome input (λ text. Explores options text before after result)
+    → IfSome input (λ text. ExploresNamed words text before after result)
+explores_input words options None before after result are explores = tt
+explores_input words options (Some text) before after result are explores =
+    named_explores words options text before after result are explores
+
+explore_named : (words : List (List ℕ)) (request : Request) (input before after : Option (List ℕ))
+    (result : Result (Unit {0}) Failure)
+    → AskExplore words → IsAskedBy words (Ok request) → IsTakenRequest (Ok request)
+    → AnswersRequest request input before after result
+    → IfSome input (λ text. ExploresNamed words text before after result)
+explore_named words (Help text) input before after result ask asked taken answers = absurd taken
+explore_named words (Replay file) input before after result ask asked taken answers =
+    absurd (let is : true ≡ false = sym ask.2 ∙ asked.1.1 in cc)
+explore_named words (Run options file) input before after result ask asked taken answers =
+    absurd (let is : false ≡ true = sym ask.1 ∙ asked.1.0 in cc)
+explore_named words (Explore options None) input before after result ask asked taken answers =
+    explores_input words options input before after result asked.1.2 answers
+explore_named words (Explore options (Some file)) input before after result ask asked taken answers =
+    absurd (let is : Some file.now ≡ None = asked.1.3 ∙ ask.3 in cc)
 
 -- words of a replay of standard input ask for it
 pub replay_asked : (given words : List (List ℕ)) (request : Request) (input before after : Option (List ℕ))
     (result : Result (Unit {0}) Failure)
     → given ≡ words → AskReplay words → IsAskedBy given (Ok request)
-    → (takes tracer_app given ≡ true → IsTaken (Ok request)) → Answers request input before after result
+    → (takes tracer_app given ≡ true → IsTakenRequest (Ok request)) → AnswersRequest request input before after result
     → IfSome input (λ text. Replays text before after result)
 replay_asked given words request input before after result same ask asked taken answers =
     replay_named words request input before after result ask
@@ -236,10 +325,20 @@ replay_asked given words request input before after result same ask asked taken 
 pub run_asked : (given words : List (List ℕ)) (request : Request) (input before after : Option (List ℕ))
     (result : Result (Unit {0}) Failure)
     → given ≡ words → AskRun words → IsAskedBy given (Ok request)
-    → (takes tracer_app given ≡ true → IsTaken (Ok request)) → Answers request input before after result
+    → (takes tracer_app given ≡ true → IsTakenRequest (Ok request)) → AnswersRequest request input before after result
     → IfSome input (λ text. RunsNamed words text before after result)
 run_asked given words request input before after result same ask asked taken answers =
     run_named words request input before after result ask
+    (subst (λ (w : List (List ℕ)). IsAskedBy w (Ok request)) same asked) (taken (rw same ask.0)) answers
+
+-- and words of an exploration of it
+pub explore_asked : (given words : List (List ℕ)) (request : Request) (input before after : Option (List ℕ))
+    (result : Result (Unit {0}) Failure)
+    → given ≡ words → AskExplore words → IsAskedBy given (Ok request)
+    → (takes tracer_app given ≡ true → IsTakenRequest (Ok request)) → AnswersRequest request input before after result
+    → IfSome input (λ text. ExploresNamed words text before after result)
+explore_asked given words request input before after result same ask asked taken answers =
+    explore_named words request input before after result ask
     (subst (λ (w : List (List ℕ)). IsAskedBy w (Ok request)) same asked) (taken (rw same ask.0)) answers
 
 -- ---- how the program ends
@@ -248,4 +347,5 @@ run_asked given words request input before after result same ask asked taken ans
 pub untouched : {A : Type 0} (output : A) (ended : Result (Unit {0}) Failure) → IsUnwritten output output ended
 untouched output (Ok done) = tt
 untouched output (Err CannotWrite) = tt
+untouched output (Err Forbidden) = tt
 untouched output (Err failure) = refl

@@ -5,11 +5,12 @@ use Rattle.std.proofs.lemmas.Bool.Decides.{nat_tests}
 use Rattle.text_lines.specs.declared.fault.LineFault.{LineFault}
 use Rattle.tracer_cli.specs.declared.grammar.Line.{Line}
 use Rattle.tracer_cli.specs.declared.grammar.Line.TheVariants as line
-use Rattle.tracer_cli.specs.declared.grammar.Keyword.{Keyword}
-use Rattle.tracer_cli.specs.declared.grammar.Keyword.TheVariants as keyword
-use Rattle.tracer_cli.specs.Grammar.{claim_line, exit_line, in_place, keyword_of, line_of, publish_numbered}
-use Rattle.tracer_cli.specs.Grammar.{publish_plain, rest_of, resume_line}
-use Rattle.tracer_cli.specs.Grammar.{row_line, state_line}
+use Rattle.tracer_cli.specs.declared.grammar.ReplayKeyword.{ReplayKeyword}
+use Rattle.tracer_cli.specs.declared.grammar.ReplayKeyword.TheVariants as keyword
+use Rattle.tracer_cli.specs.Grammar.{claim_line, exit_line, publish_ending, publish_numbered, publish_plain}
+use Rattle.tracer_cli.specs.Grammar.{replay_in_place}
+use Rattle.tracer_cli.specs.Grammar.{replay_keyword_of, replay_line_of, replay_rest_of, resume_line, row_line}
+use Rattle.tracer_cli.specs.Grammar.{state_line}
 use Rattle.text_lines.specs.Lines.{nth_word}
 use Rattle.text_lines.specs.Ranges.{◌>>=◌}
 
@@ -47,14 +48,17 @@ four : (words : List (List ℕ)) (read : List ℕ → List ℕ → List ℕ → 
 four words read = three words (λ a b c. read a b c (nth_word (take 5 words) 3))
     ∙ ap (read (nth_word words 0) (nth_word words 1) (nth_word words 2)) (same_word words 3 (lit< tt))
 
-at_most_five : (word : Keyword) (words : List (List ℕ)) → rest_of word (take 5 words) ≡ rest_of word words
+at_most_five : (word : ReplayKeyword) (words : List (List ℕ))
+    → replay_rest_of word (take 5 words) ≡ replay_rest_of word words
 at_most_five keyword.Row words =
     of_some words 4 (λ ws. row_line (nth_word ws 0) (nth_word ws 1) (nth_word ws 2) (nth_word ws 3)) _ _ (lit≤ tt)
     (four words row_line) refl
 at_most_five keyword.Publish words =
     of_some words 2 (λ ws. publish_plain (nth_word ws 0) (nth_word ws 1)) _ _ (lit≤ tt) (two words publish_plain)
     (of_some words 3 (λ ws. publish_numbered (nth_word ws 0) (nth_word ws 1) (nth_word ws 2)) _ _ (lit≤ tt)
-    (three words publish_numbered) refl)
+    (three words publish_numbered)
+    (of_some words 4 (λ ws. publish_ending (nth_word ws 0) (nth_word ws 1) (nth_word ws 2) (nth_word ws 3)) _ _
+    (lit≤ tt) (four words publish_ending) refl))
 at_most_five keyword.Claim words =
     of_some words 2 (λ ws. claim_line (nth_word ws 0) (nth_word ws 1)) _ _ (lit≤ tt) (two words claim_line) refl
 at_most_five keyword.Resume words =
@@ -66,9 +70,10 @@ at_most_five keyword.Exit words =
 at_most_five keyword.State words =
     of_some words 1 (λ ws. state_line (nth_word ws 0)) _ _ (lit≤ tt) (ap state_line (same_word words 0 (lit< tt))) refl
 
-pub first_six : (begun : Bool) (words : List (List ℕ)) → line_of begun (take 6 words) ≡ line_of begun words
+pub first_six : (begun : Bool) (words : List (List ℕ))
+    → replay_line_of begun (take 6 words) ≡ replay_line_of begun words
 first_six begun [] = refl
 first_six begun (first ∷ words) =
-    let same : (λ w. rest_of w (take 5 words)) ≡ (λ w. rest_of w words) = λ i w. at_most_five w words i in
-    ap (λ (read : Keyword → Result Line LineFault). if eqb (slice_index first 0) 35 then Ok line.Nothing else
-    (keyword_of first >>= λ k. in_place begun k >>= read)) same
+    let same : (λ w. replay_rest_of w (take 5 words)) ≡ (λ w. replay_rest_of w words) = λ i w. at_most_five w words i in
+    ap (λ (read : ReplayKeyword → Result Line LineFault). if eqb (slice_index first 0) 35 then Ok line.Nothing else
+    (replay_keyword_of first >>= λ k. replay_in_place begun k >>= read)) same

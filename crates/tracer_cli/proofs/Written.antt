@@ -21,6 +21,17 @@ pub in_three : (old first second third new : List ℕ) → new ≡ old ++ first 
     → new ≡ old ++ ((first ++ second) ++ third)
 in_three old first second third new wrote = wrote ∙ simp append_assoc
 
+-- a text and the rest of its line
+pub in_line : (old first second feed between new : List ℕ) → between ≡ old ++ first → new ≡ between ++ (second ++ feed)
+    → new ≡ old ++ ((first ++ second) ++ feed)
+in_line old first second feed between new begun ended =
+    ended ∙ ap (λ t. t ++ (second ++ feed)) begun ∙ simp append_assoc
+
+pub in_five : (old first second third fourth fifth new : List ℕ)
+    → new ≡ old ++ first ++ second ++ third ++ fourth ++ fifth
+    → new ≡ old ++ (first ++ second ++ third ++ fourth ++ fifth)
+in_five old first second third fourth fifth new wrote = wrote ∙ simp append_assoc
+
 pub at_status_line : (old before number gap status between new : List ℕ)
     → between ≡ old ++ ((before ++ number) ++ gap) → new ≡ between ++ (status ++ 10 ∷ [])
     → new ≡ old ++ ((before ++ (number ++ (gap ++ status))) ++ 10 ∷ [])

@@ -1,5 +1,6 @@
 -- The command line, as clap's definitions read it: `tracer replay [FILE]`,
--- `tracer run [-f] [--seccomp-bpf] [-w N] [-s N] [-e NAMES] [FILE]`, and `tracer --version`.
+-- `tracer run [-f] [--seccomp-bpf] [-w N] [-s N] [-e NAMES] [FILE]`, `tracer explore [--budget N] [--replay K] [FILE]`,
+-- and `tracer --version`.
 use Rattle.std.specs.Prelude.{◌≡◌, ◌≢◌, ◌≤◌, ◌∷◌, [], ℕ, Bool, true, false, IsTrue, IsFalse, List, Option, Some, None}
 use Rattle.std.specs.Prelude.{Result, Ok, Err, codes, option_map, pos}
 use Rattle.std.specs.Option.{option_map_or}
@@ -15,9 +16,10 @@ use Rattle.clap.specs.declared.builder.ArgAction.TheVariants.{Set, SetTrue}
 use Rattle.clap.specs.declared.builder.value_parser.ValueParser.TheVariants.{Signed}
 use Rattle.stop_history.specs.declared.limits.TheConstants.{TRACERS}
 use Rattle.tracer_cli.specs.declared.arguments.Request.{Request}
-use Rattle.tracer_cli.specs.declared.arguments.Request.TheVariants.{Replay, Run, Help}
+use Rattle.tracer_cli.specs.declared.arguments.Request.TheVariants.{Replay, Run, Explore, Help}
+use Rattle.tracer_cli.specs.declared.arguments.ExploreOptions.{ExploreOptions}
 use Rattle.tracer_cli.specs.declared.arguments.RunOptions.{RunOptions}
-use Rattle.tracer_cli.specs.declared.arguments.TheConstants.{MOST_SHOWN}
+use Rattle.tracer_cli.specs.declared.arguments.TheConstants.{MOST_PLACES, MOST_SHOWN}
 use Rattle.tracer_cli.specs.declared.failure.Failure.{Failure}
 use Rattle.tracer_cli.specs.declared.failure.Failure.TheVariants.{NoMemory, Usage}
 
@@ -54,6 +56,21 @@ limit_rule = number_rule (codes "limit") 115 0 MOST_SHOWN (codes "32")
 abbrev pub names_rule : Rule
 names_rule = record (new_rule (codes "names")) { short = Some 101; action = Some Set; value_names = 1 }
 
+-- a number from 1 to `most`, with its name alone
+abbrev pub long_rule : Text → (most : ℕ) → Rule
+long_rule id most = record (new_rule id) {
+  long = Some id;
+  action = Some Set;
+  value_names = 1;
+  parser = Some (Signed (pos 1) (pos most));
+}
+
+abbrev pub budget_rule : Rule
+budget_rule = record (long_rule (codes "budget") MOST_PLACES) { defaults = codes "1000000" ∷ [] }
+
+abbrev pub outcome_rule : Rule
+outcome_rule = long_rule (codes "replay") MOST_PLACES
+
 abbrev pub replay_app : App
 replay_app = with_rule (new_app (codes "replay")) file_rule
 
@@ -64,6 +81,9 @@ run_app =
     workers_rule) limit_rule) names_rule)
     file_rule
 
+abbrev pub explore_app : App
+explore_app = with_rule (with_rule (with_rule (new_app (codes "explore")) budget_rule) outcome_rule) file_rule
+
 abbrev pub has_version : App → App
 has_version app = record app { top = record app.top { has_version = true } }
 
@@ -72,22 +92,27 @@ wants_subcommand app = record app { top = record app.top { subcommand_required =
 
 abbrev pub tracer_app : App
 tracer_app =
-    with_subcommand (with_subcommand (wants_subcommand (has_version (new_app (codes "tracer")))) replay_app.top)
-    run_app.top
+    with_subcommand
+    (with_subcommand (with_subcommand (wants_subcommand (has_version (new_app (codes "tracer")))) replay_app.top)
+    run_app.top)
+    explore_app.top
 
 -- ---- what the words name
 
 -- a subcommand's name, and what was found for each of its arguments
-abbrev pub Found : Type 0
-Found = Option (Text × List Row)
+abbrev pub FoundSubcommand : Type 0
+FoundSubcommand = Option (Text × List Row)
 
-abbrev pub is_run : Found → Bool
+abbrev pub is_run : FoundSubcommand → Bool
 is_run found = option_map_or (λ f. bytes_eq f.0 (codes "run")) found false
 
-abbrev pub rows_in : Found → List Row
+abbrev pub is_explore : FoundSubcommand → Bool
+is_explore found = option_map_or (λ f. bytes_eq f.0 (codes "explore")) found false
+
+abbrev pub rows_in : FoundSubcommand → List Row
 rows_in found = option_map_or (λ f. f.1) found []
 
-abbrev pub file_in : Found → Option Text
+abbrev pub file_in : FoundSubcommand → Option Text
 file_in found = first_of (codes "FILE") (rows_in found)
 
 -- a flag, by the text that clap has for it
@@ -109,8 +134,22 @@ pub record AreOptions (rows : List Row) (options : RunOptions) : Type 0 where
   pub limit : IsNumber 0 MOST_SHOWN (one_of (codes "limit") rows) options.limit
   pub names : option_map (λ list. list.now) options.names ≡ first_of (codes "names") rows
 
-abbrev pub IsNamed : Found → Request → Type 0
-IsNamed found (Replay file) = (is_run found ≡ false) × (option_map (λ text. text.now) file ≡ file_in found)
+-- a number from 1 that may be left out
+abbrev pub IsOptionalNumber : (most : ℕ) → Option Text → Option ℕ → Type 0
+IsOptionalNumber most None place = place ≡ None
+IsOptionalNumber most (Some text) place = IsUnsignedIn 1 most text → place ≡ Some (digits_value 10 (without_leading_plus text))
+
+-- the options of an exploration
+pub record AreExploreOptions (rows : List Row) (options : ExploreOptions) : Type 0 where
+  pub budget : IsNumber 1 MOST_PLACES (one_of (codes "budget") rows) options.budget
+  pub outcome : IsOptionalNumber MOST_PLACES (one_of (codes "replay") rows) options.outcome
+
+abbrev pub IsNamed : FoundSubcommand → Request → Type 0
+IsNamed found (Replay file) =
+    (is_run found ≡ false) × (is_explore found ≡ false) × (option_map (λ text. text.now) file ≡ file_in found)
+IsNamed found (Explore options file) =
+    (is_run found ≡ false) × (is_explore found ≡ true) × AreExploreOptions (rows_in found) options
+    × (option_map (λ text. text.now) file ≡ file_in found)
 IsNamed found (Run options file) =
     (is_run found ≡ true) × AreOptions (rows_in found) options × (option_map (λ text. text.now) file ≡ file_in found)
 IsNamed found (Help text) = ⊥
@@ -144,15 +183,19 @@ IsAskedBy words (Err NoMemory) = Unit {0}
 IsAskedBy words (Err failure) = ⊥
 
 -- words that clap takes ask for no help and fail only without memory
-abbrev pub IsTaken : Result Request Failure → Type 0
-IsTaken (Ok (Help text)) = ⊥
-IsTaken (Ok request) = Unit {0}
-IsTaken (Err failure) = failure ≡ NoMemory
+abbrev pub IsTakenRequest : Result Request Failure → Type 0
+IsTakenRequest (Ok (Help text)) = ⊥
+IsTakenRequest (Ok request) = Unit {0}
+IsTakenRequest (Err failure) = failure ≡ NoMemory
 
--- words of a replay, or of a run, of standard input
+-- words of a replay, of a run, or of an exploration, of standard input
 abbrev pub AskReplay : (words : List Text) → Type 0
 AskReplay words = (takes tracer_app words ≡ true) × (is_run (subcommand_of tracer_app words) ≡ false)
-    × (file_in (subcommand_of tracer_app words) ≡ None)
+    × (is_explore (subcommand_of tracer_app words) ≡ false) × (file_in (subcommand_of tracer_app words) ≡ None)
+
+abbrev pub AskExplore : (words : List Text) → Type 0
+AskExplore words = (takes tracer_app words ≡ true) × (is_run (subcommand_of tracer_app words) ≡ false)
+    × (is_explore (subcommand_of tracer_app words) ≡ true) × (file_in (subcommand_of tracer_app words) ≡ None)
 
 abbrev pub AskRun : (words : List Text) → Type 0
 AskRun words = (takes tracer_app words ≡ true) × (is_run (subcommand_of tracer_app words) ≡ true)
@@ -161,6 +204,14 @@ AskRun words = (takes tracer_app words ≡ true) × (is_run (subcommand_of trace
 -- the options that words of a run name
 abbrev pub AreOptionsOf : (words : List Text) → RunOptions → Type 0
 AreOptionsOf words options = AreOptions (rows_in (subcommand_of tracer_app words)) options
+
+abbrev pub AreExploreOptionsOf : (words : List Text) → ExploreOptions → Type 0
+AreExploreOptionsOf words options = AreExploreOptions (rows_in (subcommand_of tracer_app words)) options
+
+-- what `explore` asks for
+pub record IsExploredWhole (options : ExploreOptions) : Type 0 where
+  pub budget : options.budget ≡ 1000000
+  pub outcome : options.outcome ≡ None
 
 -- what `run -f` asks for
 pub record IsFollowed (options : RunOptions) : Type 0 where

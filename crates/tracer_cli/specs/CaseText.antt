@@ -1,5 +1,5 @@
 -- The text of a case file: what its tracees print as they are traced by the options of a run (strace(1)).
-use Rattle.std.specs.Prelude.{◌≡◌, ℕ, List, Result, Ok, Err, IsOk}
+use Rattle.std.specs.Prelude.{◌≡◌, ℕ, false, List, Result, Ok, Err, IsOk}
 use Rattle.text_lines.specs.Ranges.{◌>>=◌}
 use Rattle.trace_options.specs.Calls.{Calls}
 use Rattle.trace_script.specs.declared.cause.CaseError.{CaseError}
@@ -15,6 +15,7 @@ abbrev pub config_of : RunOptions → Calls → Config
 config_of options calls = record {
   follow = options.follow;
   seccomp = options.seccomp;
+  exits = false;
   workers = options.workers;
   limit = options.limit;
   shown = calls;

@@ -1,5 +1,5 @@
 -- The exit status of each failure, its text on standard error, and the failure of a refused file.
-use Rattle.std.specs.Prelude.{◌++◌, ℕ, List, codes, string_bytes}
+use Rattle.std.specs.Prelude.{◌++◌, [], ℕ, List, codes, decimal, string_bytes}
 use Rattle.std.specs.declared.io.ErrorKind.{ErrorKind}
 use Rattle.std.specs.declared.io.ErrorKind.TheVariants.{OutOfMemory}
 use Rattle.trace_script.specs.declared.cause.Cause.{Cause}
@@ -9,6 +9,9 @@ use Rattle.trace_script.specs.CaseError.{case_error_text}
 use Rattle.tracer_cli.specs.declared.failure.Failure.{Failure}
 use Rattle.tracer_cli.specs.declared.failure.Failure.TheVariants.{Refused, Usage, NoText, UnknownCall, NoMemory}
 use Rattle.tracer_cli.specs.declared.failure.Failure.TheVariants.{CannotRead, CannotWrite, LostStop, NoThreads}
+use Rattle.tracer_cli.specs.declared.failure.Failure.TheVariants.{TooManyPlaces, NoOutcome, Forbidden}
+use Rattle.stop_explorer.specs.declared.error.ExploreError.{ExploreError}
+use Rattle.stop_explorer.specs.declared.error.ExploreError.TheVariants as explore_error
 use Rattle.tracer_workers.specs.declared.run_error.RunError.{RunError}
 use Rattle.tracer_workers.specs.declared.run_error.RunError.TheVariants as run_error
 
@@ -22,6 +25,9 @@ failure_status CannotRead = 3
 failure_status CannotWrite = 3
 failure_status LostStop = 3
 failure_status NoThreads = 3
+failure_status TooManyPlaces = 3
+failure_status (NoOutcome number) = 4
+failure_status Forbidden = 4
 
 -- messages end with a line feed
 abbrev pub failure_text : Failure → List ℕ
@@ -34,6 +40,9 @@ failure_text CannotRead = codes "tracer: cannot read\n"
 failure_text CannotWrite = codes "tracer: cannot write\n"
 failure_text LostStop = codes "tracer: lost stop\n"
 failure_text NoThreads = codes "tracer: cannot start threads\n"
+failure_text TooManyPlaces = codes "tracer: too many places\n"
+failure_text (NoOutcome number) = codes "tracer: no outcome " ++ (decimal number ++ codes "\n")
+failure_text Forbidden = []
 
 -- the failure at an error of the system: out of memory, or this one
 abbrev pub failure_at : ErrorKind → Failure → Failure
@@ -53,3 +62,8 @@ abbrev pub failure_in_run : RunError → Failure
 failure_in_run run_error.NoMemory = NoMemory
 failure_in_run run_error.Lost = LostStop
 failure_in_run run_error.Threads = NoThreads
+
+-- the failure at an error of a search for outcomes
+abbrev pub failure_of_search : ExploreError → Failure
+failure_of_search explore_error.TooMany = TooManyPlaces
+failure_of_search explore_error.NoMemory = NoMemory

@@ -14,7 +14,7 @@ use Rattle.tracer_cli.specs.declared.command.Command.{Command}
 use Rattle.tracer_cli.specs.declared.order.Order.{Order}
 use Rattle.tracer_cli.specs.declared.grammar.Line.{Line}
 use Rattle.tracer_cli.specs.declared.grammar.Line.TheVariants as line
-use Rattle.tracer_cli.specs.Grammar.{line_of}
+use Rattle.tracer_cli.specs.Grammar.{replay_line_of}
 
 -- the rows, and the commands to them, each in the order of the file
 pub record ReplayContent : Type 0 where
@@ -28,8 +28,8 @@ nothing = record { rows = []; orders = [] }
 abbrev pub has_begun : ReplayContent → Bool
 has_begun so_far = nat_lt 0 (length so_far.orders)
 
-abbrev pub with_row : ReplayContent → Row → ReplayContent
-with_row so_far row = record { rows = so_far.rows ++ row ∷ []; orders = so_far.orders }
+abbrev pub with_next_row : ReplayContent → Row → ReplayContent
+with_next_row so_far row = record { rows = so_far.rows ++ row ∷ []; orders = so_far.orders }
 
 abbrev pub with_order : ReplayContent → (row : ℕ) → Command → ReplayContent
 with_order so_far row command =
@@ -38,7 +38,7 @@ with_order so_far row command =
 -- a row that has no fault as one more of the rows
 abbrev pub row_added : ReplayContent → Row → Option RosterError → Result ReplayContent Cause
 row_added so_far row (Some fault) = Err (cause_of fault)
-row_added so_far row None = Ok (with_row so_far row)
+row_added so_far row None = Ok (with_next_row so_far row)
 
 -- a command to a row that is there
 abbrev pub order_added : ReplayContent → Command → Option ℕ → Result ReplayContent Cause
@@ -51,13 +51,13 @@ line_added so_far (line.Row row) = row_added so_far row (push_fault so_far.rows 
 line_added so_far (line.Command tid command) = order_added so_far command (row_of so_far.rows tid)
 
 -- what one more line makes of the content so far, or its first fault
-abbrev pub line_read : ReplayContent → List ℕ → Result ReplayContent Cause
-line_read so_far line = with_cause (line_of (has_begun so_far) (words_in line)) >>= line_added so_far
+abbrev pub replay_line_read : ReplayContent → List ℕ → Result ReplayContent Cause
+replay_line_read so_far line = with_cause (replay_line_of (has_begun so_far) (words_in line)) >>= line_added so_far
 
 -- what lines make of the content before them, or their first fault; the first of them has number n
-abbrev pub content_after : (n : ℕ) → ReplayContent → List (List ℕ) → Result ReplayContent CaseError
-content_after n so_far lines = read_after (λ n. line_read) n so_far lines
+abbrev pub replay_content_after : (n : ℕ) → ReplayContent → List (List ℕ) → Result ReplayContent CaseError
+replay_content_after n so_far lines = read_after (λ n. replay_line_read) n so_far lines
 
 -- the content of a file, or its first fault
 abbrev pub content_of : List ℕ → Result ReplayContent CaseError
-content_of text = read_file (λ n. line_read) nothing text
+content_of text = read_file (λ n. replay_line_read) nothing text

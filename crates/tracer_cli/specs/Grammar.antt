@@ -18,25 +18,26 @@ use Rattle.trace_script.specs.RowWords.{id_of, row_of_words}
 use Rattle.tracer_cli.specs.declared.command.Command.TheVariants as command
 use Rattle.tracer_cli.specs.declared.grammar.Line.{Line}
 use Rattle.tracer_cli.specs.declared.grammar.Line.TheVariants as line
-use Rattle.tracer_cli.specs.declared.grammar.Keyword.{Keyword}
-use Rattle.tracer_cli.specs.declared.grammar.Keyword.TheVariants as keyword
+use Rattle.tracer_cli.specs.declared.grammar.ReplayKeyword.{ReplayKeyword}
+use Rattle.tracer_cli.specs.declared.grammar.ReplayKeyword.TheVariants as keyword
 use Rattle.tracer_cli.specs.declared.grammar.Numbered.{Numbered}
 use Rattle.tracer_cli.specs.declared.grammar.Numbered.TheVariants as numbered
-use Rattle.tracer_cli.specs.declared.grammar.Ending.{Ending}
-use Rattle.tracer_cli.specs.declared.grammar.Ending.TheVariants as ending
+use Rattle.tracer_cli.specs.declared.grammar.DeathWord.{DeathWord}
+use Rattle.tracer_cli.specs.declared.grammar.DeathWord.TheVariants as death_word
 use Rattle.tracer_cli.specs.Command.{IsCommand}
-use Rattle.tracer_cli.specs.declared.grammar.TheConstants.{ENDINGS, KEYWORDS, KINDS, NUMBERED_STOPS, PLAIN_STOPS}
+use Rattle.tracer_cli.specs.declared.grammar.TheConstants.{DEATH_STOPS, ENDINGS, KEYWORDS, KINDS, NUMBERED_STOPS}
+use Rattle.tracer_cli.specs.declared.grammar.TheConstants.{PLAIN_STOPS}
 
 -- ---- numbers in range
 
 -- one of the board's tracers
-abbrev pub tracer_of : List ℕ → Result ℕ LineFault
-tracer_of word = number_between 0 (TRACERS - 1) word
+abbrev pub tracer_number : List ℕ → Result ℕ LineFault
+tracer_number word = number_between 0 (TRACERS - 1) word
 
 -- ---- words
 
-abbrev pub keyword_of : List ℕ → Result Keyword LineFault
-keyword_of word = value_beside (map (λ row. (row.0.now, row.1)) KEYWORDS) word
+abbrev pub replay_keyword_of : List ℕ → Result ReplayKeyword LineFault
+replay_keyword_of word = value_beside (map (λ row. (row.0.now, row.1)) KEYWORDS) word
 
 -- the stops that are one word
 abbrev pub plain_stop : List ℕ → Result Stop LineFault
@@ -46,24 +47,28 @@ plain_stop word = value_beside (map (λ row. (row.0.now, row.1)) PLAIN_STOPS) wo
 abbrev pub numbered_stop : List ℕ → Result Numbered LineFault
 numbered_stop word = value_beside (map (λ row. (row.0.now, row.1)) NUMBERED_STOPS) word
 
+-- the stop that is a word and a death
+abbrev pub death_stop : List ℕ → Result (Unit {0}) LineFault
+death_stop word = value_beside (map (λ row. (row.0.now, row.1)) DEATH_STOPS) word
+
 abbrev pub kind_of : List ℕ → Result Kind LineFault
 kind_of word = value_beside (map (λ row. (row.0.now, row.1)) KINDS) word
 
-abbrev pub ending_of : List ℕ → Result Ending LineFault
-ending_of word = value_beside (map (λ row. (row.0.now, row.1)) ENDINGS) word
+abbrev pub ending_named : List ℕ → Result DeathWord LineFault
+ending_named word = value_beside (map (λ row. (row.0.now, row.1)) ENDINGS) word
 
 -- ---- numbers after words
 
-abbrev pub stop_of : Numbered → List ℕ → Result Stop LineFault
-stop_of numbered.Seccomp number = number_between 0 65535 number >>= λ n. Ok (stop.Seccomp n)
-stop_of numbered.Fork number = id_of number >>= λ n. Ok (stop.Fork n)
-stop_of numbered.Clone number = id_of number >>= λ n. Ok (stop.Clone n)
-stop_of numbered.Exec number = id_of number >>= λ n. Ok (stop.Exec n)
-stop_of numbered.Signal number = number_between 1 LAST_SIGNAL number >>= λ n. Ok (stop.Signal n)
+abbrev pub stop_with_number : Numbered → List ℕ → Result Stop LineFault
+stop_with_number numbered.Seccomp number = number_between 0 65535 number >>= λ n. Ok (stop.Seccomp n)
+stop_with_number numbered.Fork number = id_of number >>= λ n. Ok (stop.Fork n)
+stop_with_number numbered.Clone number = id_of number >>= λ n. Ok (stop.Clone n)
+stop_with_number numbered.Exec number = id_of number >>= λ n. Ok (stop.Exec n)
+stop_with_number numbered.Signal number = number_between 1 LAST_SIGNAL number >>= λ n. Ok (stop.Signal n)
 
-abbrev pub death_of : Ending → List ℕ → Result Death LineFault
-death_of ending.Exited number = number_between 0 255 number >>= λ n. Ok (death.Exited n)
-death_of ending.Killed number = number_between 1 LAST_SIGNAL number >>= λ n. Ok (death.Signaled n false)
+abbrev pub death_with_number : DeathWord → List ℕ → Result Death LineFault
+death_with_number death_word.Exited number = number_between 0 255 number >>= λ n. Ok (death.Exited n)
+death_with_number death_word.Killed number = number_between 1 LAST_SIGNAL number >>= λ n. Ok (death.Signaled n false)
 
 -- ---- lines
 
@@ -85,14 +90,23 @@ abbrev pub publish_numbered : (tid name number : List ℕ) → Result Line LineF
 publish_numbered tid name number = do
   w ← numbered_stop name
   t ← id_of tid
-  s ← stop_of w number
+  s ← stop_with_number w number
   Ok (line.Command t (command.Publish s))
+
+-- publish TID ending exited CODE, publish TID ending killed SIGNAL
+abbrev pub publish_ending : (tid name how number : List ℕ) → Result Line LineFault
+publish_ending tid name how number = do
+  u ← death_stop name
+  w ← ending_named how
+  t ← id_of tid
+  d ← death_with_number w number
+  Ok (line.Command t (command.Publish (stop.Ending d)))
 
 -- claim TID C
 abbrev pub claim_line : (tid tracer : List ℕ) → Result Line LineFault
 claim_line tid tracer = do
   t ← id_of tid
-  c ← tracer_of tracer
+  c ← tracer_number tracer
   Ok (line.Command t (command.Claim c))
 
 -- resume TID C KIND SIGNAL
@@ -100,16 +114,16 @@ abbrev pub resume_line : (tid tracer kind signal : List ℕ) → Result Line Lin
 resume_line tid tracer kind signal = do
   k ← kind_of kind
   t ← id_of tid
-  c ← tracer_of tracer
+  c ← tracer_number tracer
   s ← number_between 0 LAST_SIGNAL signal
   Ok (line.Command t (command.Resume c (record { kind = k; signal = s })))
 
 -- exit TID exited CODE, exit TID killed SIGNAL
 abbrev pub exit_line : (tid how number : List ℕ) → Result Line LineFault
 exit_line tid how number = do
-  w ← ending_of how
+  w ← ending_named how
   t ← id_of tid
-  d ← death_of w number
+  d ← death_with_number w number
   Ok (line.Command t (command.Exit d))
 
 -- state TID
@@ -122,35 +136,37 @@ abbrev pub publish_line : List (List ℕ) → Result Line LineFault
 publish_line words =
     if length words == 2 then publish_plain (nth_word words 0) (nth_word words 1)
     else if length words == 3 then publish_numbered (nth_word words 0) (nth_word words 1) (nth_word words 2)
+    else if length words == 4
+    then publish_ending (nth_word words 0) (nth_word words 1) (nth_word words 2) (nth_word words 3)
     else Err UnknownWord
 
 -- what follows the first word of a line
-abbrev pub rest_of : Keyword → List (List ℕ) → Result Line LineFault
-rest_of keyword.Row words =
+abbrev pub replay_rest_of : ReplayKeyword → List (List ℕ) → Result Line LineFault
+replay_rest_of keyword.Row words =
     if length words == 4 then row_line (nth_word words 0) (nth_word words 1) (nth_word words 2) (nth_word words 3)
     else Err UnknownWord
-rest_of keyword.Publish words = publish_line words
-rest_of keyword.Claim words =
+replay_rest_of keyword.Publish words = publish_line words
+replay_rest_of keyword.Claim words =
     if length words == 2 then claim_line (nth_word words 0) (nth_word words 1) else Err UnknownWord
-rest_of keyword.Resume words =
+replay_rest_of keyword.Resume words =
     if length words == 4 then resume_line (nth_word words 0) (nth_word words 1) (nth_word words 2) (nth_word words 3)
     else Err UnknownWord
-rest_of keyword.Exit words =
+replay_rest_of keyword.Exit words =
     if length words == 3 then exit_line (nth_word words 0) (nth_word words 1) (nth_word words 2) else Err UnknownWord
-rest_of keyword.State words = if length words == 1 then state_line (nth_word words 0) else Err UnknownWord
+replay_rest_of keyword.State words = if length words == 1 then state_line (nth_word words 0) else Err UnknownWord
 
 -- rows come before the first command
-abbrev pub in_place : (begun : Bool) → Keyword → Result Keyword LineFault
-in_place true keyword.Row = Err UnknownWord
-in_place begun word = Ok word
+abbrev pub replay_in_place : (begun : Bool) → ReplayKeyword → Result ReplayKeyword LineFault
+replay_in_place true keyword.Row = Err UnknownWord
+replay_in_place begun word = Ok word
 
 -- a line without words, and one whose first word begins with #, says nothing
-abbrev pub line_of : (begun : Bool) → List (List ℕ) → Result Line LineFault
-line_of begun [] = Ok line.Nothing
-line_of begun (first ∷ words) = if slice_index first 0 == 35 then Ok line.Nothing else do
-  k ← keyword_of first
-  w ← in_place begun k
-  rest_of w words
+abbrev pub replay_line_of : (begun : Bool) → List (List ℕ) → Result Line LineFault
+replay_line_of begun [] = Ok line.Nothing
+replay_line_of begun (first ∷ words) = if slice_index first 0 == 35 then Ok line.Nothing else do
+  k ← replay_keyword_of first
+  w ← replay_in_place begun k
+  replay_rest_of w words
 
 -- the command of a line is in range
 abbrev pub IsLine : Line → Type 0

@@ -25,17 +25,21 @@ six_hex status = padded_integral (format_spec 32 0 4 6 (2 ^ 64 - 1)) false [] (d
 abbrev pub at_status : (number status : ℕ) → List ℕ
 at_status number status = decimal number ++ (codes " 0x" ++ six_hex status)
 
+-- the name of a refusal; a row is named by its thread id
+abbrev pub refusal_name : List Row → Refused → List ℕ
+refusal_name rows refused.NoRow = codes "NoRow"
+refusal_name rows refused.Unborn = codes "Unborn"
+refusal_name rows refused.NotRunning = codes "NotRunning"
+refusal_name rows refused.NotTaken = codes "NotTaken"
+refusal_name rows refused.NotNext = codes "NotNext"
+refusal_name rows refused.Full = codes "Full"
+refusal_name rows refused.NotWaitable = codes "NotWaitable"
+refusal_name rows refused.NotClaimed = codes "NotClaimed"
+refusal_name rows refused.NotHolder = codes "NotHolder"
+refusal_name rows (refused.GroupAlive row) = codes "GroupAlive " ++ decimal (row_at rows row).tid
+
 abbrev pub refusal_text : List Row → Refused → List ℕ
-refusal_text rows refused.NoRow = codes "refused NoRow"
-refusal_text rows refused.Unborn = codes "refused Unborn"
-refusal_text rows refused.NotRunning = codes "refused NotRunning"
-refusal_text rows refused.NotTaken = codes "refused NotTaken"
-refusal_text rows refused.NotNext = codes "refused NotNext"
-refusal_text rows refused.Full = codes "refused Full"
-refusal_text rows refused.NotWaitable = codes "refused NotWaitable"
-refusal_text rows refused.NotClaimed = codes "refused NotClaimed"
-refusal_text rows refused.NotHolder = codes "refused NotHolder"
-refusal_text rows (refused.GroupAlive row) = codes "refused GroupAlive " ++ decimal (row_at rows row).tid
+refusal_text rows refusal = codes "refused " ++ refusal_name rows refusal
 
 abbrev pub published_text : List Row → Result ℕ Refused → List ℕ
 published_text rows (Ok number) = codes "published " ++ decimal number

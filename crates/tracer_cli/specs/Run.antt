@@ -5,15 +5,18 @@ use Rattle.std.specs.Io.KnownBytes.{Appends}
 use Rattle.trace_options.specs.Calls.{Calls}
 use Rattle.trace_script.specs.declared.cause.CaseError.{CaseError}
 use Rattle.tracer_cli.specs.declared.arguments.Request.{Request}
-use Rattle.tracer_cli.specs.declared.arguments.Request.TheVariants.{Replay, Run, Help}
+use Rattle.tracer_cli.specs.declared.arguments.Request.TheVariants.{Replay, Run, Explore, Help}
+use Rattle.tracer_cli.specs.declared.arguments.ExploreOptions.{ExploreOptions}
 use Rattle.tracer_cli.specs.declared.arguments.RunOptions.{RunOptions}
 use Rattle.tracer_cli.specs.declared.failure.Failure.{Failure}
 use Rattle.tracer_cli.specs.declared.failure.Failure.TheVariants.{Refused, Usage, NoText, UnknownCall, NoMemory}
-use Rattle.tracer_cli.specs.declared.failure.Failure.TheVariants.{CannotRead, CannotWrite, NoThreads}
-use Rattle.tracer_cli.specs.Arguments.{AreOptionsOf}
+use Rattle.tracer_cli.specs.declared.failure.Failure.TheVariants.{CannotRead, CannotWrite, NoThreads, Forbidden}
+use Rattle.tracer_cli.specs.Arguments.{AreExploreOptionsOf, AreOptionsOf}
 use Rattle.tracer_cli.specs.CaseText.{case_text_of, config_of}
 use Rattle.tracer_cli.specs.CutOff.{IsBegun, IsCutOff}
+use Rattle.tracer_cli.specs.Explored.{PrintsOutcomes}
 use Rattle.tracer_cli.specs.Failure.{failure_status, failure_text}
+use Rattle.tracer_cli.specs.LitmusFile.{litmus_content_of}
 use Rattle.trace_script.specs.Reading.{most_bytes}
 use Rattle.tracer_cli.specs.Replay.{replay_of}
 use Rattle.tracer_cli.specs.Shown.{AreShown, unknown_name}
@@ -44,6 +47,8 @@ LeavesInput (Replay (Some file)) before after = after ≡ before
 LeavesInput (Replay None) before after = Unit {0}
 LeavesInput (Run options (Some file)) before after = after ≡ before
 LeavesInput (Run options None) before after = Unit {0}
+LeavesInput (Explore options (Some file)) before after = after ≡ before
+LeavesInput (Explore options None) before after = Unit {0}
 
 -- ---- printing, once a file is read
 
@@ -93,22 +98,42 @@ RunsNamed words text before after (Err NoMemory) = Unit {0}
 RunsNamed words text before after result =
     (options : RunOptions) × AreOptionsOf words options × Runs options text before after result
 
--- help is printed, or what standard input has is replayed or run, where its bytes are known; of a file that is named,
--- some bytes are, since nothing is known of what it has
-abbrev pub Answers : Request → (input : Option (List ℕ)) → (before after : Option (List ℕ))
+-- the outcomes of a litmus file are printed, or it cannot be read
+abbrev pub Explores : ExploreOptions → (text : List ℕ) → (before after : Option (List ℕ)) → Result (Unit {0}) Failure
+    → Type 0
+Explores options text before after (Err CannotRead) = Unit {0}
+Explores options text before after result = PrintsOutcomes options (litmus_content_of text) before after result
+
+-- the same by the options that words name, if there is memory
+abbrev pub ExploresNamed : (words : List (List ℕ)) → (text : List ℕ) → (before after : Option (List ℕ))
     → Result (Unit {0}) Failure → Type 0
-Answers (Help text) input before after result = Writes (string_bytes text) before after result
-Answers (Replay None) input before after result = IfSome input (λ text. Replays text before after result)
-Answers (Replay (Some file)) input before after result = (text : List ℕ) × Replays text before after result
-Answers (Run options None) input before after result = IfSome input (λ text. Runs options text before after result)
-Answers (Run options (Some file)) input before after result = (text : List ℕ) × Runs options text before after result
+ExploresNamed words text before after (Err NoMemory) = Unit {0}
+ExploresNamed words text before after result =
+    (options : ExploreOptions) × AreExploreOptionsOf words options × Explores options text before after result
+
+-- help is printed, or what standard input has is replayed, run or explored, where its bytes are known; of a file that is
+-- named, some bytes are, since nothing is known of what it has
+abbrev pub AnswersRequest : Request → (input : Option (List ℕ)) → (before after : Option (List ℕ))
+    → Result (Unit {0}) Failure → Type 0
+AnswersRequest (Help text) input before after result = Writes (string_bytes text) before after result
+AnswersRequest (Replay None) input before after result = IfSome input (λ text. Replays text before after result)
+AnswersRequest (Replay (Some file)) input before after result = (text : List ℕ) × Replays text before after result
+AnswersRequest (Run options None) input before after result =
+    IfSome input (λ text. Runs options text before after result)
+AnswersRequest (Run options (Some file)) input before after result =
+    (text : List ℕ) × Runs options text before after result
+AnswersRequest (Explore options None) input before after result =
+    IfSome input (λ text. Explores options text before after result)
+AnswersRequest (Explore options (Some file)) input before after result =
+    (text : List ℕ) × Explores options text before after result
 
 -- ---- how the program ends
 
--- nothing was written, unless the run is done or a write failed
+-- nothing was written, unless the run is done, a write failed, or the answer is that the replies are forbidden
 abbrev pub IsUnwritten : {A : Type 0} → (before after : A) → Result (Unit {0}) Failure → Type 0
 IsUnwritten before after (Ok done) = Unit {0}
 IsUnwritten before after (Err CannotWrite) = Unit {0}
+IsUnwritten before after (Err Forbidden) = Unit {0}
 IsUnwritten before after (Err failure) = after ≡ before
 
 -- the exit status of a run

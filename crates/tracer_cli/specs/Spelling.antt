@@ -25,6 +25,11 @@ use Rattle.tracer_cli.specs.File.{ReplayContent}
 abbrev pub row_words : Row → List (List ℕ)
 row_words row = codes "row" ∷ spelled_row row
 
+-- a file has no word for a core dump
+abbrev pub death_words : Death → List (List ℕ)
+death_words (death.Exited code) = codes "exited" ∷ decimal code ∷ []
+death_words (death.Signaled signal core) = codes "killed" ∷ decimal signal ∷ []
+
 abbrev pub stop_words : Stop → List (List ℕ)
 stop_words stop.Start = codes "start" ∷ []
 stop_words stop.Enter = codes "enter" ∷ []
@@ -34,23 +39,23 @@ stop_words (stop.Fork child) = codes "fork" ∷ decimal child ∷ []
 stop_words (stop.Clone child) = codes "clone" ∷ decimal child ∷ []
 stop_words (stop.Exec former) = codes "exec" ∷ decimal former ∷ []
 stop_words (stop.Signal signal) = codes "signal" ∷ decimal signal ∷ []
+stop_words (stop.Ending death) = codes "ending" ∷ death_words death
 
 abbrev pub kind_word : Kind → List ℕ
 kind_word kind.Syscall = codes "syscall"
 kind_word kind.Cont = codes "cont"
 
--- a file has no word for a core dump
-abbrev pub death_words : Death → List (List ℕ)
-death_words (death.Exited code) = codes "exited" ∷ decimal code ∷ []
-death_words (death.Signaled signal core) = codes "killed" ∷ decimal signal ∷ []
+-- the words of a command, with the word for its tracee
+abbrev pub words_about : (tracee : List ℕ) → Command → List (List ℕ)
+words_about tracee (command.Publish stop) = codes "publish" ∷ tracee ∷ stop_words stop
+words_about tracee (command.Claim tracer) = codes "claim" ∷ tracee ∷ decimal tracer ∷ []
+words_about tracee (command.Resume tracer how) =
+    codes "resume" ∷ tracee ∷ decimal tracer ∷ kind_word how.kind ∷ decimal how.signal ∷ []
+words_about tracee (command.Exit death) = codes "exit" ∷ tracee ∷ death_words death
+words_about tracee command.State = codes "state" ∷ tracee ∷ []
 
 abbrev pub command_words : (tid : ℕ) → Command → List (List ℕ)
-command_words tid (command.Publish stop) = codes "publish" ∷ decimal tid ∷ stop_words stop
-command_words tid (command.Claim tracer) = codes "claim" ∷ decimal tid ∷ decimal tracer ∷ []
-command_words tid (command.Resume tracer how) =
-    codes "resume" ∷ decimal tid ∷ decimal tracer ∷ kind_word how.kind ∷ decimal how.signal ∷ []
-command_words tid (command.Exit death) = codes "exit" ∷ decimal tid ∷ death_words death
-command_words tid command.State = codes "state" ∷ decimal tid ∷ []
+command_words tid command = words_about (decimal tid) command
 
 -- an order names its row by the row's tid
 abbrev pub order_words : List Row → Order → List (List ℕ)
@@ -71,6 +76,10 @@ spelling content = rows_text content.rows ++ orders_text content.rows content.or
 
 -- ---- what can be spelled
 
+abbrev pub IsSpelledDeath : Death → Type 0
+IsSpelledDeath (death.Exited code) = Unit {0}
+IsSpelledDeath (death.Signaled signal core) = core ≡ false
+
 -- the ranges of a stop that a file can write, beside those of IsStop
 abbrev pub IsSpelledStop : Stop → Type 0
 IsSpelledStop stop.Start = Unit {0}
@@ -81,24 +90,21 @@ IsSpelledStop (stop.Fork child) = IsTrue (is_id child)
 IsSpelledStop (stop.Clone child) = IsTrue (is_id child)
 IsSpelledStop (stop.Exec former) = IsTrue (is_id former)
 IsSpelledStop (stop.Signal signal) = Unit {0}
-
-abbrev pub IsSpelledDeath : Death → Type 0
-IsSpelledDeath (death.Exited code) = Unit {0}
-IsSpelledDeath (death.Signaled signal core) = core ≡ false
+IsSpelledStop (stop.Ending death) = IsSpelledDeath death
 
 -- the ranges of a command that a file can write, beside those of IsCommand
-abbrev pub IsSpelled : Command → Type 0
-IsSpelled (command.Publish stop) = IsSpelledStop stop
-IsSpelled (command.Claim tracer) = tracer < TRACERS
-IsSpelled (command.Resume tracer how) = tracer < TRACERS
-IsSpelled (command.Exit death) = IsSpelledDeath death
-IsSpelled command.State = Unit {0}
+abbrev pub IsSpelledCommand : Command → Type 0
+IsSpelledCommand (command.Publish stop) = IsSpelledStop stop
+IsSpelledCommand (command.Claim tracer) = tracer < TRACERS
+IsSpelledCommand (command.Resume tracer how) = tracer < TRACERS
+IsSpelledCommand (command.Exit death) = IsSpelledDeath death
+IsSpelledCommand command.State = Unit {0}
 
 -- an order to one of the rows
 pub record IsOrderOf (rows : List Row) (order : Order) : Type 0 where
   pub there : order.row < length rows
   pub in_range : IsCommand order.command
-  pub spelled : IsSpelled order.command
+  pub spelled : IsSpelledCommand order.command
 
 -- what a file can say
 pub record IsContent (content : ReplayContent) : Type 0 where

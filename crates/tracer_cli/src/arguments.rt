@@ -1,11 +1,12 @@
 //! The command line.
 
-ghost use Rattle.std.specs.Prelude.{◌≡◌, ◌≤◌, IfErr, IfOk, IsTrue, false, map, true};
+ghost use Rattle.std.specs.Prelude.{◌≡◌, ◌≤◌, IfErr, IfOk, IsTrue, Some, false, map, true};
 ghost use Rattle.clap.specs.Words.{app_of, found_of, kind_of, one_text, rows_of, rule_of, subcommand_rows_of, takes};
 ghost use Rattle.clap.specs.declared.builder.command.Command.TheViews.{out-Command};
-ghost use Rattle.tracer_cli.specs.Arguments.{AreOptions, IsAskedBy, IsFailureBy, IsHelp, IsNamed, IsNumber};
-ghost use Rattle.tracer_cli.specs.Arguments.{IsTaken, file_rule, follow_rule, limit_rule, names_rule, replay_app, run_app};
-ghost use Rattle.tracer_cli.specs.Arguments.{seccomp_rule, shows_text, tracer_app, workers_rule};
+ghost use Rattle.tracer_cli.specs.Arguments.{AreExploreOptions, AreOptions, IsAskedBy, IsFailureBy, IsHelp, IsNamed};
+ghost use Rattle.tracer_cli.specs.Arguments.{IsNumber, IsOptionalNumber, IsTakenRequest, budget_rule, explore_app};
+ghost use Rattle.tracer_cli.specs.Arguments.{file_rule, follow_rule, limit_rule, names_rule, outcome_rule, replay_app};
+ghost use Rattle.tracer_cli.specs.Arguments.{run_app, seccomp_rule, shows_text, tracer_app, workers_rule};
 
 use crate::failure::Failure;
 use clap::error::ErrorKind;
@@ -16,24 +17,35 @@ use stop_board::TRACERS;
 /// The most bytes of a string, and the most entries of an array, that a run can be told to print.
 const MOST_SHOWN: u32 = 65_536;
 
+/// The most places that a program can be told to search, and the last outcome that it can be told to show.
+const MOST_PLACES: u32 = 100_000_000;
+
 /// What the program's help says at its end: examples, the exit statuses, and where the formats are described.
 const AFTER_HELP: &'static str = "Examples:
   tracer run -f examples/run/fork.case
   tracer replay examples/replay/first
+  tracer explore examples/explore/race.litmus
 
 Exit status:
   0  done
   1  the file is refused
   2  the command line is wrong, or -e names an unknown call
   3  out of memory, or something cannot be read or written
+  4  no order of the commands has the replies, or no outcome has the number
 
-The formats of case files and replay files: docs/FORMATS.md";
+The formats of case files, replay files and litmus files: docs/FORMATS.md";
 
 /// The same of `tracer replay`.
 const AFTER_REPLAY: &'static str = "Example:
   tracer replay examples/replay/first
 
 The format of replay files: docs/FORMATS.md";
+
+/// The same of `tracer explore`.
+const AFTER_EXPLORE: &'static str = "Example:
+  tracer explore examples/explore/race.litmus
+
+The format of litmus files, and of the printed outcomes: docs/FORMATS.md";
 
 /// The same of `tracer run`.
 const AFTER_RUN: &'static str = "Example:
@@ -56,6 +68,15 @@ pub(crate) struct RunOptions<'a> {
     pub(crate) names: Option<&'a str>,
 }
 
+/// The options of `tracer explore`.
+#[derive(Clone, Copy, Debug)]
+pub(crate) struct ExploreOptions {
+    /// `--budget`: how many places are searched at most, 1 to 100,000,000.
+    pub(crate) budget: u32,
+    /// `--replay`: the outcome whose order is printed as a replay file, 1 to 100,000,000; all outcomes without it.
+    pub(crate) outcome: Option<u32>,
+}
+
 /// What the command line asks for.
 #[derive(Debug, Drop)]
 pub(crate) enum Request<'a> {
@@ -68,6 +89,11 @@ pub(crate) enum Request<'a> {
         options: RunOptions<'a>,
         file: Option<&'a str>,
     },
+    /// The outcomes of a litmus file, named as a replay file is.
+    Explore {
+        options: ExploreOptions,
+        file: Option<&'a str>,
+    },
     /// Help or the version, with its text.
     Help(String),
 }
@@ -78,7 +104,7 @@ pub(crate) fn read_arguments<'a>(
     words: &'a [&'a str],
 ) -> Result<Request<'a>, Failure>
     ensures words { IsAskedBy (map (λ word. word.now) words.now) result }
-    ensures taken { takes tracer_app (map (λ word. word.now) words.now) ≡ true → IsTaken result }
+    ensures taken { takes tracer_app (map (λ word. word.now) words.now) ≡ true → IsTakenRequest result }
 {
     let command = tracer(alloc)?;
     match command.try_get_matches_from(words) {
@@ -92,15 +118,29 @@ fn named_request<'a>(matches: &ArgMatches<'a>) -> Request<'a>
     ensures { IsNamed (subcommand_rows_of matches.now) result }
 {
     match matches.subcommand() {
-        Some((name, run)) if name == "run" => Request::Run {
-            options: run_options(run),
-            file: run.get_str("FILE"),
-        },
-        Some((_, replay)) => Request::Replay {
-            file: replay.get_str("FILE"),
-        },
+        Some((name, found)) => request_of(name, found),
         None => Request::Replay { file: None },
     }
+}
+
+/// The request of a subcommand, by its name and what was found for its arguments.
+fn request_of<'a>(name: &str, found: &ArgMatches<'a>) -> Request<'a>
+    ensures { IsNamed (Some (name.now, rows_of (found_of found.now))) result }
+{
+    let file = found.get_str("FILE");
+    if name == "run" {
+        return Request::Run {
+            options: run_options(found),
+            file,
+        };
+    }
+    if name == "explore" {
+        return Request::Explore {
+            options: explore_options(found),
+            file,
+        };
+    }
+    Request::Replay { file }
 }
 
 /// The options of a run, by what was found for its arguments.
@@ -114,6 +154,25 @@ fn run_options<'a>(matches: &ArgMatches<'a>) -> RunOptions<'a>
         limit: number(matches, "limit", 0, MOST_SHOWN),
         names: matches.get_str("names"),
     }
+}
+
+/// The options of an exploration, by what was found for its arguments.
+fn explore_options(matches: &ArgMatches) -> ExploreOptions
+    ensures { AreExploreOptions (rows_of (found_of matches.now)) result }
+{
+    ExploreOptions {
+        budget: number(matches, "budget", 1, MOST_PLACES),
+        outcome: place(matches, "replay", MOST_PLACES),
+    }
+}
+
+/// A number from 1 that clap has found in its range, if there is one.
+fn place(matches: &ArgMatches, id: &str, most: u32) -> Option<u32>
+    requires { 1 ≤ most }
+    ensures { IsOptionalNumber most (one_text (found_of matches.now) id.now) result }
+{
+    let found = matches.get_one::<u32>(id)?;
+    Some(found.clamp(1, most))
 }
 
 /// A number that clap has found in its range. That it is there, and in the range, clap's contract does not say of a
@@ -148,13 +207,15 @@ fn tracer<'a>(alloc: Global) -> Result<Command<'a>, AllocError>
 {
     let replay = replay_command(alloc)?;
     let run = run_command(alloc)?;
+    let explore = explore_command(alloc)?;
     Command::new(alloc, "tracer")
         .about("Traces the system calls of scripted tracees; no real process is traced")
         .after_help(AFTER_HELP)
         .version("0.1.0")
         .subcommand_required(true)
         .subcommand(replay)?
-        .subcommand(run)
+        .subcommand(run)?
+        .subcommand(explore)
 }
 
 fn replay_command<'a>(alloc: Global) -> Result<Command<'a>, AllocError>
@@ -164,6 +225,18 @@ fn replay_command<'a>(alloc: Global) -> Result<Command<'a>, AllocError>
     Command::new(alloc, "replay")
         .about("Prints the stop board's reply to each command of a replay file")
         .after_help(AFTER_REPLAY)
+        .arg(file(alloc))
+}
+
+fn explore_command<'a>(alloc: Global) -> Result<Command<'a>, AllocError>
+    ensures app { IfOk result (λ command. app_of command ≡ explore_app) }
+    ensures own { IfOk result (λ command. (out-Command command).has_globals ≡ false) }
+{
+    Command::new(alloc, "explore")
+        .about("Prints every outcome that the threads of a litmus file can have, each once")
+        .after_help(AFTER_EXPLORE)
+        .arg(budget(alloc))?
+        .arg(outcome(alloc))?
         .arg(file(alloc))
 }
 
@@ -254,4 +327,29 @@ fn names<'a>(alloc: Global) -> Arg<'a>
         .help(
             "The calls to print: names with commas between them, after trace= or not [default: all]",
         )
+}
+
+fn budget<'a>(alloc: Global) -> Arg<'a>
+    ensures rule { rule_of result ≡ budget_rule }
+    ensures own { result.global ≡ false }
+{
+    Arg::new(alloc, "budget")
+        .long("budget")
+        .action(ArgAction::Set)
+        .value_name("N")
+        .value_parser(value_parser!(u32).range(1..=MOST_PLACES as i64))
+        .default_value("1000000")
+        .help("How many places are searched at most, 1 to 100000000")
+}
+
+fn outcome<'a>(alloc: Global) -> Arg<'a>
+    ensures rule { rule_of result ≡ outcome_rule }
+    ensures own { result.global ≡ false }
+{
+    Arg::new(alloc, "replay")
+        .long("replay")
+        .action(ArgAction::Set)
+        .value_name("K")
+        .value_parser(value_parser!(u32).range(1..=MOST_PLACES as i64))
+        .help("Print the order of outcome K, 1 to 100000000, as a replay file")
 }

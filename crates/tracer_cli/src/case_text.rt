@@ -33,6 +33,7 @@ pub(crate) fn run_config(alloc: Global, options: &RunOptions) -> Result<Config, 
     Ok(Config {
         follow: options.follow,
         seccomp: options.seccomp,
+        exits: false,
         workers: options.workers,
         limit: options.limit,
         shown,

@@ -2,10 +2,10 @@
 
 ghost use Rattle.std.specs.Prelude.{◌≡◌, ◌≤◌, ◌⊎◌, IfErr, IfOk, IfSome, map, string_bytes};
 ghost use Rattle.std.specs.IoError.{error_kind};
-ghost use Rattle.tracer_cli.specs.Arguments.{AskReplay, AskRun};
+ghost use Rattle.tracer_cli.specs.Arguments.{AskExplore, AskReplay, AskRun};
 ghost use Rattle.tracer_cli.specs.CutOff.{IsBegun};
 ghost use Rattle.tracer_cli.specs.Failure.{failure_at, failure_status, failure_text};
-ghost use Rattle.tracer_cli.specs.Run.{Ends, IsUnread, IsUnwritten, Replays, RunsNamed};
+ghost use Rattle.tracer_cli.specs.Run.{Ends, ExploresNamed, IsUnread, IsUnwritten, Replays, RunsNamed};
 
 use crate::arguments::read_arguments;
 use crate::failure::{Failure, arguments_failure};
@@ -26,7 +26,7 @@ pub fn process<H: Files + AllocGlobal + Threads + Wait + Clock + Sync, R: Read, 
     output: &mut W,
     errors: &mut E,
 ) -> u8
-    ensures status { result ≤ 3 }
+    ensures status { result ≤ 4 }
     ensures failed { IfErr words (λ error. result ≡ failure_status (failure_at (error_kind error) Failure.NoText)) }
     ensures told { IfErr words (λ error. IsBegun (E.contents errors.old) (E.contents errors.new)
         (failure_text (failure_at (error_kind error) Failure.NoText))) }
@@ -47,6 +47,12 @@ pub fn process<H: Files + AllocGlobal + Threads + Wait + Clock + Sync, R: Read, 
         IfSome (R.remaining input.old) (λ text.
         Ends (RunsNamed (map string_bytes words.items) text (W.contents output.old) (W.contents output.new))
         (E.contents errors.old) (E.contents errors.new) result)) }
+
+    // The words of an exploration of standard input, where what it has is known.
+    ensures explore { IfOk words (λ words. AskExplore (map string_bytes words.items) →
+        IfSome (R.remaining input.old) (λ text.
+        Ends (ExploresNamed (map string_bytes words.items) text (W.contents output.old) (W.contents output.new))
+        (E.contents errors.old) (E.contents errors.new) result)) }
 {
     match words {
         Ok(words) => program(rt, words.as_slice(), input, output, errors),
@@ -55,8 +61,8 @@ pub fn process<H: Files + AllocGlobal + Threads + Wait + Clock + Sync, R: Read, 
 }
 
 /// Runs the program on its words, the program's name first, with standard input, output and error. Returns the exit
-/// status: 0 where it is done or help was asked for, 1 where the file is refused, 2 for a wrong command line, 3
-/// otherwise. A failed write to standard error does not change it, and is not tried again: a beginning of the message
+/// status: 0 where it is done or help was asked for, 1 where the file is refused, 2 for a wrong command line, 4 where a
+/// program has no outcome with the replies of its file, or of the number asked for, 3 otherwise. A failed write to standard error does not change it, and is not tried again: a beginning of the message
 /// is written then.
 pub fn program<H: Files + AllocGlobal + Threads + Wait + Clock + Sync, R: Read, W: Write, E: Write>(
     rt: &H,
@@ -65,7 +71,7 @@ pub fn program<H: Files + AllocGlobal + Threads + Wait + Clock + Sync, R: Read, 
     output: &mut W,
     errors: &mut E,
 ) -> u8
-    ensures status { result ≤ 3 }
+    ensures status { result ≤ 4 }
     ensures unwritten { (result ≡ 1) ⊎ (result ≡ 2) → output.new ≡ output.old }
     ensures output { Ends (IsUnwritten output.old output.new) (E.contents errors.old) (E.contents errors.new) result }
     ensures quiet { result ≡ 0 → errors.new ≡ errors.old }
@@ -81,6 +87,11 @@ pub fn program<H: Files + AllocGlobal + Threads + Wait + Clock + Sync, R: Read, 
     // The words of a run of standard input, where what it has is known.
     ensures run { AskRun (map string_bytes words.now) → IfSome (R.remaining input.old) (λ text.
         Ends (RunsNamed (map string_bytes words.now) text (W.contents output.old) (W.contents output.new))
+        (E.contents errors.old) (E.contents errors.new) result) }
+
+    // The words of an exploration of standard input, where what it has is known.
+    ensures explore { AskExplore (map string_bytes words.now) → IfSome (R.remaining input.old) (λ text.
+        Ends (ExploresNamed (map string_bytes words.now) text (W.contents output.old) (W.contents output.new))
         (E.contents errors.old) (E.contents errors.new) result) }
 {
     match run(rt, words, input, output) {
@@ -112,6 +123,8 @@ fn run<H: Files + AllocGlobal + Threads + Wait + Clock + Sync, R: Read, W: Write
         Replays text (W.contents output.old) (W.contents output.new) result) }
     ensures run { AskRun (map string_bytes words.now) → IfSome (R.remaining input.old) (λ text.
         RunsNamed (map string_bytes words.now) text (W.contents output.old) (W.contents output.new) result) }
+    ensures explore { AskExplore (map string_bytes words.now) → IfSome (R.remaining input.old) (λ text.
+        ExploresNamed (map string_bytes words.now) text (W.contents output.old) (W.contents output.new) result) }
 {
     let alloc = rt.alloc();
     let words = texts_of(alloc, words)?;

@@ -10,6 +10,8 @@ use crate::parts::{CutOff, write_part, write_parts};
 use itoa::Buffer;
 use std::alloc::{AllocError, AllocFailed};
 use std::io::{self, ErrorKind, Write};
+use stop_board::NoMemory;
+use stop_explorer::ExploreError;
 use trace_script::{CaseError, Cause};
 use tracer_workers::RunError;
 
@@ -34,12 +36,18 @@ pub enum Failure {
     LostStop,
     /// The threads of a run could not be started.
     NoThreads,
+    /// A program has more places than are searched.
+    TooManyPlaces,
+    /// A program has no outcome of this number.
+    NoOutcome(u32),
+    /// No order of a program's commands has the replies of its file. That is the answer, and it is printed.
+    Forbidden,
 }
 
 impl Failure {
     ghost use Rattle.tracer_cli.specs.Failure.{failure_status};
 
-    /// The exit status: 1 for a refused file, 2 for the command line, 3 otherwise.
+    /// The exit status: 1 for a refused file, 2 for the command line, 4 where there is no such outcome, 3 otherwise.
     pub fn status(&self) -> u8
         ensures { result ≡ failure_status self.now }
     {
@@ -50,7 +58,9 @@ impl Failure {
             | Failure::CannotRead
             | Failure::CannotWrite
             | Failure::LostStop
-            | Failure::NoThreads => 3,
+            | Failure::NoThreads
+            | Failure::TooManyPlaces => 3,
+            Failure::NoOutcome(_) | Failure::Forbidden => 4,
         }
     }
 
@@ -74,6 +84,9 @@ impl Failure {
             Failure::CannotWrite => write_part("tracer: cannot write\n", errors),
             Failure::LostStop => write_part("tracer: lost stop\n", errors),
             Failure::NoThreads => write_part("tracer: cannot start threads\n", errors),
+            Failure::TooManyPlaces => write_part("tracer: too many places\n", errors),
+            Failure::NoOutcome(number) => report_no_outcome(*number, errors),
+            Failure::Forbidden => write_part("", errors),
         }
     }
 }
@@ -88,6 +101,18 @@ fn report_refusal<E: Write>(error: &CaseError, errors: &mut E) -> Result<(), Cut
     let mut digits = Buffer::new();
     let line = digits.format(error.line);
     let parts = in_five("tracer: line ", line, ": ", error.cause.name(), "\n");
+    write_parts(&parts, errors)
+}
+
+/// Writes that a program has no outcome of this number.
+fn report_no_outcome<E: Write>(number: u32, errors: &mut E) -> Result<(), CutOff>
+    ensures ok { OnOk result (Appends (E.contents errors.old) (E.contents errors.new)
+        (failure_text (Failure.NoOutcome number))) }
+    ensures cut_off { IfErr result (λ _.
+        IsCutOff (E.contents errors.old) (E.contents errors.new) (failure_text (Failure.NoOutcome number))) }
+{
+    let mut digits = Buffer::new();
+    let parts = in_five("tracer: no outcome ", digits.format(number), "\n", "", "");
     write_parts(&parts, errors)
 }
 
@@ -121,6 +146,29 @@ impl<T: Drop> From<AllocFailed<T>> for Failure {
 
     fn from(_error: AllocFailed<T>) -> Failure {
         Failure::NoMemory
+    }
+}
+
+impl From<NoMemory> for Failure {
+    ghost use Rattle.tracer_cli.specs.declared.failure.Failure.TheVariants as failure;
+
+    ghost from_gives = { λ _ e. e ≡ failure.NoMemory };
+
+    fn from(_error: NoMemory) -> Failure {
+        Failure::NoMemory
+    }
+}
+
+impl From<ExploreError> for Failure {
+    ghost use Rattle.tracer_cli.specs.Failure.{failure_of_search};
+
+    ghost from_gives = { λ error e. e ≡ failure_of_search error };
+
+    fn from(error: ExploreError) -> Failure {
+        match error {
+            ExploreError::TooMany => Failure::TooManyPlaces,
+            ExploreError::NoMemory => Failure::NoMemory,
+        }
     }
 }
 

@@ -1,13 +1,15 @@
 //! What a line of a replay file says, by its words. All words are looked at before any number.
 
-ghost use Rattle.std.specs.Prelude.{◌≡◌, map, IfOk};
+ghost use Rattle.std.specs.Prelude.{◌≡◌, ◌<◌, map, IfOk};
+ghost use Rattle.stop_history.specs.declared.limits.TheConstants.{TRACERS};
 ghost use Rattle.trace_record.specs.Death.{IsDeath};
 ghost use Rattle.trace_record.specs.Stop.{IsStop};
 ghost use Rattle.text_lines.specs.Lines.{words_in};
-ghost use Rattle.tracer_cli.specs.Grammar.{IsLine, claim_line, death_of, exit_line, in_place, line_of};
-ghost use Rattle.tracer_cli.specs.Grammar.{publish_line, publish_numbered, publish_plain, rest_of, resume_line};
-ghost use Rattle.tracer_cli.specs.Grammar.{row_line};
-ghost use Rattle.tracer_cli.specs.Grammar.{state_line, stop_of, tracer_of};
+ghost use Rattle.tracer_cli.specs.Grammar.{IsLine, claim_line, death_with_number, exit_line, publish_line};
+ghost use Rattle.tracer_cli.specs.Grammar.{publish_ending, publish_numbered, publish_plain, replay_in_place};
+ghost use Rattle.tracer_cli.specs.Grammar.{replay_line_of};
+ghost use Rattle.tracer_cli.specs.Grammar.{replay_rest_of, resume_line, row_line, state_line, stop_with_number};
+ghost use Rattle.tracer_cli.specs.Grammar.{tracer_number};
 
 use crate::command::Command;
 use stop_board::{Row, TRACERS};
@@ -29,7 +31,7 @@ pub(crate) enum Line {
 
 /// The first word of a line.
 #[derive(Clone, Copy, Debug, PartialEq, Eq)]
-pub(crate) enum Keyword {
+pub(crate) enum ReplayKeyword {
     Row,
     Publish,
     Claim,
@@ -50,7 +52,7 @@ pub(crate) enum Numbered {
 
 /// A death's word.
 #[derive(Clone, Copy, Debug, PartialEq, Eq)]
-pub(crate) enum Ending {
+pub(crate) enum DeathWord {
     Exited,
     Killed,
 }
@@ -59,13 +61,13 @@ pub(crate) enum Ending {
 const WORDS_LOOKED_AT: usize = 6;
 
 /// The first words of lines.
-const KEYWORDS: [(&str, Keyword); 6] = [
-    ("row", Keyword::Row),
-    ("publish", Keyword::Publish),
-    ("claim", Keyword::Claim),
-    ("resume", Keyword::Resume),
-    ("exit", Keyword::Exit),
-    ("state", Keyword::State),
+const KEYWORDS: [(&str, ReplayKeyword); 6] = [
+    ("row", ReplayKeyword::Row),
+    ("publish", ReplayKeyword::Publish),
+    ("claim", ReplayKeyword::Claim),
+    ("resume", ReplayKeyword::Resume),
+    ("exit", ReplayKeyword::Exit),
+    ("state", ReplayKeyword::State),
 ];
 
 /// The stops that are one word.
@@ -84,15 +86,21 @@ const NUMBERED_STOPS: [(&str, Numbered); 5] = [
     ("signal", Numbered::Signal),
 ];
 
+/// The stops that are a word and a death: there is one.
+const DEATH_STOPS: [(&str, ()); 1] = [("ending", ())];
+
 /// The kinds of restart.
-const KINDS: [(&str, Kind); 2] = [("syscall", Kind::Syscall), ("cont", Kind::Cont)];
+pub(crate) const KINDS: [(&str, Kind); 2] = [("syscall", Kind::Syscall), ("cont", Kind::Cont)];
 
 /// The words of deaths.
-const ENDINGS: [(&str, Ending); 2] = [("exited", Ending::Exited), ("killed", Ending::Killed)];
+const ENDINGS: [(&str, DeathWord); 2] = [
+    ("exited", DeathWord::Exited),
+    ("killed", DeathWord::Killed),
+];
 
 /// What a line says, where commands have begun or not, or its first fault.
 pub(crate) fn read_line(begun: bool, line: &[u8]) -> Result<Line, LineFault>
-    ensures line { result ≡ line_of begun (words_in line.now) }
+    ensures line { result ≡ replay_line_of begun (words_in line.now) }
     ensures range { IfOk result IsLine }
 {
     let mut words: [&[u8]; WORDS_LOOKED_AT] = [&[]; WORDS_LOOKED_AT];
@@ -102,7 +110,7 @@ pub(crate) fn read_line(begun: bool, line: &[u8]) -> Result<Line, LineFault>
 
 /// What the words of a line say, where commands have begun or not.
 fn read_words(begun: bool, words: &[&[u8]]) -> Result<Line, LineFault>
-    ensures line { result ≡ line_of begun (map (λ w. w.now) words.now) }
+    ensures line { result ≡ replay_line_of begun (map (λ w. w.now) words.now) }
     ensures range { IfOk result IsLine }
 {
     match words {
@@ -116,39 +124,39 @@ fn read_words(begun: bool, words: &[&[u8]]) -> Result<Line, LineFault>
 }
 
 /// Rows come before the first command.
-fn in_place(begun: bool, keyword: Keyword) -> Result<Keyword, LineFault>
-    ensures { result ≡ in_place begun keyword }
+fn in_place(begun: bool, keyword: ReplayKeyword) -> Result<ReplayKeyword, LineFault>
+    ensures { result ≡ replay_in_place begun keyword }
 {
     match keyword {
-        Keyword::Row if begun => Err(LineFault::UnknownWord),
+        ReplayKeyword::Row if begun => Err(LineFault::UnknownWord),
         keyword => Ok(keyword),
     }
 }
 
 /// What a line says, by the words after its first one.
-fn rest_of(keyword: Keyword, words: &[&[u8]]) -> Result<Line, LineFault>
-    ensures line { result ≡ rest_of keyword (map (λ w. w.now) words.now) }
+pub(crate) fn rest_of(keyword: ReplayKeyword, words: &[&[u8]]) -> Result<Line, LineFault>
+    ensures line { result ≡ replay_rest_of keyword (map (λ w. w.now) words.now) }
     ensures range { IfOk result IsLine }
 {
     match keyword {
-        Keyword::Row => match words {
+        ReplayKeyword::Row => match words {
             [tid, tgid, pgid, parent] => row_line(tid, tgid, pgid, parent),
             _ => Err(LineFault::UnknownWord),
         },
-        Keyword::Publish => publish_line(words),
-        Keyword::Claim => match words {
+        ReplayKeyword::Publish => publish_line(words),
+        ReplayKeyword::Claim => match words {
             [tid, tracer] => claim_line(tid, tracer),
             _ => Err(LineFault::UnknownWord),
         },
-        Keyword::Resume => match words {
+        ReplayKeyword::Resume => match words {
             [tid, tracer, kind, signal] => resume_line(tid, tracer, kind, signal),
             _ => Err(LineFault::UnknownWord),
         },
-        Keyword::Exit => match words {
+        ReplayKeyword::Exit => match words {
             [tid, how, number] => exit_line(tid, how, number),
             _ => Err(LineFault::UnknownWord),
         },
-        Keyword::State => match words {
+        ReplayKeyword::State => match words {
             [tid] => state_line(tid),
             _ => Err(LineFault::UnknownWord),
         },
@@ -162,6 +170,7 @@ fn publish_line(words: &[&[u8]]) -> Result<Line, LineFault>
     match words {
         [tid, name] => publish_plain(tid, name),
         [tid, name, number] => publish_numbered(tid, name, number),
+        [tid, name, how, number] => publish_ending(tid, name, how, number),
         _ => Err(LineFault::UnknownWord),
     }
 }
@@ -191,6 +200,17 @@ fn publish_numbered(tid: &[u8], name: &[u8], number: &[u8]) -> Result<Line, Line
     let tid = id(tid)?;
     let stop = stop_of(name, number)?;
     Ok(Line::Command(tid, Command::Publish(stop)))
+}
+
+fn publish_ending(tid: &[u8], name: &[u8], how: &[u8], number: &[u8]) -> Result<Line, LineFault>
+    ensures line { result ≡ publish_ending tid.now name.now how.now number.now }
+    ensures range { IfOk result IsLine }
+{
+    keyword(&DEATH_STOPS, name)?;
+    let how = keyword(&ENDINGS, how)?;
+    let tid = id(tid)?;
+    let death = death_of(how, number)?;
+    Ok(Line::Command(tid, Command::Publish(Stop::Ending(death))))
 }
 
 fn claim_line(tid: &[u8], tracer: &[u8]) -> Result<Line, LineFault>
@@ -232,7 +252,7 @@ fn state_line(tid: &[u8]) -> Result<Line, LineFault>
 }
 
 fn stop_of(name: Numbered, number: &[u8]) -> Result<Stop, LineFault>
-    ensures value { result ≡ stop_of name number.now }
+    ensures value { result ≡ stop_with_number name number.now }
     ensures range { IfOk result IsStop }
 {
     match name {
@@ -246,13 +266,13 @@ fn stop_of(name: Numbered, number: &[u8]) -> Result<Stop, LineFault>
     }
 }
 
-fn death_of(how: Ending, number: &[u8]) -> Result<Death, LineFault>
-    ensures value { result ≡ death_of how number.now }
+fn death_of(how: DeathWord, number: &[u8]) -> Result<Death, LineFault>
+    ensures value { result ≡ death_with_number how number.now }
     ensures range { IfOk result IsDeath }
 {
     match how {
-        Ending::Exited => Ok(Death::Exited(number_between(0, 255, number)? as u8)),
-        Ending::Killed => {
+        DeathWord::Exited => Ok(Death::Exited(number_between(0, 255, number)? as u8)),
+        DeathWord::Killed => {
             let signal = number_between(1, u64::from(LAST_SIGNAL), number)? as u8;
             Ok(Death::Signaled {
                 signal,
@@ -263,8 +283,9 @@ fn death_of(how: Ending, number: &[u8]) -> Result<Death, LineFault>
 }
 
 /// The number of one of the board's tracers.
-fn tracer_of(word: &[u8]) -> Result<u8, LineFault>
-    ensures { result ≡ tracer_of word.now }
+pub(crate) fn tracer_of(word: &[u8]) -> Result<u8, LineFault>
+    ensures value { result ≡ tracer_number word.now }
+    ensures range { IfOk result (λ tracer. tracer < TRACERS) }
 {
     Ok(number_between(0, u64::from(TRACERS) - 1, word)? as u8)
 }

@@ -1,11 +1,13 @@
 //! What is left to do once the words are understood and the file is read: nothing is printed before.
 
-ghost use Rattle.std.specs.Prelude.{◌≡◌, None, IfErr, IfOk, IfSome};
-ghost use Rattle.tracer_cli.specs.Job.{AreInRange, HasNoJob, HasWorkers, IsDone, IsJob};
+ghost use Rattle.std.specs.Prelude.{◌≡◌, None, IfErr, IfOk, IfSome, string_bytes};
+ghost use Rattle.tracer_cli.specs.Explored.{WritesShown};
+ghost use Rattle.tracer_cli.specs.Job.{AreWorkersInRange, HasNoJob, HasWorkers, IsDone, IsJob};
 ghost use Rattle.tracer_cli.specs.Run.{IsReadFailure, IsReadOf, IsUnread, IsUnwritten, LeavesInput, Writes};
 
-use crate::arguments::Request;
+use crate::arguments::{ExploreOptions, Request};
 use crate::case_text::{case_text, run_config};
+use crate::explored::{ExploredText, explore_file};
 use crate::failure::{Failure, read_failure};
 use crate::replay::replay_text;
 use record_printer::write_bytes;
@@ -27,6 +29,8 @@ pub(crate) enum Job {
     Replay(Vec<u8>),
     /// To run the case of these bytes.
     Run(Config, Vec<u8>),
+    /// To explore the litmus file of these bytes.
+    Explore(ExploreOptions, Vec<u8>),
 }
 
 /// What a request leaves to do. Finds the faults of the names of `-e`, and then of reading.
@@ -35,7 +39,7 @@ pub(crate) fn read_job<H: Files + AllocGlobal, R: Read>(
     request: Request,
     input: &mut R,
 ) -> Result<Job, Failure>
-    requires { AreInRange request }
+    requires { AreWorkersInRange request }
     ensures job { IfOk result (IsJob request.entry (R.remaining input.old)) }
     ensures workers { IfOk result HasWorkers }
     ensures failure { IfErr result (HasNoJob request.entry) }
@@ -48,6 +52,9 @@ pub(crate) fn read_job<H: Files + AllocGlobal, R: Read>(
         Request::Run { options, file } => {
             let config = run_config(rt.alloc(), &options)?;
             Ok(Job::Run(config, read_file(rt, file, input)?))
+        }
+        Request::Explore { options, file } => {
+            Ok(Job::Explore(options, read_file(rt, file, input)?))
         }
     }
 }
@@ -104,6 +111,10 @@ pub(crate) fn do_job<H: AllocGlobal + Threads + Wait + Clock + Sync, W: Write>(
             let text = case_text(rt, file, &config)?;
             print(text.as_bytes(), output)
         }
+        Job::Explore(options, file) => {
+            let explored = explore_file(rt.alloc(), file.as_slice(), options)?;
+            print_explored(&explored, output)
+        }
     }
 }
 
@@ -115,4 +126,16 @@ fn print<W: Write>(text: &[u8], output: &mut W) -> Result<(), Failure>
         Ok(()) => Ok(()),
         Err(_) => Err(Failure::CannotWrite),
     }
+}
+
+/// Writes what is shown of a program. That no order of its commands has the replies of its file is a failure of its own.
+fn print_explored<W: Write>(explored: &ExploredText, output: &mut W) -> Result<(), Failure>
+    ensures { WritesShown (string_bytes explored.now.text) explored.now.forbidden (W.contents output.old)
+        (W.contents output.new) result }
+{
+    print(explored.text.as_bytes(), output)?;
+    if explored.forbidden {
+        return Err(Failure::Forbidden);
+    }
+    Ok(())
 }

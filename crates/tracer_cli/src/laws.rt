@@ -1,12 +1,31 @@
 //! Laws of the definitions: each function is its contract alone.
 
-ghost use Rattle.std.specs.Prelude.{◌≡◌, ◌∷◌, ◌^◌, [], ℕ, List, Ok, codes, length};
-ghost use Rattle.tracer_cli.specs.Arguments.{AreOptionsOf, AskReplay, AskRun, IsFollowed};
+ghost use Rattle.std.specs.Prelude.{◌≡◌, ◌≤◌, ◌∷◌, ◌^◌, [], ℕ, Decides, false, List, Ok, Some, codes, length};
+ghost use Rattle.stop_explorer.specs.declared.answer.Answer.TheVariants as answer;
+ghost use Rattle.stop_explorer.specs.declared.board_call.BoardCall.{BoardCall};
+ghost use Rattle.stop_explorer.specs.declared.command.ThreadCommand.{ThreadCommand};
+ghost use Rattle.stop_explorer.specs.BoardCall.{answer_to};
+ghost use Rattle.stop_explorer.specs.Command.{is_lasting_refusal};
+ghost use Rattle.stop_explorer.specs.Program.{Log};
+ghost use Rattle.stop_explorer.specs.Replies.{HaveComeTrue};
+ghost use Rattle.stop_explorer.specs.Run.{states_of};
+ghost use Rattle.stop_history.specs.Event.{History};
+ghost use Rattle.stop_history.specs.State.{state_after};
+ghost use Rattle.stop_history.specs.declared.refused.Refused.{Refused};
+ghost use Rattle.stop_history.specs.declared.roster.Row.{Row};
+ghost use Rattle.tracer_cli.specs.Arguments.{AreExploreOptionsOf, AreOptionsOf, AskExplore, AskReplay, AskRun};
+ghost use Rattle.tracer_cli.specs.Arguments.{IsExploredWhole, IsFollowed};
+ghost use Rattle.tracer_cli.specs.declared.arguments.ExploreOptions.{ExploreOptions};
 ghost use Rattle.tracer_cli.specs.declared.arguments.RunOptions.{RunOptions};
-ghost use Rattle.tracer_cli.specs.declared.arguments.TheConstants.{MOST_SHOWN};
+ghost use Rattle.tracer_cli.specs.declared.arguments.TheConstants.{MOST_PLACES, MOST_SHOWN};
+ghost use Rattle.tracer_cli.specs.Chosen.{have_come_true};
 ghost use Rattle.tracer_cli.specs.File.{ReplayContent, content_of};
 ghost use Rattle.tracer_cli.specs.Spelling.{IsContent, spelling};
-ghost use Rattle.tracer_cli.specs.declared.grammar.TheConstants.{ENDINGS, KEYWORDS, KINDS, NUMBERED_STOPS, PLAIN_STOPS};
+ghost use Rattle.tracer_cli.specs.Waiting.{state_at, waiting_refusal};
+ghost use Rattle.tracer_cli.specs.declared.grammar.TheConstants.{DEATH_STOPS, ENDINGS, KEYWORDS, KINDS};
+ghost use Rattle.tracer_cli.specs.declared.grammar.TheConstants.{NUMBERED_STOPS, PLAIN_STOPS};
+ghost use Rattle.tracer_cli.specs.declared.litmus.grammar.TheConstants.{LONGEST_NAME, MOST_REPEATS};
+ghost use Rattle.tracer_cli.specs.declared.litmus.draft.TheConstants.{MOST_COMMANDS, MOST_THREADS};
 
 /// Rows and commands that are spelled as a file are read back from it, each in its place.
 pub fn what_is_spelled_is_read()
@@ -18,20 +37,53 @@ pub fn words_are_counted()
     ensures lines { length KEYWORDS ≡ 6 }
     ensures stops { length PLAIN_STOPS ≡ 3 }
     ensures numbered { length NUMBERED_STOPS ≡ 5 }
+    ensures death_stops { length DEATH_STOPS ≡ 1 }
     ensures kinds { length KINDS ≡ 2 }
     ensures endings { length ENDINGS ≡ 2 }
 {}
 
-/// The greatest limit of strings and arrays that `-s` can give.
+/// The greatest limit of strings and arrays that `-s` can give, and the greatest number of `--budget` and `--replay`.
 pub fn numbers_are_fixed()
     ensures shown { MOST_SHOWN ≡ 2 ^ 16 }
+    ensures places { MOST_PLACES ≡ 10 ^ 8 }
+{}
+
+/// How many threads and commands a litmus file has at most, how many bytes a thread's name has, and how many times a
+/// repeat is done.
+pub fn litmus_numbers_are_fixed()
+    ensures threads { MOST_THREADS ≡ 64 }
+    ensures commands { MOST_COMMANDS ≡ 2 ^ 12 }
+    ensures name { LONGEST_NAME ≡ 32 }
+    ensures repeats { MOST_REPEATS ≡ 64 }
 {}
 
 /// What the shortest words ask for, the program's name first: `replay` for a replay of standard input, `run -f` for a run
-/// of it that follows children, with the defaults of all other options.
+/// of it that follows children, `explore` for all outcomes of it, with the defaults of all other options.
 pub fn plain_words_are_taken()
     ensures replay { (name : List ℕ) → AskReplay (name ∷ codes "replay" ∷ []) }
     ensures run { (name : List ℕ) → AskRun (name ∷ codes "run" ∷ codes "-f" ∷ []) }
     ensures options { (name : List ℕ) (options : RunOptions) →
         AreOptionsOf (name ∷ codes "run" ∷ codes "-f" ∷ []) options → IsFollowed options }
+    ensures explore { (name : List ℕ) → AskExplore (name ∷ codes "explore" ∷ []) }
+    ensures whole { (name : List ℕ) (options : ExploreOptions) →
+        AreExploreOptionsOf (name ∷ codes "explore" ∷ []) options → IsExploredWhole options }
+{}
+
+/// The refusal that a call is said to wait for is the one that it gets at each history that leaves these states, if
+/// that one may pass; and it gets each that is said.
+pub fn a_wait_is_for_its_refusal_to_pass()
+    ensures passing { (rows : List Row) (h : History) (row : ℕ) (asked : BoardCall) (refusal : Refused) →
+        answer_to rows h row asked ≡ answer.Refused refusal → is_lasting_refusal refusal ≡ false →
+        waiting_refusal rows (state_at (states_of rows (state_after rows h))) row asked ≡ Some refusal }
+    ensures refused { (rows : List Row) (h : History) (row : ℕ) (asked : BoardCall) (refusal : Refused) →
+        waiting_refusal rows (state_at (states_of rows (state_after rows h))) row asked ≡ Some refusal →
+        answer_to rows h row asked ≡ answer.Refused refusal }
+{}
+
+/// The outcomes that are printed are those in which all replies came true, where no thread past the last one has
+/// commands.
+pub fn printed_outcomes_came_true()
+    ensures { (threads : ℕ) (commands : ℕ → List ThreadCommand) →
+        ((thread : ℕ) → threads ≤ thread → commands thread ≡ []) → (log : Log) →
+        Decides (have_come_true threads commands log) (HaveComeTrue commands log) }
 {}

@@ -4,7 +4,8 @@ ghost use Rattle.std.specs.Prelude.{◌≡◌, ◌≤◌, All, IfErr, IfOk, List
 ghost use Rattle.tracer_cli.specs.declared.order.Order.{Order};
 ghost use Rattle.tracer_cli.specs.Command.{IsCommand, IsOrder};
 ghost use Rattle.trace_script.specs.Reading.{Refuses, TakesLine, most_bytes};
-ghost use Rattle.tracer_cli.specs.File.{content_after, content_of, line_read, nothing, order_added, row_added};
+ghost use Rattle.tracer_cli.specs.File.{content_of, nothing, order_added, replay_content_after, replay_line_read};
+ghost use Rattle.tracer_cli.specs.File.{row_added};
 ghost use Rattle.text_lines.specs.Lines.{lines_of};
 ghost use Rattle.stop_history.specs.declared.roster.Row.{Row};
 ghost use Rattle.stop_history.specs.Roster.{push_fault, row_of};
@@ -21,11 +22,11 @@ use trace_script::{CaseError, Cause, MOST_BYTES};
 const SHORTEST: usize = b"state 1\n".len();
 
 /// How many guesses at rows are kept: one for each remainder of a thread id.
-const GUESSES: usize = 256;
+pub(crate) const GUESSES: usize = 256;
 
 /// What a file says: its rows, and the commands to them, each in the order of the file.
 #[derive(Drop)]
-pub(crate) struct Script<A: Allocator> {
+pub(crate) struct ReplayFile<A: Allocator> {
     pub(crate) rows: Roster<A>,
     pub(crate) orders: Vec<Order, A>,
 }
@@ -40,7 +41,7 @@ fn take_line<A: Allocator>(
     left: usize,
 ) -> Result<(), Cause>
     ensures line { TakesLine result (record { rows = rows.new; orders = orders.new.items })
-        (line_read (record { rows = rows.old; orders = orders.old.items }) line.now) }
+        (replay_line_read (record { rows = rows.old; orders = orders.old.items }) line.now) }
     ensures range { All IsOrder orders.old.items → All IsOrder orders.new.items }
 {
     match read_line(!orders.is_empty(), line)? {
@@ -62,7 +63,11 @@ fn take_row<A: Allocator>(rows: &mut Roster<A>, row: Row) -> Result<(), Cause>
 
 /// The row of a thread id. A guess is the row that was last found for a thread id of the same remainder: it may be
 /// wrong, so it is the answer only where its row has the thread id.
-fn row_of<A: Allocator>(rows: &Roster<A>, guesses: &mut [u32; GUESSES], tid: u32) -> Option<u32>
+pub(crate) fn row_of<A: Allocator>(
+    rows: &Roster<A>,
+    guesses: &mut [u32; GUESSES],
+    tid: u32,
+) -> Option<u32>
     ensures { result ≡ row_of rows.now tid }
 {
     let place = tid as usize % GUESSES;
@@ -102,7 +107,7 @@ fn take_order<A: Allocator>(
 }
 
 /// What a file says, or its first fault.
-pub(crate) fn read<A: Allocator + Copy>(alloc: A, text: &[u8]) -> Result<Script<A>, CaseError>
+pub(crate) fn read<A: Allocator + Copy>(alloc: A, text: &[u8]) -> Result<ReplayFile<A>, CaseError>
     ensures ok { IfOk result (λ script. content_of text.now
         ≡ Ok (record { rows = script.rows; orders = script.orders.items })) }
     ensures err { let read = content_of text.now in
@@ -118,11 +123,11 @@ pub(crate) fn read<A: Allocator + Copy>(alloc: A, text: &[u8]) -> Result<Script<
     read_lines(alloc, text)
 }
 
-fn read_lines<A: Allocator + Copy>(alloc: A, text: &[u8]) -> Result<Script<A>, CaseError>
+fn read_lines<A: Allocator + Copy>(alloc: A, text: &[u8]) -> Result<ReplayFile<A>, CaseError>
     requires { length text.now ≤ most_bytes }
-    ensures ok { IfOk result (λ script. content_after 1 nothing (lines_of text.now)
+    ensures ok { IfOk result (λ script. replay_content_after 1 nothing (lines_of text.now)
         ≡ Ok (record { rows = script.rows; orders = script.orders.items })) }
-    ensures err { let read = content_after 1 nothing (lines_of text.now) in
+    ensures err { let read = replay_content_after 1 nothing (lines_of text.now) in
         IfErr result (λ error. Refuses text.now error.cause error.line read read) }
     ensures range { IfOk result (λ script. All IsOrder script.orders.items) }
 {
@@ -142,5 +147,5 @@ fn read_lines<A: Allocator + Copy>(alloc: A, text: &[u8]) -> Result<Script<A>, C
         rest = after;
         number += 1;
     }
-    Ok(Script { rows, orders })
+    Ok(ReplayFile { rows, orders })
 }

@@ -17,7 +17,7 @@ use stop_board::{Got, NoMemory, Refused, Row, State, World};
 
 /// Writes a number in decimal between two texts. Most replies have one, and `write!` takes several times as long.
 #[tactic(auto, using(crate::proofs::Written::in_three))]
-fn write_number<A: Allocator>(
+pub(crate) fn write_number<A: Allocator>(
     out: &mut String<A>,
     before: &str,
     number: u32,
@@ -49,7 +49,7 @@ fn write_at_status<A: Allocator>(
     Ok(())
 }
 
-fn write_published<A: Allocator>(
+pub(crate) fn write_published<A: Allocator>(
     out: &mut String<A>,
     rows: &[Row],
     answer: Result<u32, Refused>,
@@ -62,7 +62,7 @@ fn write_published<A: Allocator>(
     }
 }
 
-fn write_got<A: Allocator>(
+pub(crate) fn write_got<A: Allocator>(
     out: &mut String<A>,
     rows: &[Row],
     answer: Result<Got, Refused>,
@@ -76,7 +76,7 @@ fn write_got<A: Allocator>(
     }
 }
 
-fn write_refusal<A: Allocator>(
+pub(crate) fn write_refusal<A: Allocator>(
     out: &mut String<A>,
     rows: &[Row],
     refusal: Refused,
@@ -107,7 +107,7 @@ fn write_group_alive<A: Allocator>(out: &mut String<A>, tid: u32) -> Result<(), 
 }
 
 /// The thread id of a row, 0 of none.
-fn tid_at(rows: &[Row], row: u32) -> u32
+pub(crate) fn tid_at(rows: &[Row], row: u32) -> u32
     ensures { result ≡ (row_at rows.now row).tid }
 {
     match rows.get(row as usize) {
@@ -117,7 +117,7 @@ fn tid_at(rows: &[Row], row: u32) -> u32
 }
 
 #[tactic(auto, using(crate::proofs::Written::in_two))]
-fn write_done<A: Allocator>(
+pub(crate) fn write_done<A: Allocator>(
     out: &mut String<A>,
     rows: &[Row],
     done: &str,
@@ -136,7 +136,7 @@ fn write_done<A: Allocator>(
     }
 }
 
-fn write_state<A: Allocator>(out: &mut String<A>, state: State) -> Result<(), NoMemory>
+pub(crate) fn write_state<A: Allocator>(out: &mut String<A>, state: State) -> Result<(), NoMemory>
     ensures { OnOk result (string_bytes out.new ≡ string_bytes out.old ++ (state_text state ++ 10 ∷ [])) }
 {
     match state {

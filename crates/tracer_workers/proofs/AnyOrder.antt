@@ -9,33 +9,33 @@ use Rattle.std.proofs.lemmas.List.Elements.{All-contains, Contains-append_right,
 use Rattle.std.proofs.lemmas.List.Sorted.{Contains-permutation, IsPermutation-reverse, IsPermutation-sym}
 use Rattle.std.proofs.lemmas.List.Folds.{list_any_at}
 use Rattle.trace_record.specs.Content.{Content}
-use Rattle.trace_record.specs.Stop.{child_of as created_by}
+use Rattle.trace_record.specs.Stop.{child_of}
 use Rattle.trace_record.specs.declared.death.Death.{Death}
 use Rattle.stop_history.specs.declared.roster.Row.{Row}
 use Rattle.stop_history.specs.Event as event
 use Rattle.stop_history.specs.Event.{Event, events_of, subject}
 use Rattle.stop_history.specs.History.{Fits}
 use Rattle.stop_history.specs.Roster.{IsRoster, is_root, nobody, parent_of, row_at}
-use Rattle.stop_history.specs.State.{is_birth, is_born, last_number, names as creates, number_in, was_created}
+use Rattle.stop_history.specs.State.{creates, is_birth, is_born, last_number, number_in, was_created}
 use Rattle.stop_history.proofs.Longer.{unborn_is_silent}
 use Rattle.stop_history.proofs.Rosters.{placed}
 use Rattle.stop_history.proofs.States.{fits_within}
-use Rattle.stop_table.specs.Entry.{AreLegal, Entry, GoesOn, IsCarried, history_of}
+use Rattle.stop_table.specs.Entry.{AreLegal, Entry, GoesOn, IsCarried, content_after, history_of}
 use Rattle.stop_table.specs.View.{View, actors_of}
 use Rattle.stop_table.proofs.Entries.{legal_history}
-use Rattle.record_printer.specs.Came.{child_of, ending_of, is_child, is_of, last_of, names, stop_of}
+use Rattle.record_printer.specs.Came.{child_noted, ending_of, is_child, is_of, last_of, names, stop_of}
 use Rattle.record_printer.specs.DeathLine.{death_text}
-use Rattle.record_printer.specs.FolderAnswers.{first_of, is_expected, lost, lost_at, lost_if, missing_of, or_next}
-use Rattle.record_printer.specs.FolderAnswers.{pieces_text, row_text}
+use Rattle.record_printer.specs.FolderAnswers.{first_row_fault, is_expected, lost, lost_at, lost_if, missing_of}
+use Rattle.record_printer.specs.FolderAnswers.{or_next, pieces_text, row_text}
 use Rattle.record_printer.specs.Note.{Note}
 use Rattle.record_printer.specs.Piece.{Piece, Stopped, Died}
 use Rattle.record_printer.specs.PrintedRow.{row_lines}
 use Rattle.record_printer.specs.Represents.{AreTaken}
 use Rattle.record_printer.specs.RowAnswers.{missing_in, text_in}
 use Rattle.record_printer.specs.StopNote.{stop_note}
-use Rattle.record_printer.specs.declared.ending.Ending.{Ending}
-use Rattle.record_printer.specs.declared.fold_error.FoldError.{FoldError}
-use Rattle.record_printer.specs.declared.show.Show.{Show}
+use Rattle.record_printer.specs.declared.call.show.Show.{Show}
+use Rattle.record_printer.specs.declared.fold.ending.Ending.{Ending}
+use Rattle.record_printer.specs.declared.fold.error.FoldError.{FoldError}
 use Rattle.record_printer.proofs.Arrival.{ending_came, ending_one, last_least, stop_came, stop_one}
 use Rattle.record_printer.proofs.Stops.{notes_same}
 use Rattle.tracer_workers.specs.CaseText.{bears, death_after, history_text}
@@ -122,11 +122,11 @@ or_none : (fault later : Option FoldError) → or_next fault later ≡ None → 
 or_none None later none = (refl, none)
 or_none (Some found) later none = cc
 
-all_none : (fault : ℕ → Option FoldError) (first count : ℕ) → first_of fault (range_with_len first count) ≡ None
+all_none : (fault : ℕ → Option FoldError) (first count : ℕ) → first_row_fault fault (range_with_len first count) ≡ None
     → (row : ℕ) → first ≤ row → row < first + count → fault row ≡ None
 all_none fault first zero none row low high = absurd (omega (arith, low, high))
 all_none fault first (suc count) none row low high =
-    let both = or_none (fault first) (first_of fault (range_with_len (first + 1) count)) none in
+    let both = or_none (fault first) (first_row_fault fault (range_with_len (first + 1) count)) none in
     elim (cases_eq row first) [
       | inl same ↦ ap fault same ∙ both.0
       | inr other ↦ all_none fault (first + 1) count both.1 row (omega (arith, low, other)) (omega (arith, high))
@@ -145,7 +145,7 @@ record IsCreated (pieces : List Piece) (parent tid : ℕ) : Type 0 where
   note : Note
   low : 1 ≤ number
   there : Contains pieces (Stopped parent number note)
-  named : is_child tid (child_of note) ≡ true
+  named : is_child tid (child_noted note) ≡ true
 
 created_before : (piece : Piece) (pieces : List Piece) (parent tid : ℕ) → IsCreated pieces parent tid
     → IsCreated (piece ∷ pieces) parent tid
@@ -158,15 +158,15 @@ created_before piece pieces parent tid c = record {
 }
 
 created_with : (show : Show) (rows : List Row) (h : List Entry) (e : Event) (content : Content) (pieces : List Piece)
-    (parent tid : ℕ) → Fits rows (history_of h) e → IsCarried rows e content
+    (parent tid : ℕ) → Fits rows (history_of h) e → IsCarried rows (content_after rows h (subject e)) e content
     → (list_any (is_birth parent tid) (history_of h) ≡ true → IsCreated pieces (row_at rows parent).tid tid)
     → (is_birth parent tid e || list_any (is_birth parent tid) (history_of h)) ≡ true
     → IsCreated (pieces_with show rows h e content pieces) (row_at rows parent).tid tid
 created_with show rows h (event.Publish row number made) content pieces parent tid fits carried before is =
     let note = stop_note show content in
-    elim (cases_Bool (row == parent && creates tid (created_by made))) [
+    elim (cases_Bool (row == parent && creates tid (child_of made))) [
       | inl now ↦
-          (let both = and_parts (row == parent) (creates tid (created_by made)) now in
+          (let both = and_parts (row == parent) (creates tid (child_of made)) now in
           let same : row ≡ parent = eqb-true row parent both.0 in
           record {
             number = number;
@@ -240,10 +240,11 @@ same_flat f g (row ∷ rows) same =
     (same_flat f g rows (λ other there. same other (Contains-append_right (row ∷ []) rows other there)))
 
 named_there : (came : List Piece) (tid parent number : ℕ) (note other : Note) → note ≡ other
-    → is_child tid (child_of other) ≡ true → Contains came (Stopped parent number note) → list_any (names tid) came ≡ true
+    → is_child tid (child_noted other) ≡ true
+    → Contains came (Stopped parent number note) → list_any (names tid) came ≡ true
 named_there came tid parent number note other same named there =
     list_any_at (names tid) came there.0 (Stopped parent number note) there.1
-    (ap (names tid) there.2 ∙ ap (λ n. is_child tid (child_of n)) same ∙ named)
+    (ap (names tid) there.2 ∙ ap (λ n. is_child tid (child_noted n)) same ∙ named)
 
 module _ (show : Show) (rows : List Row) (roster : IsRoster rows) (h : List Entry) (legal : AreLegal rows h)
     (came : List Piece) (each : (piece : Piece) → Contains came piece → Contains (pieces_of show rows h) piece)

@@ -10,16 +10,16 @@ use Rattle.stop_history.specs.declared.roster.Row.{Row}
 use Rattle.stop_history.specs.Event as event
 use Rattle.stop_history.specs.Event.{Event, events_of, subject}
 use Rattle.stop_history.specs.Roster.{IsRoster, parent_of, row_at}
-use Rattle.stop_history.specs.State.{is_birth, is_born, names, was_created}
+use Rattle.stop_history.specs.State.{creates, is_birth, is_born, was_created}
 use Rattle.stop_history.proofs.Events.{other_events, own_events}
 use Rattle.stop_history.proofs.Longer.{unborn_is_silent}
 use Rattle.stop_history.proofs.Rosters.{placed}
-use Rattle.stop_table.specs.Entry.{AreLegal, Entry, IsCarried, history_of}
+use Rattle.stop_table.specs.Entry.{AreLegal, Entry, IsCarried, content_after, history_of}
 use Rattle.stop_table.proofs.Entries.{legal_history}
 use Rattle.trace_script.specs.StopTrace.{Trace}
 use Rattle.tracer_workers.specs.CaseText.{Printer, bears, case_lines, case_text, contents_with, death_after, death_of}
 use Rattle.tracer_workers.specs.CaseText.{history_lines, history_text, is_born_within, is_borne_of}
-use Rattle.tracer_workers.specs.CaseText.{published, text_if}
+use Rattle.tracer_workers.specs.CaseText.{published_contents, text_if}
 use Rattle.tracer_workers.specs.Driven.{AreDriven, AreReaped}
 use Rattle.tracer_workers.specs.Plan.{Plan, row_trace}
 use Rattle.tracer_workers.proofs.Wholes.{whole_trace}
@@ -33,27 +33,27 @@ or_swap false true = refl
 or_swap false false = refl
 
 -- an entry of the parent
-named_by : (rows : List Row) (e : Event) (content : Content) (parent tid : ℕ) (stops : List Content)
-    → subject e ≡ parent → IsCarried rows e content
+named_by : (rows : List Row) (e : Event) (content before : Content) (parent tid : ℕ) (stops : List Content)
+    → subject e ≡ parent → IsCarried rows before e content
     → (is_birth parent tid e || bears tid stops) ≡ bears tid (contents_with e content stops)
-named_by rows (event.Publish row number stop) content parent tid stops same carried =
-    ap (λ b. (b && names tid (child_of stop)) || bears tid stops) (eq-eqb row parent same)
-    ∙ or_swap (names tid (child_of stop)) (bears tid stops)
-    ∙ ap (λ s. bears tid stops || (names tid (child_of s) || false)) (sym carried.2)
-    ∙ sym (list_any-append (λ (c : Content). names tid (child_of c.stop)) stops (content ∷ []))
-named_by rows (event.Claim row number tracer) content parent tid stops same carried = refl
-named_by rows (event.Resume row number how tracer) content parent tid stops same carried = refl
-named_by rows (event.Exit row death) content parent tid stops same carried = refl
+named_by rows (event.Publish row number stop) content before parent tid stops same carried =
+    ap (λ b. (b && creates tid (child_of stop)) || bears tid stops) (eq-eqb row parent same)
+    ∙ or_swap (creates tid (child_of stop)) (bears tid stops)
+    ∙ ap (λ s. bears tid stops || (creates tid (child_of s) || false)) (sym carried.2)
+    ∙ sym (list_any-append (λ (c : Content). creates tid (child_of c.stop)) stops (content ∷ []))
+named_by rows (event.Claim row number tracer) content before parent tid stops same carried = refl
+named_by rows (event.Resume row number how tracer) content before parent tid stops same carried = refl
+named_by rows (event.Exit row death) content before parent tid stops same carried = refl
 
 -- one of another row
 not_named_by : (e : Event) (parent tid : ℕ) → (subject e == parent) ≡ false → is_birth parent tid e ≡ false
-not_named_by (event.Publish row number stop) parent tid other = ap (λ b. b && names tid (child_of stop)) other
+not_named_by (event.Publish row number stop) parent tid other = ap (λ b. b && creates tid (child_of stop)) other
 not_named_by (event.Claim row number tracer) parent tid other = refl
 not_named_by (event.Resume row number how tracer) parent tid other = refl
 not_named_by (event.Exit row death) parent tid other = refl
 
 pub births_named : (rows : List Row) (h : List Entry) → AreLegal rows h → (parent tid : ℕ)
-    → list_any (is_birth parent tid) (history_of h) ≡ bears tid (published h parent)
+    → list_any (is_birth parent tid) (history_of h) ≡ bears tid (published_contents h parent)
 births_named rows [] legal parent tid = refl
 births_named rows (x ∷ h) legal parent tid =
     let before = births_named rows h legal.1 parent tid in
@@ -61,7 +61,8 @@ births_named rows (x ∷ h) legal parent tid =
       | inl same ↦
           rw (eq-eqb (subject x.event) parent same)
           (ap (λ b. is_birth parent tid x.event || b) before
-          ∙ named_by rows x.event x.content parent tid (published h parent) same legal.0.2)
+          ∙ named_by rows x.event x.content (content_after rows h (subject x.event)) parent tid (published_contents h parent) same
+          legal.0.2)
       | inr other ↦
           rw (ne_eqb (subject x.event) parent other)
           (ap (λ b. b || list_any (is_birth parent tid) (history_of h))
@@ -71,7 +72,7 @@ births_named rows (x ∷ h) legal parent tid =
 
 -- ---- a row that makes no event
 
-pub silent_published : (h : List Entry) (row : ℕ) → events_of row (history_of h) ≡ [] → published h row ≡ []
+pub silent_published : (h : List Entry) (row : ℕ) → events_of row (history_of h) ≡ [] → published_contents h row ≡ []
 silent_published [] row silent = refl
 silent_published (x ∷ h) row silent =
     elim (cases_eq (subject x.event) row) [
@@ -89,7 +90,7 @@ silent_published (x ∷ h) row silent =
 named_alike : (plan : Plan) (h : List Entry) → AreLegal plan.rows h → AreDriven plan h → AreReaped plan.rows h
     → (parent tid : ℕ) → parent < length plan.rows
     → (born : Bool) → is_born plan.rows (history_of h) parent ≡ born
-    → bears tid (published h parent) ≡ (born && bears tid (row_trace plan parent).stops)
+    → bears tid (published_contents h parent) ≡ (born && bears tid (row_trace plan parent).stops)
 named_alike plan h legal driven reaped parent tid within true born =
     ap (λ (t : Trace). bears tid t.stops)
     (sym (whole_trace plan h legal driven parent within (reaped parent within born)).trace)
@@ -137,14 +138,14 @@ same_on_range f g most at (suc n) within same =
 lines_by : (print : Printer) (plan : Plan) (h : List Entry) → AreLegal plan.rows h → AreDriven plan h
     → AreReaped plan.rows h → (row : ℕ) → row < length plan.rows
     → (born : Bool) → is_born plan.rows (history_of h) row ≡ born
-    → text_if born (print (row_at plan.rows row).tid (published h row) (death_after h row))
+    → text_if born (print (row_at plan.rows row).tid (published_contents h row) (death_after h row))
     ≡ text_if born
     (print (row_at plan.rows row).tid (row_trace plan row).stops (Some (death_of (row_trace plan row).ending)))
 lines_by print plan h legal driven reaped row within false unborn = refl
 lines_by print plan h legal driven reaped row within true born =
     let whole = whole_trace plan h legal driven row within (reaped row within born) in
     let tid = (row_at plan.rows row).tid in
-    ap (print tid (published h row)) whole.died
+    ap (print tid (published_contents h row)) whole.died
     ∙ ap (λ (t : Trace). print tid t.stops (Some (death_of t.ending))) (sym whole.trace)
 
 pub same_lines : (print : Printer) (plan : Plan) (h : List Entry) → IsRoster plan.rows → AreLegal plan.rows h

@@ -21,11 +21,11 @@ use Rattle.stop_history.specs.Roster.{IsRoster, row_at}
 use Rattle.stop_history.specs.State.{is_born, is_waitable, number_in, state_after, state_in}
 use Rattle.stop_history.proofs.Longer.{unborn_is_silent}
 use Rattle.stop_history.proofs.States.{claim_is_none, fits_within, state_within}
-use Rattle.stop_table.specs.Entry.{AreLegal, Entry, IsCarried, history_of}
+use Rattle.stop_table.specs.Entry.{AreLegal, Entry, IsCarried, content_after, history_of}
 use Rattle.stop_table.proofs.Entries.{legal_history}
 use Rattle.record_printer.specs.Piece.{Died, Piece, Stopped}
 use Rattle.record_printer.specs.StopNote.{stop_note}
-use Rattle.record_printer.specs.declared.show.Show.{Show}
+use Rattle.record_printer.specs.declared.call.show.Show.{Show}
 use Rattle.record_printer.proofs.Arrival.{same_lost}
 use Rattle.tracer_workers.specs.Driven.{AreReaped}
 use Rattle.tracer_workers.specs.Gathering.{AreWhole}
@@ -175,7 +175,8 @@ module _ (show : Show) (rows : List Row) (h : List Entry) where
       (new ∙ ap (λ (xs : List Piece). xs ++ piece ∷ []) (sym none)) (waits_beside show rows x h) 0 (length rows)
       (omega arith) (omega (arith, within))
 
-  accounted_with : (e : Event) (content : Content) → Fits rows (history_of h) e → IsInRange e → IsCarried rows e content
+  accounted_with : (e : Event) (content : Content) → Fits rows (history_of h) e → IsInRange e
+      → IsCarried rows (content_after rows h (subject e)) e content
       → IsPermutation (pieces_of show rows h) (all_claimed show rows h ++ all_waiting show rows h)
       → IsPermutation (pieces_of show rows (record { event = e; content = content } ∷ h))
       (all_claimed show rows (record { event = e; content = content } ∷ h)

@@ -41,11 +41,11 @@ use Rattle.tracer_workers.proofs.RunSteps.{reap_goes, resume_entry, resume_goes}
 
 -- ---- a restart is in range
 
-stop_with : (rows : List Row) (e : Event) (carried before : Content) → IsInRange e → IsCarried rows e carried
+stop_with : (rows : List Row) (e : Event) (carried before : Content) → IsInRange e → IsCarried rows before e carried
     → IsStop before.stop → IsStop (content_with e carried before).stop
 stop_with rows (event.Publish row number stop) carried before range is old = subst IsStop (sym is.2) range
 stop_with rows (event.Claim row number tracer) carried before range is old = old
-stop_with rows (event.Resume row number how tracer) carried before range is old = old
+stop_with rows (event.Resume row number how tracer) carried before range is old = subst IsStop (sym is.stop) old
 stop_with rows (event.Exit row death) carried before range is old = old
 
 pub last_stop : (rows : List Row) (h : List Entry) → AreLegal rows h → (row : ℕ) → IsStop (content_after rows h row).stop
@@ -55,7 +55,8 @@ last_stop rows (x ∷ h) legal row =
     elim (cases_eq (subject x.event) row) [
       | inl same ↦
           subst (λ (a : Left). IsStop a.content.stop) (sym (own_left rows x h row same))
-          (stop_with rows x.event x.content (content_after rows h row) legal.0.1 legal.0.2 old)
+          (stop_with rows x.event x.content (content_after rows h row) legal.0.1
+          (subst (λ r. IsCarried rows (content_after rows h r) x.event x.content) same legal.0.2) old)
       | inr other ↦
           subst (λ (a : Left). IsStop a.content.stop) (sym (other_left rows x h row other)) old
     ]
@@ -69,6 +70,7 @@ passed_in_range (stop.Seccomp ret_data) is = omega arith
 passed_in_range (stop.Fork child) is = omega arith
 passed_in_range (stop.Clone child) is = omega arith
 passed_in_range (stop.Exec former) is = omega arith
+passed_in_range (stop.Ending death) is = omega arith
 
 pub mode_in_range : (b : Bool) (calls : Calls) (c : Content) → IsStop c.stop
     → IsResume ((if b then seccomp_policy calls else plain_policy) c)
@@ -214,7 +216,7 @@ module _ (content : CaseContent) (run : RunState) (h : List Entry) (row tracer :
       → how ≡ policy_of run.config k.content → Resumed content run new h row tracer how
       → MovedBy (Tracer tracer) content run new h
   restart_moves new how k there due p =
-      let x = resume_entry h row tracer how in
+      let x = resume_entry content.rows h row tracer how in
       let goes = resume_goes content run new h row tracer how s.made s.within s.held s.phase s.low
       (subst IsResume (sym due) (restart_range k there)) k there due p in (
         x ∷ h,

@@ -9,6 +9,7 @@ use Rattle.trace_record.specs.Stop.{IsStop, child_of}
 use Rattle.trace_record.specs.declared.death.Death.{Death}
 use Rattle.trace_record.specs.declared.death.Death.TheVariants.{Exited}
 use Rattle.trace_record.specs.declared.resume.Resume.{Resume as Restart}
+use Rattle.trace_record.specs.declared.stop.Stop.TheVariants as stops
 use Rattle.stop_history.specs.declared.roster.Row.{Row}
 use Rattle.stop_history.specs.Event as event
 use Rattle.stop_history.specs.Event.{Event, events_of, subject}
@@ -20,7 +21,7 @@ use Rattle.stop_table.specs.Entry.{AreLegal, Entry, IsCarried, content_after, hi
 use Rattle.trace_script.specs.Births.{AreGood, IsGoodOutcome, children_reported, with_child}
 use Rattle.trace_script.specs.CaseFacts.{AreNext}
 use Rattle.trace_script.specs.StopNumbers.{IsWithin, stops_in}
-use Rattle.trace_script.specs.StopTrace.{Context, DeathIs, Died, Faulted, Outcome, Position, StopIs}
+use Rattle.trace_script.specs.StopTrace.{Context, DeathIs, Died, Exiting, Faulted, Outcome, Position, StopIs}
 use Rattle.trace_script.specs.StopTrace.{Stopped, Through, context_of, element_by, first_restart, next_element}
 use Rattle.trace_script.specs.StopTrace.{next_position, outcome_at, position_after, position_by}
 use Rattle.trace_script.proofs.Births.{good_next}
@@ -88,20 +89,48 @@ pub record IsFit (plan : Plan) (row : ℕ) (a : Left) : Type 0 where
   pub children : AreNext plan.rows row (births_in a.events)
       (children_reported (plan.setting row) (position_after (opening_of plan row) a.turns).left)
 
-stop_by : (p : Position) (o : Outcome) (c : Content) → element_by p o ≡ StopIs c
+-- a child that a stop names is the next one
+children_by : (rows : List Row) (row births : ℕ) (child : Option ℕ) (rest : List ℕ)
+    → AreNext rows row births (with_child child rest)
+    → (names_next rows row births child ≡ true)
+    × AreNext rows row (cond (is_some child) (births + 1) births) rest
+children_by rows row births None rest next = (refl, next)
+children_by rows row births (Some child) rest next = (next.0, next.1)
+
+-- a stop that came, and what is left then
+record CameStop (rows : List Row) (row births : ℕ) (p q : Position) (c : Content) : Type 0 where
+  pub stop : IsStop c.stop
+  pub good : AreGood q.left
+  pub next : names_next rows row births (child_of c.stop) ≡ true
+  pub left : AreNext rows row (cond (is_some (child_of c.stop)) (births + 1) births)
+      (children_reported p.setting q.left)
+
+stop_by : (rows : List Row) (row births : ℕ) (p : Position) (o : Outcome) (c : Content) → element_by p o ≡ StopIs c
     → IsGoodOutcome p.setting (children_reported p.setting p.left) o
-    → (IsStop c.stop) × AreGood (position_by p o).left
-    × (children_reported p.setting p.left ≡ with_child (child_of c.stop) (children_reported p.setting (position_by p o).left))
-stop_by p (Stopped left at y) c is good =
+    → AreNext rows row births (children_reported p.setting p.left) → CameStop rows row births p (position_by p o) c
+stop_by rows row births p (Stopped left at y) c is good next =
     let same : at ≡ c.stop = cc in
-    (subst IsStop same good.0, good.1, good.2 ∙ ap (λ s. with_child (child_of s) (children_reported p.setting left)) same)
-stop_by p (Through y) c is good = cc
-stop_by p (Died death) c is good = cc
-stop_by p (Faulted address) c is good = cc
+    let named : children_reported p.setting p.left ≡ with_child (child_of c.stop) (children_reported p.setting left) =
+    good.2 ∙ ap (λ s. with_child (child_of s) (children_reported p.setting left)) same in
+    let children = children_by rows row births (child_of c.stop) (children_reported p.setting left)
+    (subst (AreNext rows row births) named next) in
+    record { stop = subst IsStop same good.0; good = good.1; next = children.0; left = children.1 }
+-- before its death a tracee names no child
+stop_by rows row births p (Exiting death y) c is good next =
+    let same : stops.Ending death ≡ c.stop = cc in record {
+      stop = subst IsStop same good;
+      good = (good, tt);
+      next = subst (λ s. names_next rows row births (child_of s) ≡ true) same refl;
+      left = subst (λ s. AreNext rows row (cond (is_some (child_of s)) (births + 1) births) []) same tt;
+    }
+stop_by rows row births p (Through y) c is good next = cc
+stop_by rows row births p (Died death) c is good next = cc
+stop_by rows row births p (Faulted address) c is good next = cc
 
 death_by : (p : Position) (o : Outcome) (d : Death) → element_by p o ≡ DeathIs d
     → IsGoodOutcome p.setting (children_reported p.setting p.left) o → IsDeath d
 death_by p (Stopped left at y) d is good = cc
+death_by p (Exiting death y) d is good = cc
 death_by p (Through y) d is good =
     let same : Exited 0 ≡ d = cc in subst IsDeath same (omega arith)
 death_by p (Died death) d is good = let same : death ≡ d = cc in subst IsDeath same good
@@ -110,6 +139,8 @@ death_by p (Faulted address) d is good = cc
 fewer_by : (p : Position) (o : Outcome) (c : Content) → element_by p o ≡ StopIs c
     → (c.number ≡ p.number + 1) × ((position_by p o).number ≡ p.number + 1)
 fewer_by p (Stopped left at y) c is =
+    let same : p.number + 1 ≡ c.number = cc in (sym same, refl)
+fewer_by p (Exiting death y) c is =
     let same : p.number + 1 ≡ c.number = cc in (sym same, refl)
 fewer_by p (Through y) c is = cc
 fewer_by p (Died death) c is = cc
@@ -127,13 +158,6 @@ pub record IsNextStop (plan : Plan) (row : ℕ) (a : Left) (q : Position) (c : C
   pub left : AreNext plan.rows row (cond (is_some (child_of c.stop)) (births_in a.events + 1) (births_in a.events))
       (children_reported (plan.setting row) q.left)
 
-children_by : (rows : List Row) (row births : ℕ) (child : Option ℕ) (rest : List ℕ)
-    → AreNext rows row births (with_child child rest)
-    → (names_next rows row births child ≡ true)
-    × AreNext rows row (cond (is_some child) (births + 1) births) rest
-children_by rows row births None rest next = (refl, next)
-children_by rows row births (Some child) rest next = (next.0, next.1)
-
 pub next_stop : (plan : Plan) (row : ℕ) (a : Left) → IsFit plan row a → (how : Restart) (x : Context) (c : Content)
     → IsResume how
     → next_element (position_after (opening_of plan row) a.turns) how x ≡ StopIs c
@@ -141,25 +165,23 @@ pub next_stop : (plan : Plan) (row : ℕ) (a : Left) → IsFit plan row a → (h
 next_stop plan row a fit how x c range is =
     let p = position_after (opening_of plan row) a.turns in
     let q = next_position p how x in
-    let made = stop_by p (outcome_at p how x) c is (good_next p.setting how p.left x range fit.good) in
+    let births = births_in a.events in
+    let next : AreNext plan.rows row births (children_reported p.setting p.left) =
+    subst (λ s. AreNext plan.rows row births (children_reported s p.left)) (sym fit.setting) fit.children in
+    let made = stop_by plan.rows row births p (outcome_at p how x) c is
+    (good_next p.setting how p.left x range fit.good) next in
     let numbered = stop_is_next p how x c is in
-    let same : children_reported (plan.setting row) p.left
-    ≡ with_child (child_of c.stop) (children_reported (plan.setting row) q.left) =
-    ap (λ s. children_reported s p.left) (sym fit.setting) ∙ made.2
-    ∙ ap (λ s. with_child (child_of c.stop) (children_reported s q.left)) fit.setting in
-    let children = children_by plan.rows row (births_in a.events) (child_of c.stop)
-    (children_reported (plan.setting row) q.left)
-    (subst (AreNext plan.rows row (births_in a.events)) same fit.children) in
     let within : q.number + stops_in q.left ≤ most_stops = stays_within most_stops p how x fit.within in
     record {
-      stop = made.0;
+      stop = made.stop;
       tid = numbered.0 ∙ ap (λ s. s.tid) fit.setting;
       number = numbered.1 ∙ ap (λ n. n + 1) fit.number;
       few = omega (arith, within, numbered.2);
-      next = children.0;
+      next = made.next;
       after = numbered.2;
-      good = made.1;
-      left = children.1;
+      good = made.good;
+      left = subst (λ s. AreNext plan.rows row (cond (is_some (child_of c.stop)) (births + 1) births)
+          (children_reported s q.left)) fit.setting made.left;
     }
 
 pub next_death : (plan : Plan) (row : ℕ) (a : Left) → IsFit plan row a → (how : Restart) (x : Context) (d : Death)
@@ -170,7 +192,7 @@ next_death plan row a fit how x d range is =
     death_by p (outcome_at p how x) d is (good_next p.setting how p.left x range fit.good)
 
 pub own_fit : (plan : Plan) (h : List Entry) → AreLegal plan.rows h → (e : Event) (content : Content)
-    → IsCarried plan.rows e content → IsTraced plan h e content
+    → IsCarried plan.rows (content_after plan.rows h (subject e)) e content → IsTraced plan h e content
     → IsFit plan (subject e) (left_of plan.rows h (subject e))
     → IsFit plan (subject e) (left_with plan.rows h (subject e) e content)
 own_fit plan h legal (event.Publish row number stop) content carried traced fit =

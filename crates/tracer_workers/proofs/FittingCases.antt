@@ -5,7 +5,7 @@ use Rattle.std.proofs.lemmas.Bool.{cases_eq}
 use Rattle.std.specs.Int.RustNames.{bit_and}
 use Rattle.stop_history.specs.declared.roster.Row.{Row}
 use Rattle.stop_history.specs.Roster.{row_at}
-use Rattle.trace_options.specs.Options.{IsTaken, option_bits}
+use Rattle.trace_options.specs.Options.{AreValidOptions, option_bits}
 use Rattle.trace_options.specs.declared.filter.Filter.{Filter}
 use Rattle.trace_options.specs.declared.options.Options.{Options}
 use Rattle.trace_options.specs.declared.options.TheConstants.Options.{TRACECLONE, TRACEFORK}
@@ -36,39 +36,59 @@ no_bit : (bit : ℕ) → 0 < bit → 0 ≡ bit → ⊥
 no_bit bit some is = omega (arith, some, is)
 
 -- those of a configuration are ones that a tracer takes
-options_taken : (follow seccomp : Bool) → IsTaken (option_sum follow seccomp)
-options_taken true true = record {
+options_taken : (follow seccomp exits : Bool) → AreValidOptions (option_sum follow seccomp exits)
+options_taken true true true = record {
   good = refl;
   alike = (λ has. refl, λ has. refl);
   no_vfork = no_bit 0x4 (omega arith);
   no_vfork_done = no_bit 0x20 (omega arith);
-  no_exit = no_bit 0x40 (omega arith);
 }
-options_taken true false = record {
+options_taken true true false = record {
   good = refl;
   alike = (λ has. refl, λ has. refl);
   no_vfork = no_bit 0x4 (omega arith);
   no_vfork_done = no_bit 0x20 (omega arith);
-  no_exit = no_bit 0x40 (omega arith);
 }
-options_taken false true = record {
+options_taken true false true = record {
+  good = refl;
+  alike = (λ has. refl, λ has. refl);
+  no_vfork = no_bit 0x4 (omega arith);
+  no_vfork_done = no_bit 0x20 (omega arith);
+}
+options_taken true false false = record {
+  good = refl;
+  alike = (λ has. refl, λ has. refl);
+  no_vfork = no_bit 0x4 (omega arith);
+  no_vfork_done = no_bit 0x20 (omega arith);
+}
+options_taken false true true = record {
   good = refl;
   alike = (λ has. absurd (no_bit 0x2 (omega arith) has), λ has. absurd (no_bit 0x8 (omega arith) has));
   no_vfork = no_bit 0x4 (omega arith);
   no_vfork_done = no_bit 0x20 (omega arith);
-  no_exit = no_bit 0x40 (omega arith);
 }
-options_taken false false = record {
+options_taken false true false = record {
   good = refl;
   alike = (λ has. absurd (no_bit 0x2 (omega arith) has), λ has. absurd (no_bit 0x8 (omega arith) has));
   no_vfork = no_bit 0x4 (omega arith);
   no_vfork_done = no_bit 0x20 (omega arith);
-  no_exit = no_bit 0x40 (omega arith);
+}
+options_taken false false true = record {
+  good = refl;
+  alike = (λ has. absurd (no_bit 0x2 (omega arith) has), λ has. absurd (no_bit 0x8 (omega arith) has));
+  no_vfork = no_bit 0x4 (omega arith);
+  no_vfork_done = no_bit 0x20 (omega arith);
+}
+options_taken false false false = record {
+  good = refl;
+  alike = (λ has. absurd (no_bit 0x2 (omega arith) has), λ has. absurd (no_bit 0x8 (omega arith) has));
+  no_vfork = no_bit 0x4 (omega arith);
+  no_vfork_done = no_bit 0x20 (omega arith);
 }
 
 -- births are reported in order where children are followed, and otherwise none is reported
 children_alike : (rows : List Row) (row tid : ℕ) (options : Options) (filter : Filter) (script : Script)
-    → IsTaken (option_bits options) → AreNext rows row 0 (born_by script.steps)
+    → AreValidOptions (option_bits options) → AreNext rows row 0 (born_by script.steps)
     → AreNext rows row 0
     (children_reported (setting tid options filter) (acts_of_script (setting tid options filter) script))
 children_alike rows row tid options filter script taken births =
@@ -95,7 +115,7 @@ script_known content is row within =
     (get_within content.scripts row no_script (omega (arith, within, is.each)))
 
 fitting_with : (content : CaseContent) (options : Options) (filter : Filter) (policy : Policy) → IsCase content
-    → IsTaken (option_bits options) → IsFitting (case_plan content options filter policy)
+    → AreValidOptions (option_bits options) → IsFitting (case_plan content options filter policy)
 fitting_with content options filter policy is taken = record {
   good = λ row within.
       good_script ((case_plan content options filter policy).setting row) (script_at content.scripts row)
@@ -126,7 +146,7 @@ config_plan config content is = record {
   options = options_of config;
   filter = filter_of config;
   is_case = is;
-  taken = options_taken config.follow config.seccomp;
+  taken = options_taken config.follow config.seccomp config.exits;
   is_plan = refl;
 }
 

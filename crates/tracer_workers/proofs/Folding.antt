@@ -6,8 +6,8 @@ use Rattle.stop_history.specs.declared.roster.Row.{Row}
 use Rattle.record_printer.specs.FolderAnswers.{refusal}
 use Rattle.record_printer.specs.Piece.{Piece}
 use Rattle.record_printer.specs.Represents.{AreTaken}
-use Rattle.record_printer.specs.declared.fold_error.FoldError.{FoldError}
-use Rattle.record_printer.specs.declared.fold_error.FoldError.TheVariants as fold_error
+use Rattle.record_printer.specs.declared.fold.error.FoldError.{FoldError}
+use Rattle.record_printer.specs.declared.fold.error.FoldError.TheVariants as fold_error
 use Rattle.tracer_workers.specs.Gathering.{run_error_of}
 use Rattle.tracer_workers.specs.declared.run_error.RunError.{RunError}
 use Rattle.tracer_workers.specs.declared.run_error.RunError.TheVariants as run_error

@@ -7,7 +7,7 @@ use Rattle.stop_history.specs.declared.roster.Row.{Row}
 use Rattle.stop_history.specs.Event.{Event, events_of, subject}
 use Rattle.stop_table.specs.Entry.{Entry, content_after, content_with, history_of}
 use Rattle.trace_script.specs.StopTrace.{Turn}
-use Rattle.tracer_workers.specs.CaseText.{contents_with, death_after, death_with, published}
+use Rattle.tracer_workers.specs.CaseText.{contents_with, death_after, death_with, published_contents}
 use Rattle.tracer_workers.specs.Driven.{turn_after, turns_of, turns_with}
 
 pub record Left : Type 0 where
@@ -21,7 +21,7 @@ abbrev pub left_of : List Row → List Entry → ℕ → Left
 left_of rows h row = record {
   events = events_of row (history_of h);
   turns = turns_of rows h row;
-  stops = published h row;
+  stops = published_contents h row;
   death = death_after h row;
   content = content_after rows h row;
 }
@@ -31,7 +31,7 @@ abbrev pub left_with : List Row → List Entry → ℕ → Event → Content →
 left_with rows h row e content = record {
   events = e ∷ events_of row (history_of h);
   turns = turns_with e (turn_after rows h row content) (turns_of rows h row);
-  stops = contents_with e content (published h row);
+  stops = contents_with e content (published_contents h row);
   death = death_with e (death_after h row);
   content = content_with e content (content_after rows h row);
 }

@@ -2,7 +2,7 @@
 -- entry came to is its part of the longer history.
 use Rattle.std.proofs.Common.{refl, ◌≡◌, ◌≢◌, ◌∷◌, ℕ, false, List, Some, length, inl, inr, ◌∙◌, sym, ap, subst, slice_get}
 use Rattle.std.proofs.lemmas.Bool.{cases_eq}
-use Rattle.record_printer.specs.Represents.{Represents as HasCome}
+use Rattle.record_printer.specs.Represents.{Represents}
 use Rattle.tracer_workers.specs.Scheduled.{CameTo}
 use Rattle.stop_history.specs.declared.phase.Phase.{Phase}
 use Rattle.stop_history.specs.declared.phase.Phase.TheVariants as phase
@@ -12,14 +12,14 @@ use Rattle.stop_history.specs.History.{Fits}
 use Rattle.stop_history.specs.Ranges.{IsInRange}
 use Rattle.stop_history.specs.State.{number_in}
 use Rattle.stop_history.specs.Word.{phase_in}
-use Rattle.stop_table.specs.Entry.{Entry, IsCarried, history_of}
+use Rattle.stop_table.specs.Entry.{Entry, IsCarried, content_after, history_of}
 use Rattle.trace_script.specs.CaseFile.{CaseContent}
 use Rattle.trace_script.specs.StopTrace.{context_of, next_element, position_after}
 use Rattle.tracer_workers.specs.Config.{plan_of, show_of}
 use Rattle.tracer_workers.specs.Driven.{IsRestarted, IsTraced, element_after, restart_at}
 use Rattle.tracer_workers.specs.HistoryPieces.{pieces_of}
 use Rattle.tracer_workers.specs.Plan.{Plan, opening_of}
-use Rattle.tracer_workers.specs.Scheduled.{AreFree, HasMade, IsAtRest, IsDying, IsKept, IsKeptAt, IsReady, KeptRow}
+use Rattle.tracer_workers.specs.Scheduled.{AreFree, HasMade, IsAtRest, IsDying, IsKeptAfter, IsKeptAt, IsReady, KeptRow}
 use Rattle.tracer_workers.specs.Scheduled.{RunState, is_claimed}
 use Rattle.tracer_workers.proofs.Left.{Left, left_of, other_left, own_left}
 
@@ -53,7 +53,7 @@ module _ (plan : Plan) (h later : List Entry) (row : ℕ) (k : KeptRow)
   kept_at_over phase.Reaped kept = tt
   kept_at_over phase.Active kept = tt
 
-  pub kept_over : IsKept plan h row k → IsKept plan later row k
+  pub kept_over : IsKeptAfter plan h row k → IsKeptAfter plan later row k
   kept_over kept = record {
     tid = kept.tid;
     number = kept.number ∙ sym (ap (λ (a : Left). number_in a.events) same);
@@ -68,18 +68,18 @@ pub record GoesOnBy (content : CaseContent) (run new : RunState) (h : List Entry
   pub config : new.config ≡ run.config
   pub world : CameTo new.world (x.event ∷ history_of h)
   pub world_rows : new.world.rows ≡ run.world.rows
-  pub folder : HasCome new.folder (pieces_of (show_of run.config) content.rows (x ∷ h))
+  pub folder : Represents new.folder (pieces_of (show_of run.config) content.rows (x ∷ h))
   pub folder_rows : new.folder.rows ≡ run.folder.rows
   pub fits : Fits content.rows (history_of h) x.event
   pub in_range : IsInRange x.event
-  pub carried : IsCarried content.rows x.event x.content
+  pub carried : IsCarried content.rows (content_after content.rows h (subject x.event)) x.event x.content
   pub traced : IsTraced (plan_of run.config content) h x.event x.content
-  pub restarted : IsRestarted (plan_of run.config content) h x.event
+  pub restarted : IsRestarted (plan_of run.config content) h x.event x.content
   pub long : length new.rows ≡ length run.rows
   pub others : (row : ℕ) (k : KeptRow) → row ≢ subject x.event → slice_get new.rows row ≡ Some k
       → slice_get run.rows row ≡ Some k
   pub own : (k : KeptRow) → slice_get new.rows (subject x.event) ≡ Some k
-      → IsKept (plan_of run.config content) (x ∷ h) (subject x.event) k
+      → IsKeptAfter (plan_of run.config content) (x ∷ h) (subject x.event) k
 
 -- of runs with one configuration
 made_with : (content : CaseContent) (run new : RunState) (h : List Entry) (x : Entry) → HasMade content run h
@@ -97,7 +97,7 @@ made_with content run new h x made on = record {
   each = λ row k at.
       elim (cases_eq (subject x.event) row) [
         | inl same ↦
-            subst (λ r. IsKept (plan_of run.config content) (x ∷ h) r k) same
+            subst (λ r. IsKeptAfter (plan_of run.config content) (x ∷ h) r k) same
             (on.own k (subst (λ r. slice_get new.rows r ≡ Some k) (sym same) at))
         | inr other ↦
             kept_over (plan_of run.config content) h (x ∷ h) row k (other_left content.rows x h row other)

@@ -47,7 +47,7 @@ driven_on actors plan seen h on driven =
 
 -- an own entry that is driven ends them
 pub driven_ends : (plan : Plan) (v w : View) (before : List Entry) (x : Entry) → EndsWith v w before x
-    → IsTraced plan before x.event x.content × IsRestarted plan before x.event → AreDrivenBy (actors_of v) plan v.seen
+    → IsTraced plan before x.event x.content × IsRestarted plan before x.event x.content → AreDrivenBy (actors_of v) plan v.seen
     → AreDrivenBy (actors_of w) plan w.seen
 driven_ends plan v w before x made is driven =
     let now : AreDrivenBy (actors_of v) plan (x ∷ before) =
@@ -135,7 +135,7 @@ module _ (plan : Plan) (actors : Actor → Bool) (seen h : List Entry) (row : �
 
 traced_own : (actors : Actor → Bool) (plan : Plan) (h : List Entry) (e : Event) (content : Content)
     → actors (Tracee (subject e)) ≡ true
-    → (actors (actor_of e) ≡ true → IsTraced plan h e content × IsRestarted plan h e) → IsTraced plan h e content
+    → (actors (actor_of e) ≡ true → IsTraced plan h e content × IsRestarted plan h e content) → IsTraced plan h e content
 traced_own actors plan h (event.Publish row number stop) content mine driven = (driven mine).0
 traced_own actors plan h (event.Claim row number tracer) content mine driven = tt
 traced_own actors plan h (event.Resume row number how tracer) content mine driven = tt

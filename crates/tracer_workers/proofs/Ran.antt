@@ -15,7 +15,7 @@ use Rattle.std.proofs.lemmas.List.Sorted.{IsPermutation-sym, list_any-IsPermutat
 use Rattle.std.proofs.lemmas.Option.{slice_get-get_or}
 use Rattle.atomic_table.specs.Seated.{TableId}
 use Rattle.record_printer.specs.Piece.{Piece}
-use Rattle.record_printer.specs.declared.show.Show.{Show}
+use Rattle.record_printer.specs.declared.call.show.Show.{Show}
 use Rattle.stop_history.specs.declared.actor.Actor.{Actor}
 use Rattle.stop_history.specs.declared.actor.Actor.TheVariants.{Tracee, Tracer}
 use Rattle.stop_history.specs.declared.limits.TheConstants.{TRACERS}
@@ -35,7 +35,8 @@ use Rattle.trace_script.specs.StopTrace.{Position}
 use Rattle.tracer_workers.specs.Config.{plan_of, show_of}
 use Rattle.tracer_workers.specs.Driven.{AreDriven, AreReaped}
 use Rattle.tracer_workers.specs.DrivenBy.{AreDrivenBy}
-use Rattle.tracer_workers.specs.Gathering.{AreSeen, AreWhole, GoesOnFrom, IsFreeTracee, IsFreeTracer, IsLost, views_of}
+use Rattle.tracer_workers.specs.Gathering.{AreSeen, AreWhole, GoesOnFrom, HasLostStop, IsFreeTracee, IsFreeTracer}
+use Rattle.tracer_workers.specs.Gathering.{views_of}
 use Rattle.tracer_workers.specs.Threaded.{ActForAll, IsActor, CanRun, HasRun, HasWorked}
 use Rattle.tracer_workers.specs.TraceeThread.{IsToStart}
 use Rattle.tracer_workers.specs.WorkerThread.{AreOverForGood, own_pieces, pieces_claimed}
@@ -542,7 +543,7 @@ module _ (id : TableId) (config : Config) (content : CaseContent) {S T : Type 0}
 
   -- so nothing is lost
   pub case_keeps : IsRoster content.rows → All (λ s. short s ≡ false) vs → 0 < length ws
-      → IsLost content.rows (views_of es ts) (flat_map pieces vs) → ⊥
+      → HasLostStop content.rows (views_of es ts) (flat_map pieces vs) → ⊥
   case_keeps placed whole some l =
       elim l.lost_there [
         | inl left ↦ left.3 (case_reaped placed whole some l.history l.legal l.goes_on left.0 left.1 left.2)

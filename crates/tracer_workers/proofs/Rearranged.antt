@@ -17,9 +17,9 @@ use Rattle.record_printer.specs.Note.{Note}
 use Rattle.record_printer.specs.Piece.{Died, Piece, Stopped}
 use Rattle.record_printer.specs.Represents.{AreTaken}
 use Rattle.record_printer.specs.RowAnswers.{death_fault, is_past, stop_fault}
-use Rattle.record_printer.specs.declared.ending.Ending.{Ending}
-use Rattle.record_printer.specs.declared.fold_error.FoldError.{FoldError}
-use Rattle.record_printer.specs.declared.fold_error.FoldError.TheVariants as error
+use Rattle.record_printer.specs.declared.fold.ending.Ending.{Ending}
+use Rattle.record_printer.specs.declared.fold.error.FoldError.{FoldError}
+use Rattle.record_printer.specs.declared.fold.error.FoldError.TheVariants as error
 use Rattle.record_printer.proofs.Arrival.{ending_came, ending_one, last_least}
 use Rattle.trace_record.specs.declared.death.Death.{Death}
 

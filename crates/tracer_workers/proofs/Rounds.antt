@@ -6,14 +6,15 @@ use Rattle.stop_history.specs.declared.actor.Actor.{Actor}
 use Rattle.stop_history.specs.declared.actor.Actor.TheVariants.{Tracee, Tracer}
 use Rattle.stop_history.specs.Word.{word_at}
 use Rattle.tracer_workers.specs.Scheduled.{CameTo, GoesOnBy, MovedBy}
-use Rattle.record_printer.specs.Represents.{Represents as HasCome}
+use Rattle.record_printer.specs.Represents.{Represents}
 use Rattle.stop_board.specs.World.{Contents}
 use Rattle.stop_table.specs.Entry.{Entry, history_of}
 use Rattle.trace_script.specs.CaseFacts.{IsCase}
 use Rattle.trace_script.specs.CaseFile.{CaseContent}
 use Rattle.tracer_workers.specs.Config.{plan_of}
-use Rattle.tracer_workers.specs.Scheduled.{IsKept, IsOver, KeptRow, Moved, RunState, Stands, events_left, run_left, total}
-use Rattle.tracer_workers.specs.Turn.{HasClaimed, HasGone, HasRunOut, HasTurned, HaveRunOut, IsResting, new_row}
+use Rattle.tracer_workers.specs.Scheduled.{IsKeptAfter, IsRunOver, KeptRow, Moved, RunState, Stands, events_left}
+use Rattle.tracer_workers.specs.Scheduled.{run_left, total}
+use Rattle.tracer_workers.specs.Turn.{CanMakeNoEvent, HasGone, HasRunOut, HasServedRow, HasTurned, HaveRunOut, new_row}
 use Rattle.tracer_workers.proofs.OneActor.{by_more}
 use Rattle.tracer_workers.proofs.RunEnd.{run_over}
 
@@ -90,7 +91,7 @@ turned_stands content run new h row false turned = (h, turned.0)
 
 pub pair_on : (content : CaseContent) (run mid new : RunState) (h : List Entry) (row tracer : ℕ) (turned claimed : Bool)
     → HasTurned content run mid h row turned
-    → ((later : List Entry) → Stands content mid later → HasClaimed content mid new later row tracer claimed)
+    → ((later : List Entry) → Stands content mid later → HasServedRow content mid new later row tracer claimed)
     → HasRunOut content run new h row (turned || claimed)
 pair_on content run mid new h row tracer true true turned got =
     let less = turned.2 in
@@ -159,7 +160,7 @@ rows_on content run mid new h rows false false last have =
       stays.1 ∙ have.1,
       λ row less.
           elim (cases_eq row rows) [
-            | inl same ↦ subst (IsResting content h) (sym same) stays.2
+            | inl same ↦ subst (CanMakeNoEvent content h) (sym same) stays.2
             | inr other ↦ have.2 row (omega (arith, less, other))
           ],
     )
@@ -178,7 +179,7 @@ all_rows content run new h false have = (
 -- by the last round: whether an event came of it
 abbrev pub AreGone : CaseContent → RunState → (moved : Bool) → List Entry → Type 0
 AreGone content run true later = Stands content run later
-AreGone content run false later = Stands content run later × IsOver content later
+AreGone content run false later = Stands content run later × IsRunOver content later
 
 -- how many rounds are left at most
 abbrev pub rounds_left : RunState → Bool → ℕ
@@ -210,7 +211,7 @@ get_last (y ∷ xs) x (suc r) k is =
     ]
 
 pub opening_stands : (content : CaseContent) (run : RunState) → IsCase content
-    → CameTo run.world [] → run.world.rows ≡ content.rows → HasCome run.folder [] → run.folder.rows ≡ content.rows
+    → CameTo run.world [] → run.world.rows ≡ content.rows → Represents run.folder [] → run.folder.rows ≡ content.rows
     → length run.rows ≡ length content.rows
     → ((row : ℕ) (k : KeptRow) → slice_get run.rows row ≡ Some k → k ≡ new_row run.config content row)
     → Stands content run []
@@ -225,12 +226,12 @@ opening_stands content run known world world_rows folder folder_rows long each =
     driven = tt;
     long = long;
     each = λ row k at.
-        let new : IsKept (plan_of run.config content) [] row (new_row run.config content row) = record {
+        let new : IsKeptAfter (plan_of run.config content) [] row (new_row run.config content row) = record {
           tid = refl;
           number = refl;
           kept = (refl, inl (record { content = refl; position = refl }));
         } in
-        subst (IsKept (plan_of run.config content) [] row) (sym (each row k at)) new;
+        subst (IsKeptAfter (plan_of run.config content) [] row) (sym (each row k at)) new;
   },
   λ row. refl,
 )

@@ -23,10 +23,10 @@ use Rattle.record_printer.specs.Note.{Note, Stops}
 use Rattle.record_printer.specs.Piece.{Piece}
 use Rattle.record_printer.specs.RowAnswers.{notes_from}
 use Rattle.record_printer.specs.StopNote.{stop_note}
-use Rattle.record_printer.specs.declared.ending.Ending.{Ending}
-use Rattle.record_printer.specs.declared.show.Show.{Show}
+use Rattle.record_printer.specs.declared.call.show.Show.{Show}
+use Rattle.record_printer.specs.declared.fold.ending.Ending.{Ending}
 use Rattle.record_printer.proofs.Stops.{notes_join, notes_same}
-use Rattle.tracer_workers.specs.CaseText.{death_after, published}
+use Rattle.tracer_workers.specs.CaseText.{death_after, published_contents}
 use Rattle.tracer_workers.specs.HistoryPieces.{pieces_of, pieces_with}
 use Rattle.tracer_workers.proofs.Left.{Left, left_of, left_with, other_left, own_left}
 
@@ -257,7 +257,7 @@ own_agrees show rows roster h legal (event.Publish row number stop) content fits
       order = ap (λ m. notes_from (with_number m note told.stops) 1 m) next
           ∙ pushed_notes show told.stops k note
           ∙ ap (λ (front : List Note). front ++ note ∷ []) before.order
-          ∙ sym (map-append (stop_note show) (published h row) (content ∷ []));
+          ∙ sym (map-append (stop_note show) (published_contents h row) (content ∷ []));
       ending = before.ending ∙ ap (ending_at k) alive ∙ sym (ap (ending_at number) alive);
     }
 own_agrees show rows roster h legal (event.Exit row death) content fits told before = record {

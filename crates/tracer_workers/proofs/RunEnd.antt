@@ -24,7 +24,8 @@ use Rattle.tracer_workers.specs.Driven.{AreDriven, AreReaped}
 use Rattle.tracer_workers.specs.Plan.{Plan}
 use Rattle.tracer_workers.specs.HistoryPieces.{pieces_of}
 use Rattle.tracer_workers.specs.Printing.{printed_lines}
-use Rattle.tracer_workers.specs.Scheduled.{AreFree, HasMade, IsHeldOrIdle, IsOver, IsQuiet, RunState, is_claimed}
+use Rattle.tracer_workers.specs.Scheduled.{AreFree, HasMade, HasNothingToReport, IsHeldOrIdle, IsRunOver, RunState}
+use Rattle.tracer_workers.specs.Scheduled.{is_claimed}
 use Rattle.tracer_workers.proofs.BornRows.{same_texts}
 use Rattle.tracer_workers.proofs.RowPieces.{same_row}
 use Rattle.tracer_workers.proofs.WholePieces.{AreDead, nothing_is_lost, text_of_pieces}
@@ -116,7 +117,7 @@ leader_tid : (rows : List Row) (row : ℕ) → is_leader (row_at rows row) ≡ t
 leader_tid rows row is = sym (eqb-true _ _ is)
 
 module _ (content : CaseContent) (h : List Entry) (roster : IsRoster content.rows) (free : AreFree h)
-    (quiet : IsQuiet content h) where
+    (quiet : HasNothingToReport content h) where
   state_of : ℕ → State
   state_of row = state_after content.rows (history_of h) row
 
@@ -180,12 +181,12 @@ module _ (content : CaseContent) (h : List Entry) (roster : IsRoster content.row
       is_there (is_born content.rows (history_of h) row) (events_of row (history_of h))
       (sym (state_within content.rows (history_of h) row within) ∙ is)
 
-  pub run_over : ((row : ℕ) → row < length content.rows → IsHeldOrIdle content h row) → IsOver content h
+  pub run_over : ((row : ℕ) → row < length content.rows → IsHeldOrIdle content h row) → IsRunOver content h
   run_over each row within = over_by row within each (state_after content.rows (history_of h) row) refl
 
 -- ---- the text
 
-pub over_is_reaped : (content : CaseContent) (h : List Entry) → IsOver content h → AreReaped content.rows h
+pub over_is_reaped : (content : CaseContent) (h : List Entry) → IsRunOver content h → AreReaped content.rows h
 over_is_reaped content h over row within born =
     elim (over row within) [
       | inl unborn ↦
@@ -201,7 +202,8 @@ pub reaped_is_dead : (plan : Plan) (h : List Entry) → AreLegal plan.rows h →
 reaped_is_dead plan h legal driven reaped row within born =
     let whole = whole_trace plan h legal driven row within (reaped row within born) in (death_of whole.ending, whole.died)
 
-pub over_is_dead : (content : CaseContent) (run : RunState) (h : List Entry) → HasMade content run h → IsOver content h
+pub over_is_dead : (content : CaseContent) (run : RunState) (h : List Entry) → HasMade content run h
+    → IsRunOver content h
     → AreDead content.rows h
 over_is_dead content run h made over =
     reaped_is_dead (plan_of run.config content) h made.legal made.driven (over_is_reaped content h over)
@@ -212,7 +214,7 @@ pub record IsWholeText (content : CaseContent) (run : RunState) (h : List Entry)
   pub text : pieces_text content.rows (pieces_of (show_of run.config) content.rows h) ≡ text_of run.config content
 
 pub whole_text : (content : CaseContent) (run : RunState) (h : List Entry) → IsRoster content.rows
-    → HasMade content run h → IsOver content h → IsWholeText content run h
+    → HasMade content run h → IsRunOver content h → IsWholeText content run h
 whole_text content run h roster made over =
     let dead = over_is_dead content run h made over in
     record {

@@ -8,10 +8,11 @@ use Rattle.trace_record.specs.Resume.{IsResume}
 use Rattle.trace_record.specs.declared.death.Death.{Death}
 use Rattle.trace_record.specs.declared.resume.Resume.{Resume as Restart}
 use Rattle.record_printer.specs.Piece.{Died, Stopped}
-use Rattle.record_printer.specs.Represents.{Represents as HasCome}
+use Rattle.record_printer.specs.Represents.{Represents}
 use Rattle.record_printer.specs.StopNote.{stop_note}
 use Rattle.tracer_workers.specs.Scheduled.{CameTo}
 use Rattle.stop_history.specs.declared.limits.TheConstants.{LAST_NUMBER, TRACERS}
+use Rattle.stop_history.specs.declared.roster.Row.{Row}
 use Rattle.stop_history.specs.declared.state.State.{State}
 use Rattle.stop_history.specs.declared.state.State.TheVariants as state
 use Rattle.stop_history.specs.Event as event
@@ -26,7 +27,8 @@ use Rattle.stop_history.specs.declared.phase.Phase.TheVariants as phase
 use Rattle.stop_history.proofs.States.{state_within}
 use Rattle.trace_record.specs.Stop.{stop_status}
 use Rattle.stop_history.proofs.Events.{own_events}
-use Rattle.stop_table.specs.Entry.{Entry, bare, history_of, publish_of}
+use Rattle.stop_table.specs.Entry.{Entry, bare, content_after, history_of, publish_of, resume_of}
+use Rattle.stop_table.proofs.Written.{unwritten}
 use Rattle.trace_script.specs.CaseFile.{CaseContent}
 use Rattle.trace_script.specs.StopTrace.{StopIs, position_after}
 use Rattle.tracer_workers.proofs.AfterClaim.{not_by_claim}
@@ -34,7 +36,7 @@ use Rattle.tracer_workers.specs.Config.{plan_of, show_of}
 use Rattle.tracer_workers.specs.Driven.{IsDeathOf, element_after, restart_after}
 use Rattle.tracer_workers.specs.HistoryPieces.{pieces_of}
 use Rattle.tracer_workers.specs.Plan.{opening_of}
-use Rattle.tracer_workers.specs.Scheduled.{HasMade, IsAtRest, IsKept, IsKeptAt, KeptRow, RunState, most_stops}
+use Rattle.tracer_workers.specs.Scheduled.{HasMade, IsAtRest, IsKeptAfter, IsKeptAt, KeptRow, RunState, most_stops}
 use Rattle.tracer_workers.proofs.Fitting.{IsNextStop, fits_at, next_stop, restart_in_range}
 use Rattle.tracer_workers.proofs.FittingCases.{fitting_case}
 use Rattle.tracer_workers.proofs.Left.{Left, left_of, own_left}
@@ -73,7 +75,7 @@ pub record Published (content : CaseContent) (run new : RunState) (h : List Entr
   pub config : new.config ≡ run.config
   pub world : CameTo new.world (event.Publish row (last_number (history_of h) row + 1) c.stop ∷ history_of h)
   pub world_rows : new.world.rows ≡ run.world.rows
-  pub folder : HasCome new.folder
+  pub folder : Represents new.folder
       (Stopped c.tid c.number (stop_note (show_of run.config) c) ∷ pieces_of (show_of run.config) content.rows h)
   pub folder_rows : new.folder.rows ≡ run.folder.rows
   pub long : length new.rows ≡ length run.rows
@@ -96,7 +98,7 @@ publish_goes content run new h row c made within runs due p =
       config = p.config;
       world = subst (λ n. CameTo new.world (event.Publish row n c.stop ∷ history_of h)) (sym next.number) p.world;
       world_rows = p.world_rows;
-      folder = subst (λ t. HasCome new.folder
+      folder = subst (λ t. Represents new.folder
           (Stopped t c.number (stop_note (show_of run.config) c) ∷ pieces_of (show_of run.config) content.rows h))
           next.tid p.folder;
       folder_rows = p.folder_rows;
@@ -126,7 +128,7 @@ pub record Ended (content : CaseContent) (run new : RunState) (h : List Entry) (
   pub config : new.config ≡ run.config
   pub world : CameTo new.world (event.Exit row d ∷ history_of h)
   pub world_rows : new.world.rows ≡ run.world.rows
-  pub folder : HasCome new.folder
+  pub folder : Represents new.folder
       (Died (row_at content.rows row).tid (last_number (history_of h) row) d
       ∷ pieces_of (show_of run.config) content.rows h)
   pub folder_rows : new.folder.rows ≡ run.folder.rows
@@ -227,7 +229,7 @@ claim_made content run new h row tracer made fits low p kept =
       config = p.config;
       world = p.world;
       world_rows = p.world_rows;
-      folder = subst (λ f. HasCome f (pieces_of (show_of run.config) content.rows h)) (sym p.folder) made.folder;
+      folder = subst (λ f. Represents f (pieces_of (show_of run.config) content.rows h)) (sym p.folder) made.folder;
       folder_rows = ap (λ f. f.rows) p.folder;
       fits = fits;
       in_range = low;
@@ -291,8 +293,9 @@ pub record Resumed (content : CaseContent) (run new : RunState) (h : List Entry)
       → (before : KeptRow) × (slice_get run.rows row ≡ Some before) × (k ≡ record before { how = how })
       × (how ≡ (plan_of run.config content).policy before.content)
 
-abbrev pub resume_entry : List Entry → (row tracer : ℕ) → Restart → Entry
-resume_entry h row tracer how = bare (event.Resume row (last_number (history_of h) row) how tracer)
+abbrev pub resume_entry : List Row → List Entry → (row tracer : ℕ) → Restart → Entry
+resume_entry rows h row tracer how =
+    resume_of row (last_number (history_of h) row) how tracer (content_after rows h row)
 
 pub resume_goes : (content : CaseContent) (run new : RunState) (h : List Entry) (row tracer : ℕ) (how : Restart)
     → HasMade content run h → row < length content.rows
@@ -300,34 +303,35 @@ pub resume_goes : (content : CaseContent) (run new : RunState) (h : List Entry) 
     → phase_in (events_of row (history_of h)) ≡ phase.Claimed tracer
     → tracer < TRACERS → IsResume how
     → (k : KeptRow) → slice_get run.rows row ≡ Some k → how ≡ (plan_of run.config content).policy k.content
-    → Resumed content run new h row tracer how → GoesOnBy content run new h (resume_entry h row tracer how)
+    → Resumed content run new h row tracer how → GoesOnBy content run new h (resume_entry content.rows h row tracer how)
 resume_goes content run new h row tracer how made within held claimed low range now there due p =
     let plan = plan_of run.config content in
-    let own = own_left content.rows (resume_entry h row tracer how) h row refl in
+    let x = resume_entry content.rows h row tracer how in
+    let own = own_left content.rows x h row refl in
     let rested : (k : KeptRow) → slice_get run.rows row ≡ Some k → IsAtRest plan h row k =
     λ k at. subst (λ q. IsKeptAt q plan h row k) claimed (made.each row k at).kept in
     record {
       config = p.config;
       world = p.world;
       world_rows = p.world_rows;
-      folder = subst (λ f. HasCome f (pieces_of (show_of run.config) content.rows h)) (sym p.folder) made.folder;
+      folder = subst (λ f. Represents f (pieces_of (show_of run.config) content.rows h)) (sym p.folder) made.folder;
       folder_rows = ap (λ f. f.rows) p.folder;
       fits = held;
       in_range = (range, low);
-      carried = tt;
+      carried = unwritten _ _ refl;
       traced = tt;
-      restarted = due ∙ ap plan.policy (rested now there).content;
+      restarted = (due ∙ ap plan.policy (rested now there).content, refl);
       long = p.long;
       others = p.others;
       own = λ k at.
           let it = p.own k at in
           let old = made.each row it.0 it.1 in
           let rest = rested it.0 it.1 in
-          subst (IsKept plan (resume_entry h row tracer how ∷ h) row) (sym it.2)
+          subst (IsKeptAfter plan (x ∷ h) row) (sym it.2)
           (record {
             tid = old.tid;
             number = old.number ∙ sym (ap (λ (a : Left). number_in a.events) own);
-            kept = subst (λ (a : Left). IsKeptAt (phase_in a.events) plan (resume_entry h row tracer how ∷ h) row
+            kept = subst (λ (a : Left). IsKeptAt (phase_in a.events) plan (x ∷ h) row
                 (record it.0 { how = how })) (sym own) (
                   refl,
                   inl (record {

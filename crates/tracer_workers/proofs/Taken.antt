@@ -7,8 +7,8 @@ use Rattle.record_printer.specs.FolderAnswers.{of_row, refusal}
 use Rattle.record_printer.specs.Note.{Note}
 use Rattle.record_printer.specs.Piece.{Died, Stopped}
 use Rattle.record_printer.specs.RowAnswers.{death_fault, stop_fault}
-use Rattle.record_printer.specs.declared.fold_error.FoldError.{FoldError}
-use Rattle.record_printer.specs.declared.show.Show.{Show}
+use Rattle.record_printer.specs.declared.call.show.Show.{Show}
+use Rattle.record_printer.specs.declared.fold.error.FoldError.{FoldError}
 use Rattle.stop_history.specs.declared.roster.Row.{Row}
 use Rattle.stop_history.specs.declared.state.State.TheVariants as state
 use Rattle.stop_history.specs.Event.{events_of}

@@ -6,7 +6,7 @@ use Rattle.std.proofs.lemmas.Bool.{cases_Bool, cases_eq}
 use Rattle.std.proofs.lemmas.List.Elements.{Contains-append_right, Contains-push_cases}
 use Rattle.record_printer.specs.Piece.{Died, Piece, Stopped}
 use Rattle.record_printer.specs.StopNote.{stop_note}
-use Rattle.record_printer.specs.declared.show.Show.{Show}
+use Rattle.record_printer.specs.declared.call.show.Show.{Show}
 use Rattle.stop_history.specs.Actor.{actor_of}
 use Rattle.stop_history.specs.declared.actor.Actor.{Actor}
 use Rattle.stop_history.specs.declared.roster.Row.{Row}
@@ -26,7 +26,7 @@ use Rattle.tracer_workers.specs.DrivenBy.{AreDrivenBy}
 use Rattle.tracer_workers.specs.HistoryPieces as history
 use Rattle.tracer_workers.specs.HistoryPieces.{pieces_of, stop_piece}
 use Rattle.tracer_workers.specs.Plan.{Plan}
-use Rattle.tracer_workers.specs.WorkerThread.{claimed_piece, pieces_claimed, pieces_with}
+use Rattle.tracer_workers.specs.WorkerThread.{claimed_piece, pieces_claimed, worker_pieces_with}
 use Rattle.tracer_workers.proofs.Left.{Left, other_left, own_left}
 use Rattle.tracer_workers.proofs.OwnEntries.{driven_on}
 
@@ -43,16 +43,16 @@ later show rows h (event.Exit row death) content pieces p is = Contains-append_r
 later show rows h (event.Claim row number tracer) content pieces p is = is
 later show rows h (event.Resume row number how tracer) content pieces p is = is
 
-stop_here : (show : Show) (rows : List Row) (h : List Entry) (e : Event) (content before : Content) (pieces : List Piece)
-    (row number : ℕ) (at : Stop) → IsCarried rows e content → e ≡ event.Publish row number at
+stop_here : (show : Show) (rows : List Row) (h : List Entry) (e : Event) (content before old : Content)
+    (pieces : List Piece) (row number : ℕ) (at : Stop) → IsCarried rows old e content → e ≡ event.Publish row number at
     → Contains (history.pieces_with show rows h e content pieces) (stop_piece show (content_with e content before))
-stop_here show rows h (event.Publish own n stop) content before pieces row number at carried is =
+stop_here show rows h (event.Publish own n stop) content before old pieces row number at carried is =
     subst (Contains (Stopped (row_at rows own).tid n (stop_note show content) ∷ pieces))
     (λ i. Stopped (sym carried.0 i) (sym carried.1 i) (stop_note show content))
     (first (Stopped (row_at rows own).tid n (stop_note show content)) pieces)
-stop_here show rows h (event.Claim own n tracer) content before pieces row number at carried is = cc
-stop_here show rows h (event.Resume own n how tracer) content before pieces row number at carried is = cc
-stop_here show rows h (event.Exit own death) content before pieces row number at carried is = cc
+stop_here show rows h (event.Claim own n tracer) content before old pieces row number at carried is = cc
+stop_here show rows h (event.Resume own n how tracer) content before old pieces row number at carried is = cc
+stop_here show rows h (event.Exit own death) content before old pieces row number at carried is = cc
 
 -- the piece of a row that stands at a stop was made
 stop_made : (show : Show) (rows : List Row) (row n number : ℕ) (at : Stop) (es : List Event) (h : List Entry)
@@ -67,7 +67,8 @@ stop_made show rows row n number at es (x ∷ h) legal is =
           let newest : x.event ≡ event.Publish n number at = cc in
           subst (λ (a : Left). Contains (pieces_of show rows (x ∷ h)) (stop_piece show a.content))
           (sym (own_left rows x h row same))
-          (stop_here show rows h x.event x.content (content_after rows h row) (pieces_of show rows h) n number at legal.0.2
+          (stop_here show rows h x.event x.content (content_after rows h row) (content_after rows h (subject x.event))
+          (pieces_of show rows h) n number at legal.0.2
           newest))
       | inr other ↦
           (let left = other_left rows x h row other in
@@ -129,7 +130,8 @@ claimed_with : (show : Show) (rows : List Row) (tracer : ℕ) (h : List Entry) (
     → AreLegal rows h → (row number claimer : ℕ) → e ≡ event.Claim row number claimer
     → is_waitable (state_in (is_born rows (history_of h) row) (events_of row (history_of h))) ≡ true
     → ((q : Piece) → Contains (pieces_claimed show rows tracer h) q → Contains (pieces_of show rows h) q)
-    → Contains (pieces_with show rows tracer h (event.Claim row number claimer) (pieces_claimed show rows tracer h)) p
+    → Contains (worker_pieces_with show rows tracer h (event.Claim row number claimer)
+    (pieces_claimed show rows tracer h)) p
     → Contains (pieces_of show rows h) p
 claimed_with show rows tracer h e content p legal row number claimer is waits before has =
     elim (cases_eq claimer tracer) [
@@ -152,7 +154,7 @@ claimed_with show rows tracer h e content p legal row number claimer is waits be
 claimed_by_event : (show : Show) (rows : List Row) (tracer : ℕ) (h : List Entry) (e : Event) (content : Content)
     (p : Piece) → AreLegal rows (record { event = e; content = content } ∷ h)
     → ((q : Piece) → Contains (pieces_claimed show rows tracer h) q → Contains (pieces_of show rows h) q)
-    → Contains (pieces_with show rows tracer h e (pieces_claimed show rows tracer h)) p
+    → Contains (worker_pieces_with show rows tracer h e (pieces_claimed show rows tracer h)) p
     → Contains (history.pieces_with show rows h e content (pieces_of show rows h)) p
 claimed_by_event show rows tracer h (event.Publish row number at) content p legal before has =
     later show rows h (event.Publish row number at) content (pieces_of show rows h) p (before p has)

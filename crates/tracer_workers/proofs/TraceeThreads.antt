@@ -30,8 +30,8 @@ use Rattle.stop_table.proofs.Walking.{itself, looked_on}
 use Rattle.trace_script.specs.Machine.{IsAnswer}
 use Rattle.trace_script.specs.StopTrace.{DeathIs, Element, FaultIs, Position, StopIs, context_of, next_element}
 use Rattle.trace_script.specs.StopTrace.{next_position, position_after}
-use Rattle.trace_script.specs.declared.next.Next.{Next}
-use Rattle.trace_script.specs.declared.next.Next.TheVariants as next
+use Rattle.trace_script.specs.declared.machine.next.Next.{Next}
+use Rattle.trace_script.specs.declared.machine.next.Next.TheVariants as next
 use Rattle.tracer_workers.specs.CaseText.{death_after}
 use Rattle.tracer_workers.specs.Driven.{IsDeathOf, element_after, position_at, restart_after, restart_at}
 use Rattle.tracer_workers.specs.DrivenBy.{AreDrivenBy}

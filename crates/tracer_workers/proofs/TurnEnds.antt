@@ -10,7 +10,7 @@ use Rattle.record_printer.specs.FolderAnswers.{refusal}
 use Rattle.record_printer.specs.Piece.{Died, Stopped}
 use Rattle.record_printer.specs.StopNote.{stop_note}
 use Rattle.trace_script.specs.StopTrace.{Position, StopIs}
-use Rattle.record_printer.specs.Represents.{Represents as HasCome}
+use Rattle.record_printer.specs.Represents.{Represents}
 use Rattle.tracer_workers.specs.Scheduled.{CameTo}
 use Rattle.stop_history.specs.declared.actor.Actor.TheVariants.{Tracee}
 use Rattle.stop_history.specs.declared.limits.TheConstants.{LAST_NUMBER}
@@ -25,7 +25,7 @@ use Rattle.trace_script.specs.CaseFile.{CaseContent}
 use Rattle.tracer_workers.specs.Config.{plan_of, show_of}
 use Rattle.tracer_workers.specs.Driven.{IsDeathOf, element_after}
 use Rattle.tracer_workers.specs.HistoryPieces.{pieces_of, stop_piece}
-use Rattle.tracer_workers.specs.Scheduled.{IsHeldOrIdle, IsKept, IsReady, KeptRow, MovedBy, RunState, Stands}
+use Rattle.tracer_workers.specs.Scheduled.{IsHeldOrIdle, IsKeptAfter, IsReady, KeptRow, MovedBy, RunState, Stands}
 use Rattle.tracer_workers.specs.Turn.{HasDied, HasStopped, onward, with_next, with_number, with_row}
 use Rattle.tracer_workers.proofs.Fewer.{fewer_left, index_of_get}
 use Rattle.tracer_workers.proofs.Made.{free_on, made_on}
@@ -67,7 +67,7 @@ pub record CanPublish (content : CaseContent) (run : RunState) (h : List Entry) 
   pub stop : IsStop c.stop
   pub world : CameTo run.world (history_of h)
   pub answer : publish_answer run.world.rows (history_of h) row c.stop ≡ Ok (last_number (history_of h) row + 1)
-  pub folder : HasCome run.folder (pieces_of (show_of run.config) content.rows h)
+  pub folder : Represents run.folder (pieces_of (show_of run.config) content.rows h)
   pub taken : refusal run.folder.rows (pieces_of (show_of run.config) content.rows h) (stop_piece (show_of run.config) c)
       ≡ None
 
@@ -103,7 +103,7 @@ module _ (content : CaseContent) (before : RunState) (h : List Entry) (row : ℕ
   stopped_moves : (new : RunState) → new.config ≡ before.config
       → CameTo new.world (event.Publish row (last_number (history_of h) row + 1) c.stop ∷ history_of h)
       → new.world.rows ≡ before.world.rows
-      → HasCome new.folder (stop_piece (show_of before.config) c ∷ pieces_of (show_of before.config) content.rows h)
+      → Represents new.folder (stop_piece (show_of before.config) c ∷ pieces_of (show_of before.config) content.rows h)
       → new.folder.rows ≡ before.folder.rows
       → new.rows ≡ slice_set (slice_set before.rows row stopped) row (with_number stopped (last_number (history_of h) row + 1))
       → MovedBy (Tracee row) content (with_row before row stopped) new h
@@ -148,7 +148,7 @@ pub publish_moves : (content : CaseContent) (run new : RunState) (h : List Entry
     → (s : HasStopped content run h row c) → new.config ≡ run.config
     → CameTo new.world (event.Publish row (last_number (history_of h) row + 1) c.stop ∷ history_of h)
     → new.world.rows ≡ run.world.rows
-    → HasCome new.folder (stop_piece (show_of run.config) c ∷ pieces_of (show_of run.config) content.rows h)
+    → Represents new.folder (stop_piece (show_of run.config) c ∷ pieces_of (show_of run.config) content.rows h)
     → new.folder.rows ≡ run.folder.rows
     → new.rows ≡ slice_set run.rows row
     (with_number (with_next s.k c (onward (plan_of s.before.config content) h row)) (last_number (history_of h) row + 1))
@@ -159,7 +159,7 @@ publish_moves content run new h row c s config world world_rows folder folder_ro
     subst at (sym s.is)
     (stopped_moves content s.before h row c s.stands s.within s.runs s.due s.k s.there new
     (config ∙ ap (λ (r : RunState). r.config) s.is) world (world_rows ∙ ap (λ (r : RunState). r.world.rows) s.is)
-    (subst (λ (r : RunState). HasCome new.folder (stop_piece (show_of r.config) c
+    (subst (λ (r : RunState). Represents new.folder (stop_piece (show_of r.config) c
     ∷ pieces_of (show_of r.config) content.rows h)) s.is folder)
     (folder_rows ∙ ap (λ (r : RunState). r.folder.rows) s.is)
     (rows ∙ ap (λ (r : RunState). slice_set r.rows row (with_number k (last_number (history_of h) row + 1))) s.is))
@@ -171,7 +171,7 @@ pub record CanEnd (content : CaseContent) (run : RunState) (h : List Entry) (row
   pub within : row < length run.rows
   pub range : IsDeath death
   pub world : CameTo run.world (history_of h)
-  pub folder : HasCome run.folder (pieces_of (show_of run.config) content.rows h)
+  pub folder : Represents run.folder (pieces_of (show_of run.config) content.rows h)
   -- of the row that is kept at the place
   pub number : (k : KeptRow) → slice_get run.rows row ≡ Some k → k.number ≤ LAST_NUMBER
   pub taken : (k : KeptRow) → slice_get run.rows row ≡ Some k
@@ -212,7 +212,7 @@ module _ (content : CaseContent) (before : RunState) (h : List Entry) (row : ℕ
       → exit_answer content.rows (history_of h) row ≡ Ok tt
       → CameTo new.world (event.Exit row death ∷ history_of h) → new.world.rows ≡ before.world.rows
       → (it : KeptRow) → slice_get (slice_set before.rows row dead) row ≡ Some it
-      → HasCome new.folder (Died it.tid it.number death ∷ pieces_of (show_of before.config) content.rows h)
+      → Represents new.folder (Died it.tid it.number death ∷ pieces_of (show_of before.config) content.rows h)
       → new.folder.rows ≡ before.folder.rows
       → new.rows ≡ slice_set before.rows row dead
       → MovedBy (Tracee row) content (with_row before row dead) new h
@@ -226,7 +226,7 @@ module _ (content : CaseContent) (before : RunState) (h : List Entry) (row : ℕ
         config = config;
         world = world;
         world_rows = world_rows;
-        folder = subst (λ (p : ℕ × ℕ). HasCome new.folder (Died p.0 p.1 death
+        folder = subst (λ (p : ℕ × ℕ). Represents new.folder (Died p.0 p.1 death
             ∷ pieces_of (show_of before.config) content.rows h)) (λ i. (numbers.0 i, numbers.1 i)) folder;
         folder_rows = folder_rows;
         long = ap length rows ∙ long_set before.rows row dead;
@@ -283,7 +283,8 @@ pub end_moves : (content : CaseContent) (run new : RunState) (h : List Entry) (r
     → (s : HasDied content run h row death) → new.config ≡ run.config
     → exit_answer run.world.rows (history_of h) row ≡ Ok tt
     → CameTo new.world (event.Exit row death ∷ history_of h) → new.world.rows ≡ run.world.rows
-    → HasCome new.folder (Died (died_row s).tid (died_row s).number death ∷ pieces_of (show_of run.config) content.rows h)
+    → Represents new.folder
+    (Died (died_row s).tid (died_row s).number death ∷ pieces_of (show_of run.config) content.rows h)
     → new.folder.rows ≡ run.folder.rows
     → new.rows ≡ run.rows
     → MovedBy (Tracee row) content run new h
@@ -296,7 +297,8 @@ end_moves content run new h row death s config answer world world_rows folder fo
     ∙ answer) world
     (world_rows ∙ ap (λ (r : RunState). r.world.rows) s.is) k
     (ap (λ (r : RunState). slice_get r.rows row) (sym s.is) ∙ died_there content run h row death s)
-    (subst (λ (r : RunState). HasCome new.folder (Died k.tid k.number death ∷ pieces_of (show_of r.config) content.rows h)) s.is
+    (subst (λ (r : RunState). Represents new.folder
+    (Died k.tid k.number death ∷ pieces_of (show_of r.config) content.rows h)) s.is
     folder)
     (folder_rows ∙ ap (λ (r : RunState). r.folder.rows) s.is)
     (rows ∙ ap (λ (r : RunState). r.rows) s.is))
@@ -328,10 +330,10 @@ held_stays_at content before h row stands within runs k there new_content at rea
               | inl same ↦
                   (let is : it ≡ dead = get_set_same before.rows row dead it
                   (ap (slice_get (slice_set before.rows row dead)) same ∙ here) in
-                  let own : IsKept (plan_of before.config content) h row dead =
+                  let own : IsKeptAfter (plan_of before.config content) h row dead =
                   kept_ready content before h row stands within runs k there dead refl refl refl ready in
-                  subst (λ r. IsKept (plan_of before.config content) h r it) same
-                  (subst (IsKept (plan_of before.config content) h row) (sym is) own))
+                  subst (λ r. IsKeptAfter (plan_of before.config content) h r it) same
+                  (subst (IsKeptAfter (plan_of before.config content) h row) (sym is) own))
               | inr apart ↦
                   made.each other it (sym (get_set_other before.rows row other dead (λ is. apart (sym is))) ∙ here)
             ];

@@ -13,12 +13,12 @@ use Rattle.stop_table.specs.Entry.{Entry, history_of}
 use Rattle.trace_script.specs.CaseFile.{CaseContent}
 use Rattle.trace_script.specs.Machine.{IsAnswer}
 use Rattle.trace_script.specs.StopTrace.{Element, Position, context_of, next_element, next_position}
-use Rattle.trace_script.specs.declared.next.Next.{Next}
-use Rattle.trace_script.specs.declared.next.Next.TheVariants as next
+use Rattle.trace_script.specs.declared.machine.next.Next.{Next}
+use Rattle.trace_script.specs.declared.machine.next.Next.TheVariants as next
 use Rattle.tracer_workers.specs.Config.{plan_of}
 use Rattle.tracer_workers.specs.Driven.{IsDeathOf, fault_death, restart_after, restart_at}
 use Rattle.tracer_workers.specs.Plan.{Plan}
-use Rattle.tracer_workers.specs.Scheduled.{IsKept, IsKeptAt, IsReady, KeptRow, RunState, Stands}
+use Rattle.tracer_workers.specs.Scheduled.{IsKeptAfter, IsKeptAt, IsReady, KeptRow, RunState, Stands}
 use Rattle.tracer_workers.specs.Turn.{HasDied, HasRunOn, HasStopped, IsToRun, with_next, with_row}
 use Rattle.tracer_workers.proofs.AfterClaim.{not_by_claim}
 use Rattle.tracer_workers.proofs.Fitting.{fits_at, next_death, restart_in_range}
@@ -63,7 +63,7 @@ module _ (content : CaseContent) (run : RunState) (h : List Entry) (row : ℕ) (
       (stands.0.each row k there).kept
 
   pub kept_ready : (later : KeptRow) → later.tid ≡ k.tid → later.number ≡ k.number → later.how ≡ k.how
-      → IsReady plan h row later → IsKept plan h row later
+      → IsReady plan h row later → IsKeptAfter plan h row later
   kept_ready later tid number how is_ready =
       let old = stands.0.each row k there in
       record {

@@ -5,10 +5,11 @@ use Rattle.trace_record.specs.declared.death.Death.{Death}
 use Rattle.trace_record.specs.declared.resume.Resume.{Resume as Restart}
 use Rattle.stop_table.specs.Entry.{Entry}
 use Rattle.trace_script.specs.Machine.{IsAnswer}
-use Rattle.trace_script.specs.StopTrace.{Context, DeathIs, Died, Element, FaultIs, Faulted, Outcome, Position, StopIs}
+use Rattle.trace_script.specs.StopTrace.{Context, DeathIs, Died, Element, Exiting, FaultIs, Faulted, Outcome}
+use Rattle.trace_script.specs.StopTrace.{Position, StopIs}
 use Rattle.trace_script.specs.StopTrace.{Stopped, Through, context_of, element_by, next_element, next_position}
 use Rattle.trace_script.specs.StopTrace.{outcome_at, position_by}
-use Rattle.trace_script.specs.declared.next.Next.TheVariants as next
+use Rattle.trace_script.specs.declared.machine.next.Next.TheVariants as next
 use Rattle.tracer_workers.specs.Driven.{element_after, position_at, restart_after}
 use Rattle.tracer_workers.specs.Plan.{Plan}
 use Rattle.tracer_workers.specs.Scheduled.{IsAtRest, IsDying, IsReady, KeptRow}
@@ -18,12 +19,14 @@ use Rattle.tracer_workers.specs.Turn.{onward, with_next}
 dies_by : (p : Position) (o : Outcome) (d : Death) → element_by p o ≡ DeathIs d → (how : Restart) (x : Context)
     → next_element (position_by p o) how x ≡ DeathIs d
 dies_by p (Stopped left at y) d is how x = cc
+dies_by p (Exiting death y) d is how x = cc
 dies_by p (Through y) d is how x = is
 dies_by p (Died death) d is how x = is
 dies_by p (Faulted address) d is how x = cc
 
 stays_by : (p : Position) (o : Outcome) (a : ℕ) → element_by p o ≡ FaultIs a → position_by p o ≡ p
 stays_by p (Stopped left at y) a is = cc
+stays_by p (Exiting death y) a is = cc
 stays_by p (Through y) a is = cc
 stays_by p (Died death) a is = cc
 stays_by p (Faulted address) a is = refl

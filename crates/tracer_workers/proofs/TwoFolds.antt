@@ -4,7 +4,7 @@ use Rattle.std.proofs.Common.{refl, ◌≡◌, ◌++◌, [], ℕ, Bool, true, fa
 use Rattle.std.proofs.Common.{append_assoc, append-nil, codes, cond}
 use Rattle.record_printer.specs.Note.{CallEnd, CallStart, Exit, Enter, Seccomp, Signal, ended_line, line_with}
 use Rattle.record_printer.specs.PrintedRow.{death_line, line_left}
-use Rattle.record_printer.specs.RowFold.{Fold, empty_fold, ended, fold_after, fold_text, left_line, started}
+use Rattle.record_printer.specs.RowFold.{Fold, empty_fold, ended_fold, fold_after, fold_text, left_line, started}
 
 -- no call is pending, and these lines are printed so far
 pub record Idle (fold : Fold) (lines : List ℕ) : Type 0 where
@@ -65,7 +65,7 @@ between_signal f g line b = record {
 
 -- a call has started and ended
 call_ended : (f : Fold) (lines : List ℕ) (entered : Bool) (start : CallStart) (end : CallEnd) → Idle f lines
-    → Idle (ended (started f entered start) end) (lines ++ ended_line start end)
+    → Idle (ended_fold (started f entered start) end) (lines ++ ended_line start end)
 call_ended f lines entered start end idle = record {
   pending = refl;
   entered = refl;

@@ -1,11 +1,11 @@
--- The same acts traced plainly and with a filter: what the rest of the two traces adds to two folds ends in the same
--- lines, names the same children, and dies alike.
+-- The same acts traced plainly and with a filter, with or without stops before deaths: what the rest of the two traces
+-- adds to two folds ends in the same lines, names the same children, and dies alike.
 use Rattle.std.proofs.Common.{refl, ◌≡◌, ◌∷◌, ◌++◌, ◌||◌, ◌==◌, ◌+◌, ◌%◌, [], ℕ, Bool, true, false, List, Option, Some, None}
 use Rattle.std.proofs.Common.{Result, Ok, Err, ◌∙◌, sym, ap, subst, map, cond, length}
 use Rattle.trace_options.specs.Calls.{has_call}
 use Rattle.trace_options.specs.declared.filter.Filter.{Filter}
 use Rattle.trace_options.specs.declared.options.Options.{Options}
-use Rattle.trace_options.specs.declared.options.TheConstants.Options.{TRACECLONE, TRACEEXEC, TRACEFORK}
+use Rattle.trace_options.specs.declared.options.TheConstants.Options.{TRACECLONE, TRACEEXEC, TRACEEXIT, TRACEFORK}
 use Rattle.trace_pages.specs.declared.fault.Fault.{Fault}
 use Rattle.trace_pages.specs.FlatMemory.{run_end, stored}
 use Rattle.trace_pages.specs.Memory.{store_answer}
@@ -19,15 +19,16 @@ use Rattle.trace_record.specs.declared.stop.Stop.TheVariants as stop
 use Rattle.trace_script.specs.Registers.{first_regs, with_answer, with_call, with_start}
 use Rattle.trace_script.specs.Script.{Fill, Image, Script, Step}
 use Rattle.trace_script.specs.Script as step
-use Rattle.trace_script.specs.StepStops.{Act, Halts, Calls, Becomes, Stores, Answers, Delivers, Dies}
+use Rattle.trace_script.specs.StepStops.{Act, Halts, Calls, Becomes, Stores, Answers, Delivers, Exits}
 use Rattle.trace_script.specs.StepStops.{Always, Traced, Filtered, ByOption, acts_of, acts_of_steps, answers}
-use Rattle.trace_script.specs.StopTrace.{Context, Stops, GoesOn as Continues, Ends, Trace, Dead}
-use Rattle.trace_script.specs.StopTrace.{context, ended, store_effect, trace_by, trace_from, with_stop}
+use Rattle.trace_script.specs.StepStops.{last_acts}
+use Rattle.trace_script.specs.StopTrace.{Context, Stops, StopsLast, GoesOn as Continues, Ends, Trace, Dead}
+use Rattle.trace_script.specs.StopTrace.{context, ended_trace, store_effect, trace_by, trace_from, with_stop}
 use Rattle.record_printer.specs.DeathLine.{death_text}
 use Rattle.record_printer.specs.Note.{CallStart, Enter, Seccomp}
 use Rattle.record_printer.specs.RowFold.{Fold, empty_fold, fold_after, fold_after_all, fold_text}
 use Rattle.record_printer.specs.StopNote.{call_end, call_start, hidden_start, kinds_of, printed_start, signal_line, stop_note}
-use Rattle.record_printer.specs.declared.show.Show.{Show}
+use Rattle.record_printer.specs.declared.call.show.Show.{Show}
 use Rattle.tracer_workers.specs.CaseText.{bears, death_of}
 use Rattle.tracer_workers.specs.Driven.{fault_death}
 use Rattle.tracer_workers.specs.Modes.{AgreeButFilter, asks, filtered_trace, plain_trace, setting}
@@ -78,7 +79,7 @@ module _ (show : Show) (tid ret_data : ℕ) (options more : Options) (other : Fi
   -- ---- tests that both make
 
   ended_alike : (f g : Fold) (death : Death) → ((text : Option (List ℕ)) → fold_text f text ≡ fold_text g text)
-      → Same show tid f g (ended (Dead death)) (ended (Dead death))
+      → Same show tid f g (ended_trace (Dead death)) (ended_trace (Dead death))
   ended_alike f g death same = record { lines = same (Some (death_text tid death)); children = λ child. refl; endings = refl }
 
   store_by : (f g : Fold) (r : Result (Unit {0}) Fault) (y : Context) (c d : Stop → Content) (a b : Content → Trace)
@@ -98,13 +99,30 @@ module _ (show : Show) (tid ret_data : ℕ) (options more : Options) (other : Fi
   halt_both f g true false same at x c d a b m n stops on = cc
   halt_both f g false true same at x c d a b m n stops on = cc
 
-  deliver_by : (f g : Fold) (p : Bool) (death : Death) (x : Context) (c d : Stop → Content) (a b : Content → Trace)
-      (m n : Context → Trace) → ((text : Option (List ℕ)) → fold_text f text ≡ fold_text g text)
-      → Same show tid f g (m x) (n x)
-      → Same show tid f g (trace_by (cond p (Continues x) (Ends death)) c a m)
-      (trace_by (cond p (Continues x) (Ends death)) d b n)
-  deliver_by f g true death x c d a b m n dies on = on
-  deliver_by f g false death x c d a b m n dies on = ended_alike f g death dies
+  -- the stop before a death has no line, whether either makes it or not
+  exit_by : (f g : Fold) (p q : Bool) (death : Death) (m n : ℕ) (x : Context) (a b : Content → Trace)
+      (k l : Context → Trace) → ((text : Option (List ℕ)) → fold_text f text ≡ fold_text g text)
+      → Same show tid f g
+      (trace_by (cond p (StopsLast death) (Ends death)) (λ at. content_by tid (m + 1) at x.regs x.memory) a k)
+      (trace_by (cond q (StopsLast death) (Ends death)) (λ at. content_by tid (n + 1) at x.regs x.memory) b l)
+  exit_by f g true true death m n x a b k l dies =
+      record { lines = dies (Some (death_text tid death)); children = λ child. refl; endings = refl }
+  exit_by f g true false death m n x a b k l dies =
+      record { lines = dies (Some (death_text tid death)); children = λ child. refl; endings = refl }
+  exit_by f g false true death m n x a b k l dies =
+      record { lines = dies (Some (death_text tid death)); children = λ child. refl; endings = refl }
+  exit_by f g false false death m n x a b k l dies = ended_alike f g death dies
+
+  deliver_by : (f g : Fold) (r p q : Bool) (death : Death) (m n : ℕ) (x : Context) (a b : Content → Trace)
+      (k l : Context → Trace) → ((text : Option (List ℕ)) → fold_text f text ≡ fold_text g text)
+      → Same show tid f g (k x) (l x)
+      → Same show tid f g
+      (trace_by (cond r (Continues x) (cond p (StopsLast death) (Ends death)))
+      (λ at. content_by tid (m + 1) at x.regs x.memory) a k)
+      (trace_by (cond r (Continues x) (cond q (StopsLast death) (Ends death)))
+      (λ at. content_by tid (n + 1) at x.regs x.memory) b l)
+  deliver_by f g true p q death m n x a b k l dies on = on
+  deliver_by f g false p q death m n x a b k l dies on = exit_by f g p q death m n x a b k l dies
 
   hidden_by : (c : Content) → has_call show.calls c.regs.orig_rax ≡ false → (call_start show c).shown ≡ false
   hidden_by c is =
@@ -182,9 +200,11 @@ module _ (show : Show) (tid ret_data : ℕ) (options more : Options) (other : Fi
       (record { lines = k.lines; children = k.children; endings = k.endings })
       (answered r t again 0 shown m n i j y f g is inside)
 
-  died : (r t : List Act) (death : Death) → GoesOn (Dies death ∷ r) (Dies death ∷ t)
+  exited : (r t : List Act) (death : Death) → GoesOn (Exits death ∷ r) (Exits death ∷ t)
   unfolding trace_from
-  died r t death shown m n i j x f g is inside = ended_alike f g death inside.dies
+  exited r t death shown m n i j x f g is inside =
+      exit_by f g (asks options TRACEEXIT) (asks more TRACEEXIT) death m n x _ _ (λ y. plain m i r y)
+      (λ y. filtered (to_its_end shown) n j t y) inside.dies
 
   -- ---- the entry to a call
 
@@ -231,8 +251,8 @@ module _ (show : Show) (tid ret_data : ℕ) (options more : Options) (other : Fi
       → Same show tid f g (plain m signal (Delivers ∷ r) x) (filtered Cont n signal (Delivers ∷ t) x)
   unfolding trace_from
   delivered r t again signal m n x f g between =
-      deliver_by f g (signal == 0) (Signaled signal false) x _ _ _ _ (λ y. plain m signal r y)
-      (λ y. filtered Cont n signal t y) (λ text. same_between f g text between)
+      deliver_by f g (signal == 0) (asks options TRACEEXIT) (asks more TRACEEXIT) (Signaled signal false) m n x _ _
+      (λ y. plain m signal r y) (λ y. filtered Cont n signal t y) (λ text. same_between f g text between)
       (again m n signal signal x f g between)
 
   killed : (r t : List Act) → Again r t → (signal : ℕ)
@@ -255,11 +275,13 @@ module _ (show : Show) (tid ret_data : ℕ) (options more : Options) (other : Fi
   same_step r t again (step.Exec path image) = entered _ _ (execed r t again image) _ _
   same_step r t again (step.Signal signal false) = signalled r t again signal
   same_step r t again (step.Signal signal true) = killed r t again signal
-  same_step r t again (step.Exit status) = entered _ _ (died r t (Exited (status % 256))) _ _
+  same_step r t again (step.Exit status) = entered _ _ (exited r t (Exited (status % 256))) _ _
 
-  out_of_steps : Again [] []
+  out_of_steps : Again last_acts last_acts
   unfolding trace_from
-  out_of_steps m n i j x f g between = ended_alike f g (Exited 0) (λ text. same_between f g text between)
+  out_of_steps m n i j x f g between =
+      exit_by f g (asks options TRACEEXIT) (asks more TRACEEXIT) (Exited 0) m n x _ _ (λ y. plain m i [] y)
+      (λ y. filtered Cont n j [] y) (λ text. same_between f g text between)
 
   same_steps : (steps : List Step)
       → Again (acts_of_steps (setting tid options other) steps) (acts_of_steps (setting tid more filter) steps)

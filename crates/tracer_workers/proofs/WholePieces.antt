@@ -6,7 +6,7 @@ use Rattle.std.specs.List.{flat_map, list_any, range_with_len}
 use Rattle.std.proofs.Math.Seq.{get_or-append_seam}
 use Rattle.std.proofs.lemmas.Bool.{and_parts, cases_Bool, cases_eq}
 use Rattle.trace_record.specs.Content.{Content}
-use Rattle.trace_record.specs.Stop.{child_of as created_by}
+use Rattle.trace_record.specs.Stop.{child_of}
 use Rattle.trace_record.specs.declared.death.Death.{Death}
 use Rattle.trace_record.specs.declared.stop.Stop.{Stop}
 use Rattle.trace_record.specs.declared.stop.Stop.TheVariants as stop
@@ -15,25 +15,25 @@ use Rattle.stop_history.specs.Event as event
 use Rattle.stop_history.specs.Event.{Event, events_of, subject}
 use Rattle.stop_history.specs.History.{Fits, is_next_child, names_next}
 use Rattle.stop_history.specs.Roster.{IsRoster, is_root, nobody, parent_of, row_at, row_of}
-use Rattle.stop_history.specs.State.{is_birth, is_born, names as creates, number_in, was_created}
+use Rattle.stop_history.specs.State.{creates, is_birth, is_born, number_in, was_created}
 use Rattle.stop_history.proofs.Events.{other_events, own_events}
 use Rattle.stop_history.proofs.Longer.{born_stays, unborn_is_silent}
 use Rattle.stop_history.proofs.Rosters.{row_of-tid, tid_in_range}
 use Rattle.stop_history.proofs.States.{fits_within}
-use Rattle.stop_table.specs.Entry.{AreLegal, Entry, IsCarried, history_of}
+use Rattle.stop_table.specs.Entry.{AreLegal, Entry, IsCarried, content_after, history_of}
 use Rattle.stop_table.proofs.Entries.{legal_history}
-use Rattle.record_printer.specs.Came.{child_of, is_child, is_of, last_of, names, stop_of}
+use Rattle.record_printer.specs.Came.{child_noted, is_child, is_of, last_of, names, stop_of}
 use Rattle.record_printer.specs.DeathLine.{death_text}
-use Rattle.record_printer.specs.FolderAnswers.{first_of, is_expected, lost, lost_at, lost_if, missing_of, or_next}
-use Rattle.record_printer.specs.FolderAnswers.{pieces_text, row_text}
+use Rattle.record_printer.specs.FolderAnswers.{first_row_fault, is_expected, lost, lost_at, lost_if, missing_of}
+use Rattle.record_printer.specs.FolderAnswers.{or_next, pieces_text, row_text}
 use Rattle.record_printer.specs.Note.{Note}
 use Rattle.record_printer.specs.Piece.{Piece}
 use Rattle.record_printer.specs.PrintedRow.{row_lines}
 use Rattle.record_printer.specs.RowAnswers.{missing_in, text_in}
 use Rattle.record_printer.specs.StopNote.{stop_note}
-use Rattle.record_printer.specs.declared.fold_error.FoldError.{FoldError}
-use Rattle.record_printer.specs.declared.show.Show.{Show}
-use Rattle.tracer_workers.specs.CaseText.{death_after, history_lines, history_text, published, text_if}
+use Rattle.record_printer.specs.declared.call.show.Show.{Show}
+use Rattle.record_printer.specs.declared.fold.error.FoldError.{FoldError}
+use Rattle.tracer_workers.specs.CaseText.{death_after, history_lines, history_text, published_contents, text_if}
 use Rattle.tracer_workers.specs.HistoryPieces.{pieces_of, pieces_with}
 use Rattle.tracer_workers.specs.Printing.{printed_lines}
 use Rattle.tracer_workers.proofs.BornRows.{same_on_range}
@@ -89,7 +89,7 @@ silent_death (x ∷ h) row silent =
 
 -- a note names the child that its stop creates
 pub noted_child : (show : Show) (content : Content) (at : Stop) → content.stop ≡ at
-    → (tid : ℕ) → is_child tid (child_of (stop_note show content)) ≡ creates tid (created_by at)
+    → (tid : ℕ) → is_child tid (child_noted (stop_note show content)) ≡ creates tid (child_of at)
 noted_child show content stop.Start is tid = rw is refl
 noted_child show content stop.Enter is tid = rw is refl
 noted_child show content stop.Exit is tid = rw is refl
@@ -98,6 +98,7 @@ noted_child show content (stop.Fork child) is tid = rw is refl
 noted_child show content (stop.Clone child) is tid = rw is refl
 noted_child show content (stop.Exec former) is tid = rw is refl
 noted_child show content (stop.Signal signal) is tid = rw is refl
+noted_child show content (stop.Ending death) is tid = rw is refl
 
 parent_is : (rows : List Row) → IsRoster rows → (at row : ℕ) → at < length rows
     → ((row_at rows row).parent == (row_at rows at).tid) ≡ true → parent_of rows row ≡ Some at
@@ -121,11 +122,11 @@ named_by_parent rows roster at births row there within (Some child) next named =
     parent_is rows roster at row there (and_parts _ _ found).0
 
 born_now : (rows : List Row) (h : List Entry) (at number row : ℕ) (made : Stop) → parent_of rows row ≡ Some at
-    → creates (row_at rows row).tid (created_by made) ≡ true
+    → creates (row_at rows row).tid (child_of made) ≡ true
     → is_born rows (event.Publish at number made ∷ history_of h) row ≡ true
 born_now rows h at number row made of_parent named =
     ap (λ o. was_created o (row_at rows row).tid (event.Publish at number made ∷ history_of h)) of_parent
-    ∙ ap (λ b. (b && creates (row_at rows row).tid (created_by made))
+    ∙ ap (λ b. (b && creates (row_at rows row).tid (child_of made))
     || list_any (is_birth at (row_at rows row).tid) (history_of h)) (eq-eqb at at refl)
     ∙ ap (λ b. b || list_any (is_birth at (row_at rows row).tid) (history_of h)) named
 
@@ -134,18 +135,19 @@ born_before : (rows : List Row) (h : List Entry) (e : Event) (row : ℕ) → is_
 born_before rows h e row born = born_stays rows (e ∷ []) (history_of h) row born
 
 named_with : (show : Show) (rows : List Row) → IsRoster rows → (h : List Entry) (e : Event) (content : Content)
-    (pieces : List Piece) (row : ℕ) → row < length rows → Fits rows (history_of h) e → IsCarried rows e content
+    (pieces : List Piece) (row : ℕ) → row < length rows → Fits rows (history_of h) e
+    → IsCarried rows (content_after rows h (subject e)) e content
     → (list_any (names (row_at rows row).tid) pieces ≡ true → is_born rows (history_of h) row ≡ true)
     → list_any (names (row_at rows row).tid) (pieces_with show rows h e content pieces) ≡ true
     → is_born rows (e ∷ history_of h) row ≡ true
 named_with show rows roster h (event.Publish at number made) content pieces row within fits carried before named =
     let tid = (row_at rows row).tid in
     let child = noted_child show content made carried.2 tid in
-    elim (cases_Bool (creates tid (created_by made))) [
+    elim (cases_Bool (creates tid (child_of made))) [
       | inl now ↦
           born_now rows h at number row made
           (named_by_parent rows roster at _ row (fits_within rows (history_of h) (event.Publish at number made) fits) within
-          (created_by made) fits.3 now) now
+          (child_of made) fits.3 now) now
       | inr later ↦
           born_before rows h (event.Publish at number made) row
           (before (sym (ap (λ b. b || list_any (names tid) pieces) (child ∙ later)) ∙ named))
@@ -214,10 +216,10 @@ whole_row show rows roster h legal row within death died =
     (λ n low high. ap not (a.there n low (omega (arith, high))))
 
 first_none : (fault : ℕ → Option FoldError) (most first count : ℕ) → first + count ≤ most
-    → ((row : ℕ) → row < most → fault row ≡ None) → first_of fault (range_with_len first count) ≡ None
+    → ((row : ℕ) → row < most → fault row ≡ None) → first_row_fault fault (range_with_len first count) ≡ None
 first_none fault most first zero within none = refl
 first_none fault most first (suc count) within none =
-    ap (λ o. or_next o (first_of fault (range_with_len (first + 1) count))) (none first (omega arith))
+    ap (λ o. or_next o (first_row_fault fault (range_with_len (first + 1) count))) (none first (omega arith))
     ∙ first_none fault most (first + 1) count (omega arith) none
 
 nothing_lost : (expected : Bool) (row : ℕ) → lost_if expected row None ≡ None
@@ -260,7 +262,7 @@ by_places f before (row ∷ rows) =
 text_by : (show : Show) (rows : List Row) → IsRoster rows → (h : List Entry) → AreLegal rows h → AreDead rows h
     → (row : ℕ) → row < length rows → (born : Bool) → is_born rows (history_of h) row ≡ born
     → row_text (pieces_of show rows h) (row_at rows row)
-    ≡ text_if born (printed_lines show (row_at rows row).tid (published h row) (death_after h row))
+    ≡ text_if born (printed_lines show (row_at rows row).tid (published_contents h row) (death_after h row))
 text_by show rows roster h legal dead row within false unborn =
     let tid = (row_at rows row).tid in
     let silent = unborn_is_silent rows (history_of h) (legal_history rows h legal) row unborn in
@@ -274,7 +276,7 @@ text_by show rows roster h legal dead row within true born =
     let died = dead row within born in
     ap (text_in tid (stop_of tid (pieces_of show rows h))) (a.ending ∙ ap (ending_at number) died.1)
     ∙ ap (λ (notes : List Note). row_lines notes (Some (death_text tid died.0))) a.order
-    ∙ ap (printed_lines show tid (published h row)) (sym died.1)
+    ∙ ap (printed_lines show tid (published_contents h row)) (sym died.1)
 
 pub text_of_pieces : (show : Show) (rows : List Row) → IsRoster rows → (h : List Entry) → AreLegal rows h
     → AreDead rows h → pieces_text rows (pieces_of show rows h) ≡ history_text (printed_lines show) rows h

@@ -13,11 +13,11 @@ use Rattle.stop_history.specs.State.{is_born, is_waitable, state_after}
 use Rattle.stop_history.specs.Word.{phase_in}
 use Rattle.stop_history.proofs.States.{fits_within, state_within}
 use Rattle.stop_table.specs.Entry.{AreLegal, Entry, content_after, history_of}
-use Rattle.trace_script.specs.StopTrace.{Dead, Broken, DeathIs, Element, Ending, FaultIs, Follows, Obeys, Policy}
-use Rattle.trace_script.specs.StopTrace.{StopIs, Trace, Turn, context_after, context_of, ended, first_restart, how_after}
-use Rattle.trace_script.specs.StopTrace.{next_element, position_after, trace_at, with_stop, with_stops}
+use Rattle.trace_script.specs.StopTrace.{Dead, Broken, DeathIs, Element, Ending, FaultIs, FollowsTrace, Obeys, Policy}
+use Rattle.trace_script.specs.StopTrace.{StopIs, Trace, Turn, context_after, context_of, ended_trace, first_restart}
+use Rattle.trace_script.specs.StopTrace.{how_after, next_element, position_after, trace_at, with_stop, with_stops}
 use Rattle.trace_script.proofs.Traces.{beginning, from_opening, the_death, the_fault}
-use Rattle.tracer_workers.specs.CaseText.{death_after, death_of, published}
+use Rattle.tracer_workers.specs.CaseText.{death_after, death_of, published_contents}
 use Rattle.tracer_workers.specs.Driven.{AreDriven, IsDeathOf, IsRestarted, IsTraced, element_after, restart_after}
 use Rattle.tracer_workers.specs.Driven.{turns_of}
 use Rattle.tracer_workers.specs.Plan.{Plan, opening_of, row_trace}
@@ -39,7 +39,7 @@ newest content (turn ∷ turns) = turn.content
 
 -- where a row stands, by what a history leaves of it
 pub record Stands (plan : Plan) (row : ℕ) (a : Left) : Type 0 where
-  pub follows : Follows (opening_of plan row) a.turns
+  pub follows : FollowsTrace (opening_of plan row) a.turns
   pub obeys : Obeys plan.policy first_restart (context_of (empty_of plan row)) a.turns
   pub content : a.content ≡ newest (empty_of plan row) a.turns
   pub stops : (t : Trace) → with_stops a.turns t ≡ record { stops = a.stops ++ t.stops; ending = t.ending }
@@ -76,7 +76,7 @@ died_whole plan row a (DeathIs own) death s next dies = record {
   ending = Dead own;
   trace = whole_from plan row a s
       ∙ ap (with_stops a.turns) (the_death plan.policy _ _ _ own next)
-      ∙ s.stops (ended (Dead own))
+      ∙ s.stops (ended_trace (Dead own))
       ∙ ap (λ (xs : List Content). record { stops = xs; ending = Dead own }) (append-nil a.stops);
   died = ap Some (sym dies);
 }
@@ -84,7 +84,7 @@ died_whole plan row a (FaultIs address) death s next dies = record {
   ending = Broken address;
   trace = whole_from plan row a s
       ∙ ap (with_stops a.turns) (the_fault plan.policy _ _ _ address next)
-      ∙ s.stops (ended (Broken address))
+      ∙ s.stops (ended_trace (Broken address))
       ∙ ap (λ (xs : List Content). record { stops = xs; ending = Broken address }) (append-nil a.stops);
   died = ap Some (sym dies);
 }
@@ -99,7 +99,8 @@ taken_up : (plan : Plan) (h : List Entry) (row : ℕ) → row < length plan.rows
     → state_after plan.rows (history_of h) row ≡ state.Running
     → Stands plan row (left_of plan.rows h row) → TakenUp plan h row
 taken_up plan h row within runs s = record {
-  how = runs_due plan.policy (IsWhole plan row (published h row) (death_after h row)) (turns_of plan.rows h row)
+  how = runs_due plan.policy (IsWhole plan row (published_contents h row) (death_after h row))
+      (turns_of plan.rows h row)
       (is_born plan.rows (history_of h) row) (events_of row (history_of h))
       (sym (state_within plan.rows (history_of h) row within) ∙ runs) s.due;
   context = ap context_of s.content ∙ newest_context (empty_of plan row) (turns_of plan.rows h row);
@@ -107,7 +108,7 @@ taken_up plan h row within runs s = record {
 
 own_stands : (plan : Plan) (h : List Entry) (e : Event) (content : Content) → Fits plan.rows (history_of h) e
     → IsTraced plan h e content
-    → IsRestarted plan h e → Stands plan (subject e) (left_of plan.rows h (subject e))
+    → IsRestarted plan h e content → Stands plan (subject e) (left_of plan.rows h (subject e))
     → Stands plan (subject e) (left_with plan.rows h (subject e) e content)
 own_stands plan h (event.Publish row number stop) content fits traced restarted s =
     let up = taken_up plan h row (fits_within plan.rows (history_of h) (event.Publish row number stop) fits) fits.0 s in
@@ -117,7 +118,7 @@ own_stands plan h (event.Publish row number stop) content fits traced restarted 
       content = refl;
       stops = λ t. s.stops (with_stop content t)
           ∙ ap (λ (xs : List Content). record { stops = xs; ending = t.ending })
-          (sym (append_assoc (published h row) (content ∷ []) t.stops));
+          (sym (append_assoc (published_contents h row) (content ∷ []) t.stops));
       due = tt;
     }
 own_stands plan h (event.Claim row number tracer) content fits traced restarted s = record {
@@ -125,22 +126,23 @@ own_stands plan h (event.Claim row number tracer) content fits traced restarted 
   obeys = s.obeys;
   content = s.content;
   stops = s.stops;
-  due = claimed_due plan.policy (IsWhole plan row (published h row) (death_after h row)) (turns_of plan.rows h row)
+  due = claimed_due plan.policy (IsWhole plan row (published_contents h row) (death_after h row))
+      (turns_of plan.rows h row)
       (is_born plan.rows (history_of h) row) tracer (events_of row (history_of h))
       (sym (ap is_waitable (state_within plan.rows (history_of h) row
       (fits_within plan.rows (history_of h) (event.Claim row number tracer) fits))) ∙ fits.0) s.due;
 }
 own_stands plan h (event.Resume row number how tracer) content fits traced restarted s =
     let within = fits_within plan.rows (history_of h) (event.Resume row number how tracer) fits in
-    let made = holds_made plan.policy (IsWhole plan row (published h row) (death_after h row))
+    let made = holds_made plan.policy (IsWhole plan row (published_contents h row) (death_after h row))
     (turns_of plan.rows h row) (is_born plan.rows (history_of h) row) number tracer (events_of row (history_of h))
     (sym (state_within plan.rows (history_of h) row within) ∙ fits) s.due in
     record {
       follows = s.follows;
       obeys = s.obeys;
-      content = s.content;
+      content = restarted.1 ∙ s.content;
       stops = s.stops;
-      due = restarted ∙ ap plan.policy s.content
+      due = restarted.0 ∙ ap plan.policy s.content
           ∙ newest_restart plan.policy (empty_of plan row) (turns_of plan.rows h row) made;
     }
 own_stands plan h (event.Exit row death) content fits traced restarted s =
@@ -185,9 +187,11 @@ stands plan (x ∷ h) legal driven row =
 -- a row that has been reaped has made its whole trace
 pub whole_trace : (plan : Plan) (h : List Entry) → AreLegal plan.rows h → AreDriven plan h → (row : ℕ)
     → row < length plan.rows
-    → state_after plan.rows (history_of h) row ≡ state.Reaped → IsWhole plan row (published h row) (death_after h row)
+    → state_after plan.rows (history_of h) row ≡ state.Reaped
+    → IsWhole plan row (published_contents h row) (death_after h row)
 whole_trace plan h legal driven row within reaped =
     let s = stands plan h legal driven row in
-    reaped_whole plan.policy (IsWhole plan row (published h row) (death_after h row)) (turns_of plan.rows h row)
+    reaped_whole plan.policy (IsWhole plan row (published_contents h row) (death_after h row))
+    (turns_of plan.rows h row)
     (is_born plan.rows (history_of h) row) (events_of row (history_of h))
     (sym (state_within plan.rows (history_of h) row within) ∙ reaped) s.due

@@ -1,11 +1,13 @@
 -- A worker's thread: what its waits claim, the pieces of it, and its restarts.
 use Rattle.std.proofs.Common.{refl, ◌≡◌, ◌≢◌, ◌+◌, ◌*◌, ◌<◌, ◌≤◌, ◌∷◌, ◌++◌, [], ℕ, zero, suc, Bool, true, false, List, Some}
 use Rattle.std.proofs.Common.{None, Option, Result, Ok, Err, length, inl, inr, ◌∙◌, sym, ap, subst, arith, eq-eqb, ne_eqb, filter}
+use Rattle.std.proofs.Common.{cond, get_or, set}
+use Rattle.std.specs.Option.{unwrap_or}
 use Rattle.std.specs.List.{range_with_len}
 use Rattle.std.proofs.lemmas.Bool.{cases_eq}
-use Rattle.std.proofs.lemmas.List.{append_assoc, append-nil}
+use Rattle.std.proofs.lemmas.List.{append_assoc, append-nil, get_or-set_same, length-set}
 use Rattle.record_printer.specs.Piece.{Died, Piece}
-use Rattle.record_printer.specs.declared.show.Show.{Show}
+use Rattle.record_printer.specs.declared.call.show.Show.{Show}
 use Rattle.stop_history.specs.declared.actor.Actor.{Actor}
 use Rattle.stop_history.specs.declared.actor.Actor.TheVariants.{Tracer}
 use Rattle.stop_history.specs.declared.limits.TheConstants.{LAST_NUMBER}
@@ -20,6 +22,7 @@ use Rattle.stop_history.specs.State.{is_born, number_in, state_after, state_in}
 use Rattle.stop_history.specs.Word.{claimed_phase}
 use Rattle.stop_history.proofs.States.{state_within}
 use Rattle.stop_table.specs.Entry.{AreLegal, Cell, Entry, GoesOn, bare, cell_after, content_after, history_of}
+use Rattle.stop_table.specs.Entry.{resume_of}
 use Rattle.stop_table.specs.Handle.{EndsWith, Grows, IsSame, Looked}
 use Rattle.stop_table.specs.Tracer.{IsTracerHandle, held_rows, is_claimed_by, is_held}
 use Rattle.stop_table.specs.View.{View, actors_of, is_among}
@@ -28,17 +31,16 @@ use Rattle.stop_table.proofs.Own.{same_actors}
 use Rattle.stop_table.proofs.Walking.{itself, same_trans}
 use Rattle.trace_calls.specs.declared.row_status.RowStatus.{RowStatus}
 use Rattle.trace_calls.specs.Answer.{IsWaitRowAnswer}
-use Rattle.trace_calls.specs.ByPid.{published}
 use Rattle.trace_calls.specs.ByRow.{HasClaimedRow, IsRowRestart}
-use Rattle.trace_calls.specs.Handle.{CallsHandle, tracer_of}
+use Rattle.trace_calls.specs.Handle.{CallsHandle, HasRecords, claimed_record, tracer_of}
 use Rattle.trace_calls.specs.Request.{anyone}
 use Rattle.trace_options.specs.declared.errno.Errno.{Errno}
 use Rattle.trace_options.specs.declared.errno.Errno.TheVariants as errno
 use Rattle.trace_calls.proofs.Keeping.{claim_at, free_row, keeps_beside, keeps_look}
-use Rattle.trace_record.specs.Content.{Content}
+use Rattle.trace_record.specs.Content.{Content, empty_content}
 use Rattle.trace_record.specs.Death.{IsDeath, death_status}
 use Rattle.trace_record.specs.Resume.{IsResume}
-use Rattle.trace_record.specs.Stop.{stop_status}
+use Rattle.trace_record.specs.Stop.{IsStop, stop_status}
 use Rattle.trace_record.specs.declared.death.Death.{Death}
 use Rattle.trace_record.specs.declared.death.Death.TheVariants.{Exited, Signaled}
 use Rattle.trace_record.specs.declared.resume.Resume.{Resume as Restart}
@@ -54,7 +56,7 @@ use Rattle.tracer_workers.specs.DrivenBy.{AreDrivenBy}
 use Rattle.tracer_workers.specs.HistoryPieces.{stop_piece}
 use Rattle.tracer_workers.specs.WorkerThread.{AreKept, AreOverForGood, AreServices, HasServed, HasWaited}
 use Rattle.tracer_workers.specs.WorkerThread.{IsService, Restarts, RestartsByPolicy}
-use Rattle.tracer_workers.specs.WorkerThread.{claimed_piece, death_in, own_pieces, pieces_claimed, pieces_with}
+use Rattle.tracer_workers.specs.WorkerThread.{claimed_piece, death_in, own_pieces, pieces_claimed, worker_pieces_with}
 use Rattle.tracer_workers.specs.declared.config.Config.{Config}
 use Rattle.tracer_workers.proofs.AfterClaim.{not_by_claim}
 use Rattle.tracer_workers.proofs.Claims.{last_stop, mode_in_range}
@@ -65,7 +67,7 @@ use Rattle.tracer_workers.proofs.Fitting.{IsNewestInRange, newest_in_range}
 -- an event of another leaves them
 quiet_piece : (show : Show) (rows : List Row) (actors : Actor → Bool) (tracer : ℕ) → actors (Tracer tracer) ≡ true
     → (h : List Entry) (e : Event) (pieces : List Piece) → actors (actor_of e) ≡ false
-    → pieces_with show rows tracer h e pieces ≡ pieces
+    → worker_pieces_with show rows tracer h e pieces ≡ pieces
 quiet_piece show rows actors tracer mine h (event.Publish row number stop) pieces quiet = refl
 quiet_piece show rows actors tracer mine h (event.Claim row number claimer) pieces quiet =
     elim (cases_eq claimer tracer) [
@@ -111,9 +113,10 @@ pieces_claim show v w before row number mine made =
     ∙ rw (eq-eqb v.number v.number refl) (ap (λ pieces. pieces ++ piece ∷ []) (pieces_on show v before mine made.goes_on))
 
 pub pieces_resume : (show : Show) (v w : View) (before : List Entry) (row number : ℕ) (how : Restart)
-    → is_among v.number v.tracers ≡ true → EndsWith v w before (bare (event.Resume row number how v.number))
+    (content : Content) → is_among v.number v.tracers ≡ true
+    → EndsWith v w before (resume_of row number how v.number content)
     → own_pieces show w ≡ own_pieces show v
-pieces_resume show v w before row number how mine made =
+pieces_resume show v w before row number how content mine made =
     pieces_same show v w made.same ∙ ap (pieces_claimed show v.roster v.number) made.seen
     ∙ pieces_on show v before mine made.goes_on
 
@@ -187,6 +190,7 @@ stop_low (stop.Fork child) = (1 * 0x100 + 5, refl)
 stop_low (stop.Clone child) = (3 * 0x100 + 5, refl)
 stop_low (stop.Exec former) = (4 * 0x100 + 5, refl)
 stop_low (stop.Signal signal) = (signal, refl)
+stop_low (stop.Ending death) = (6 * 0x100 + 5, refl)
 
 -- a stop's reports no death
 stop_reports : (s : WaitStatus) (at : Stop) → Encodes s (stop_status at) → death_in s ≡ None
@@ -262,18 +266,18 @@ restarts_on config u v h same on r =
 
 -- one service more
 restarts_end : (config : Config) (u v w : View) (before : List Entry) (x : Entry) → IsSame u v → EndsWith v w before x
-    → IsService config u.roster before x.event → RestartsByPolicy config u v → RestartsByPolicy config u w
+    → IsService config u.roster before x.event x.content → RestartsByPolicy config u v → RestartsByPolicy config u w
 restarts_end config u v w before x same made service r =
     let on = restarts_on config u v before same made.goes_on r in (
       x ∷ on.0,
       made.seen ∙ ap (λ seen. x ∷ seen) on.1,
-      (λ own. subst (λ seen. IsService config u.roster seen x.event) on.1 service, on.2),
+      (λ own. subst (λ seen. IsService config u.roster seen x.event x.content) on.1 service, on.2),
     )
 
 -- services are those of a driven run
 service_driven : (config : Config) (content : CaseContent) (h : List Entry) (e : Event) (carried : Content)
-    → IsService config content.rows h e
-    → IsTraced (plan_of config content) h e carried × IsRestarted (plan_of config content) h e
+    → IsService config content.rows h e carried
+    → IsTraced (plan_of config content) h e carried × IsRestarted (plan_of config content) h e carried
 service_driven config content h (event.Claim row number tracer) carried service = (tt, tt)
 service_driven config content h (event.Resume row number how tracer) carried service = (tt, service)
 service_driven config content h (event.Publish row number stop) carried service = absurd service
@@ -396,11 +400,12 @@ module _ (v : View) (b : CallsHandle) (found : RowStatus) (mine : is_among v.num
       omega (arith, number, most)
 
   -- the pieces with that of the stop, and with that of the death
-  pub stop_kept : (show : Show) → death_in s ≡ None
-      → own_pieces show w ≡ own_pieces show v ++ stop_piece show (published b found.row) ∷ []
-  stop_kept show silent =
+  pub stop_kept : (show : Show) → death_in s ≡ None → claimed_record b found.row ≡ content_after w.roster w.seen found.row
+      → own_pieces show w ≡ own_pieces show v ++ stop_piece show (claimed_record b found.row) ∷ []
+  stop_kept show silent recorded =
       let last = stop_last silent in
-      let content : content_after v.roster before found.row ≡ published b found.row = sym (ap (λ (c : Cell). c.content) own) in
+      let content : content_after v.roster before found.row ≡ claimed_record b found.row =
+      sym (ap (λ (c : Cell). c.content) own) ∙ sym recorded in
       pieces_claim show v w before found.row found.number mine made
       ∙ ap (λ es. own_pieces show v
       ++ claimed_piece show (row_at v.roster found.row).tid (content_after v.roster before found.row) es ∷ []) last.3
@@ -432,10 +437,16 @@ module _ (v : View) (b : CallsHandle) (found : RowStatus) (mine : is_among v.num
   claim_restarts : (config : Config) (u : View) → IsSame u v → RestartsByPolicy config u v → RestartsByPolicy config u w
   claim_restarts config u same r = restarts_end config u v w before x same made tt r
 
+  -- the restart by the policy
+  abbrev restarted_by : Config → (number : ℕ) → Entry
+  restarted_by config number =
+      resume_of found.row number (policy_of config (content_after w.roster w.seen found.row)) w.number
+      (content_after w.roster w.seen found.row)
+
   -- nor is one after the restart
   pub restart_free : (config : Config) (z : View) → Restarts config w z found.row → held_rows z ≡ []
   restart_free config z r =
-      let y = bare (event.Resume found.row r.1 (policy_of config (content_after w.roster w.seen found.row)) w.number) in
+      let y = restarted_by config r.1 in
       let here : is_held z found.row ≡ false =
       (λ i. is_claimed_by z.number (cell_after (r.2.same.roster i) (r.2.seen i) found.row).phase)
       ∙ ap (λ (c : Cell). is_claimed_by z.number c.phase) (own_cell w.roster y r.0 found.row refl) in
@@ -451,7 +462,7 @@ module _ (v : View) (b : CallsHandle) (found : RowStatus) (mine : is_among v.num
   restart_restarts : (config : Config) (u z : View) → IsSame u w → is_held w found.row ≡ true → Restarts config w z found.row
       → RestartsByPolicy config u w → RestartsByPolicy config u z
   restart_restarts config u z same held r before =
-      let y = bare (event.Resume found.row r.1 (policy_of config (content_after w.roster w.seen found.row)) w.number) in
+      let y = restarted_by config r.1 in
       let mine_now : is_among w.number w.tracers ≡ true =
       (λ i. is_among (made.same.number i) (made.same.tracers i)) ∙ mine in
       let now : AreLegal w.roster (y ∷ r.0) =
@@ -459,7 +470,7 @@ module _ (v : View) (b : CallsHandle) (found : RowStatus) (mine : is_among v.num
       let cell = (claim_at w r.0 mine_now now.1 r.2.goes_on found.row).1 held in
       let stays : content_after w.roster w.seen found.row ≡ content_after u.roster r.0 found.row =
       sym (ap (λ (c : Cell). c.content) cell) ∙ ap (λ roster. content_after roster r.0 found.row) same.roster in
-      restarts_end config u w z r.0 y same r.2 (ap (policy_of config) stays) before
+      restarts_end config u w z r.0 y same r.2 (ap (policy_of config) stays, stays) before
 
   -- what was served is more
   module _ (config : Config) (u : View) (kept more : List Piece) (short later : Bool)
@@ -475,17 +486,18 @@ module _ (v : View) (b : CallsHandle) (found : RowStatus) (mine : is_among v.num
       restarts = claim_restarts config u served.same served.restarts;
     }
 
-    pub served_stop : death_in s ≡ None → (z : View) → Restarts config w z found.row
+    pub served_stop : death_in s ≡ None → claimed_record b found.row ≡ content_after w.roster w.seen found.row
+        → (z : View) → Restarts config w z found.row
         → AreKept (own_pieces (show_of config) u)
-        (own_pieces (show_of config) v ++ stop_piece (show_of config) (published b found.row) ∷ []) more later
+        (own_pieces (show_of config) v ++ stop_piece (show_of config) (claimed_record b found.row) ∷ []) more later
         → HasServed config u z more later
-    served_stop silent z r k =
+    served_stop silent recorded z r k =
         let mine_now : is_among w.number w.tracers ≡ true =
         (λ i. is_among (made.same.number i) (made.same.tracers i)) ∙ mine in
         let all =
         pieces_resume (show_of config) w z r.0 found.row r.1
-        (policy_of config (content_after w.roster w.seen found.row)) mine_now r.2
-        ∙ stop_kept (show_of config) silent in
+        (policy_of config (content_after w.roster w.seen found.row)) (content_after w.roster w.seen found.row) mine_now r.2
+        ∙ stop_kept (show_of config) silent recorded in
         record {
           same = same_trans u w z (same_trans u v w served.same made.same) r.2.same;
           free = restart_free config z r;
@@ -508,20 +520,22 @@ tracer_on a b is same legal =
       legal = legal;
     }
 
-pub claimed_few : (a : CallsHandle) → IsTracerHandle (tracer_of a) → (row : ℕ) → HasClaimedRow a row
-    → (published a row).number ≤ LAST_NUMBER
-claimed_few a is row has =
+pub claimed_few : (a : CallsHandle) → IsTracerHandle (tracer_of a) → HasRecords a → (row : ℕ) → HasClaimedRow a row
+    → (claimed_record a row).number ≤ LAST_NUMBER
+claimed_few a is records row has =
     let word = word_ranged a.view.roster a.view.seen is.placed is.legal false row has.0 in
     let number = (content_number a.view.roster a.view.seen is.legal row).0 in
     let few = word.last in
-    omega (arith, number, few)
+    let same = (records.written row has.0 has.1).number in
+    omega (arith, number, few, same)
 
 -- ---- restarts
 
-pub restart_ranged : (config : Config) (a : CallsHandle) → IsTracerHandle (tracer_of a) → (row : ℕ)
-    → IsResume (policy_of config (published a row))
-restart_ranged config a is row =
-    mode_in_range config.seccomp config.shown (published a row) (last_stop a.view.roster a.view.seen is.legal row)
+pub restart_ranged : (config : Config) (a : CallsHandle) → IsTracerHandle (tracer_of a) → HasRecords a → (row : ℕ)
+    → HasClaimedRow a row → IsResume (policy_of config (claimed_record a row))
+restart_ranged config a is records row has =
+    mode_in_range config.seccomp config.shown (claimed_record a row)
+    (subst IsStop (sym (records.written row has.0 has.1).stop) (last_stop a.view.roster a.view.seen is.legal row))
 
 pub not_refused : (a z : CallsHandle) (row : ℕ) (how : Restart) (e : Errno) → HasClaimedRow a row → IsResume how
     → IsRowRestart a z row how (Err e) → ⊥
@@ -556,6 +570,23 @@ waited a b r o found ok some answer =
       claimed = is.is_found.1;
       is_status = is.is_status;
     }
+
+-- the record of a stop that a wait has claimed is the one that its tracee published
+pub recorded : (a b : CallsHandle) (r : Result (Option RowStatus) Errno) (o : Option RowStatus) (found : RowStatus)
+    → r ≡ Ok o → o ≡ Some found → IsWaitRowAnswer (Some anyone) a b r → HasClaimedRow b found.row → HasRecords b
+    → claimed_record b found.row ≡ content_after b.view.roster b.view.seen found.row
+recorded a b r o found ok some answer has records =
+    let is = subst (IsWaitRowAnswer (Some anyone) a b) (ok ∙ ap Ok some) answer in
+    let content = content_after b.view.roster b.view.seen found.row in
+    let made : b.records ≡ set a.records found.row (Some content) =
+    is.records ∙ ap (λ held. cond held (set a.records found.row (Some content)) a.records) has.1 in
+    let long : length b.records ≡ length a.records =
+    ap length made ∙ length-set a.records found.row (Some content) in
+    let there = has.0 in
+    let all = records.long in
+    let low : found.row < length a.records = omega (arith, there, all, long) in
+    ap (λ o. unwrap_or o (empty_content 0))
+    (ap (λ records. get_or records found.row None) made ∙ get_or-set_same a.records found.row (Some content) None low)
 
 -- ---- a worker's loop
 

@@ -10,7 +10,7 @@ use Rattle.stop_history.specs.declared.roster.Row.{Row}
 use Rattle.stop_history.specs.Event as event
 use Rattle.stop_history.specs.Event.{Event, subject}
 use Rattle.stop_history.specs.Roster.{parent_of, row_at}
-use Rattle.stop_history.specs.State.{is_born, names}
+use Rattle.stop_history.specs.State.{creates, is_born}
 use Rattle.stop_table.specs.Entry.{Entry, history_of}
 use Rattle.trace_script.specs.StopTrace.{Broken, Dead, Ending}
 use Rattle.tracer_workers.specs.Driven.{fault_death}
@@ -32,10 +32,11 @@ contents_with (event.Resume row number how tracer) content contents = contents
 contents_with (event.Exit row death) content contents = contents
 
 -- the contents that a row has published, in order
-abbrev pub published : List Entry → ℕ → List Content
-published [] row = []
-published (x ∷ h) row =
-    if subject x.event == row then contents_with x.event x.content (published h row) else published h row
+abbrev pub published_contents : List Entry → ℕ → List Content
+published_contents [] row = []
+published_contents (x ∷ h) row =
+    if subject x.event == row then contents_with x.event x.content (published_contents h row)
+    else published_contents h row
 
 abbrev pub death_with : Event → Option Death → Option Death
 death_with (event.Exit row death) before = Some death
@@ -51,7 +52,8 @@ death_after (x ∷ h) row =
 
 abbrev pub history_lines : Printer → List Row → List Entry → ℕ → List ℕ
 history_lines print rows h row =
-    text_if (is_born rows (history_of h) row) (print (row_at rows row).tid (published h row) (death_after h row))
+    text_if (is_born rows (history_of h) row)
+    (print (row_at rows row).tid (published_contents h row) (death_after h row))
 
 abbrev pub history_text : Printer → List Row → List Entry → List ℕ
 history_text print rows h = flat_map (history_lines print rows h) (range_with_len 0 (length rows))
@@ -65,7 +67,7 @@ death_of (Broken address) = fault_death
 
 -- one of the stops creates the child of a tid
 abbrev pub bears : ℕ → List Content → Bool
-bears tid contents = list_any (λ content. names tid (child_of content.stop)) contents
+bears tid contents = list_any (λ content. creates tid (child_of content.stop)) contents
 
 -- a root is born, and so is a row that its parent's trace creates, where the parent is born
 abbrev pub is_borne_of : Plan → (ℕ → Bool) → Option ℕ → ℕ → Bool

@@ -77,16 +77,18 @@ IsTraced plan h (event.Exit row death) content = IsDeathOf (element_after plan h
 IsTraced plan h (event.Claim row number tracer) content = Unit {0}
 IsTraced plan h (event.Resume row number how tracer) content = Unit {0}
 
--- a resume is the policy's for the content of the stop
-abbrev pub IsRestarted : Plan → List Entry → Event → Type 0
-IsRestarted plan h (event.Resume row number how tracer) = how ≡ plan.policy (content_after plan.rows h row)
-IsRestarted plan h (event.Publish row number stop) = Unit {0}
-IsRestarted plan h (event.Claim row number tracer) = Unit {0}
-IsRestarted plan h (event.Exit row death) = Unit {0}
+-- a resume is the policy's for the content of the stop, which it leaves as it was published
+abbrev pub IsRestarted : Plan → List Entry → Event → Content → Type 0
+IsRestarted plan h (event.Resume row number how tracer) content =
+    (how ≡ plan.policy (content_after plan.rows h row)) × (content ≡ content_after plan.rows h row)
+IsRestarted plan h (event.Publish row number stop) content = Unit {0}
+IsRestarted plan h (event.Claim row number tracer) content = Unit {0}
+IsRestarted plan h (event.Exit row death) content = Unit {0}
 
 abbrev pub AreDriven : Plan → List Entry → Type 0
 AreDriven plan [] = Unit {0}
-AreDriven plan (x ∷ h) = (IsTraced plan h x.event x.content × IsRestarted plan h x.event) × AreDriven plan h
+AreDriven plan (x ∷ h) =
+    (IsTraced plan h x.event x.content × IsRestarted plan h x.event x.content) × AreDriven plan h
 
 -- each row that was born has been reaped
 abbrev pub AreReaped : List Row → List Entry → Type 0

@@ -11,5 +11,5 @@ use Rattle.tracer_workers.specs.Plan.{Plan}
 abbrev pub AreDrivenBy : (Actor → Bool) → Plan → List Entry → Type 0
 AreDrivenBy actors plan [] = Unit {0}
 AreDrivenBy actors plan (x ∷ h) =
-    (actors (actor_of x.event) ≡ true → IsTraced plan h x.event x.content × IsRestarted plan h x.event)
+    (actors (actor_of x.event) ≡ true → IsTraced plan h x.event x.content × IsRestarted plan h x.event x.content)
     × AreDrivenBy actors plan h

@@ -15,9 +15,9 @@ use Rattle.stop_table.specs.View.{View, actors_of}
 use Rattle.record_printer.specs.FolderAnswers.{lost}
 use Rattle.record_printer.specs.Piece.{Piece}
 use Rattle.record_printer.specs.Represents.{AreTaken}
-use Rattle.record_printer.specs.declared.show.Show.{Show}
-use Rattle.record_printer.specs.declared.fold_error.FoldError.{FoldError}
-use Rattle.record_printer.specs.declared.fold_error.FoldError.TheVariants as fold_error
+use Rattle.record_printer.specs.declared.call.show.Show.{Show}
+use Rattle.record_printer.specs.declared.fold.error.FoldError.{FoldError}
+use Rattle.record_printer.specs.declared.fold.error.FoldError.TheVariants as fold_error
 use Rattle.tracer_workers.specs.Driven.{AreReaped}
 use Rattle.tracer_workers.specs.HistoryPieces.{pieces_of}
 use Rattle.tracer_workers.specs.declared.run_error.RunError.{RunError}
@@ -72,7 +72,7 @@ HasUnreaped rows h =
 
 -- in a legal history that begins with all that was seen, a row that was born has not been reaped, or else the pieces
 -- are not whole
-pub record IsLost (rows : List Row) (views : List View) (pieces : List Piece) : Type 0 where
+pub record HasLostStop (rows : List Row) (views : List View) (pieces : List Piece) : Type 0 where
   pub history : List Entry
   pub legal : AreLegal rows history
   pub goes_on : GoesOnFrom views history
@@ -99,9 +99,9 @@ is_over (shows.Claimed number) = false
 is_over (shows.Dead number status) = false
 
 -- where all rows that were born were seen reaped, or else one was not at some point of the looks
-abbrev pub HasLooked : View → View → Bool → Type 0
-HasLooked v w true = AreReaped v.roster w.seen
-HasLooked v w false =
+abbrev pub HasLookedForUnreaped : View → View → Bool → Type 0
+HasLookedForUnreaped v w true = AreReaped v.roster w.seen
+HasLookedForUnreaped v w false =
     (point : List Entry) × AreLegal v.roster point × GoesOn (actors_of v) v.seen point × HasUnreaped v.roster point
 
 -- ---- answers

@@ -10,7 +10,7 @@ use Rattle.stop_history.specs.State.{last_number}
 use Rattle.stop_table.specs.Entry.{Entry, history_of}
 use Rattle.record_printer.specs.Piece.{Piece, Stopped, Died}
 use Rattle.record_printer.specs.StopNote.{stop_note}
-use Rattle.record_printer.specs.declared.show.Show.{Show}
+use Rattle.record_printer.specs.declared.call.show.Show.{Show}
 
 -- the piece of a stop
 abbrev pub stop_piece : Show → Content → Piece

@@ -1,4 +1,5 @@
--- Two ways to trace a script: plainly, and with a filter. What they have in common.
+-- Two ways to trace a script: plainly, and with a filter; each with or without stops before deaths. What they have in
+-- common.
 use Rattle.std.specs.Prelude.{◌≡◌, ◌==◌, ℕ, Bool, true, false, List, Some}
 use Rattle.std.specs.Int.RustNames.{bit_and}
 use Rattle.trace_options.specs.Options.{option_bits}
@@ -8,7 +9,7 @@ use Rattle.trace_options.specs.declared.options.TheConstants.Options.{TRACECLONE
 use Rattle.trace_script.specs.Script.{Script}
 use Rattle.trace_script.specs.StopTrace.{Trace, trace_of}
 use Rattle.trace_script.specs.declared.setting.Setting.{Setting}
-use Rattle.record_printer.specs.declared.show.Show.{Show}
+use Rattle.record_printer.specs.declared.call.show.Show.{Show}
 use Rattle.tracer_workers.specs.CaseText.{death_of}
 use Rattle.tracer_workers.specs.Printing.{printed_lines}
 use Rattle.tracer_workers.specs.Policy.{plain_policy, seccomp_policy}
@@ -19,7 +20,7 @@ setting tid options filter = record { tid = tid; options = options; filter = fil
 abbrev pub asks : Options → Options → Bool
 asks options option = bit_and (option_bits options) (option_bits option) == option_bits option
 
--- options that ask for the same stops but for those of a filter
+-- options that ask for the same stops but for those of a filter and those before deaths
 pub record AgreeButFilter (options more : Options) : Type 0 where
   pub off : asks options TRACESECCOMP ≡ false
   pub on : asks more TRACESECCOMP ≡ true

@@ -2,7 +2,7 @@
 use Rattle.std.specs.Prelude.{◌≡◌, ℕ, List}
 use Rattle.stop_history.specs.declared.roster.Row.{Row}
 use Rattle.stop_history.specs.Roster.{row_at}
-use Rattle.trace_options.specs.Options.{IsTaken, option_bits}
+use Rattle.trace_options.specs.Options.{AreValidOptions, option_bits}
 use Rattle.trace_options.specs.declared.filter.Filter.{Filter}
 use Rattle.trace_options.specs.declared.options.Options.{Options}
 use Rattle.trace_script.specs.CaseFacts.{IsCase}
@@ -33,7 +33,7 @@ pub record IsCasePlan (plan : Plan) : Type 0 where
   pub options : Options
   pub filter : Filter
   pub is_case : IsCase content
-  pub taken : IsTaken (option_bits options)
+  pub taken : AreValidOptions (option_bits options)
   pub is_plan : plan ≡ case_plan content options filter plan.policy
 
 -- where the tracee of a row begins

@@ -19,6 +19,7 @@ passed (stop.Seccomp ret_data) = 0
 passed (stop.Fork child) = 0
 passed (stop.Clone child) = 0
 passed (stop.Exec former) = 0
+passed (stop.Ending death) = 0
 
 abbrev pub plain_policy : Policy
 plain_policy content = record { kind = Syscall; signal = passed content.stop }
@@ -37,6 +38,7 @@ filtered_kind shown (stop.Signal signal) = Cont
 filtered_kind shown stop.Start = Cont
 filtered_kind shown stop.Enter = Cont
 filtered_kind shown stop.Exit = Cont
+filtered_kind shown (stop.Ending death) = Cont
 
 abbrev pub seccomp_policy : Calls → Policy
 seccomp_policy calls content = record {

@@ -3,7 +3,7 @@ use Rattle.std.specs.Prelude.{map, option_map}
 use Rattle.record_printer.specs.DeathLine.{death_text}
 use Rattle.record_printer.specs.PrintedRow.{row_lines}
 use Rattle.record_printer.specs.StopNote.{stop_note}
-use Rattle.record_printer.specs.declared.show.Show.{Show}
+use Rattle.record_printer.specs.declared.call.show.Show.{Show}
 use Rattle.tracer_workers.specs.CaseText.{Printer}
 
 abbrev pub printed_lines : Show → Printer

@@ -1,7 +1,7 @@
 -- A run of a case on a schedule: what is kept of it, and the history that it has made (strace(1), `-f`).
 use Rattle.std.specs.Prelude.{◌≡◌, ◌≢◌, ◌⊎◌, ◌<◌, ◌+◌, ◌-◌, ◌*◌, ◌++◌, ℕ, zero, suc, Bool, true, false, List, Option}
 use Rattle.std.specs.Prelude.{All, None, Some, length, slice_get}
-use Rattle.record_printer.specs.Represents.{Folded, Represents as HasCome}
+use Rattle.record_printer.specs.Represents.{Folded, Represents}
 use Rattle.stop_board.specs.World.{Contents, Moment, StandsAt}
 use Rattle.stop_history.specs.Actor.{actor_of}
 use Rattle.stop_history.specs.declared.actor.Actor.{Actor}
@@ -72,7 +72,7 @@ IsKeptAt (phase.Dead status) plan h row k = Unit {0}
 IsKeptAt phase.Reaped plan h row k = Unit {0}
 IsKeptAt phase.Active plan h row k = Unit {0}
 
-pub record IsKept (plan : Plan) (h : List Entry) (row : ℕ) (k : KeptRow) : Type 0 where
+pub record IsKeptAfter (plan : Plan) (h : List Entry) (row : ℕ) (k : KeptRow) : Type 0 where
   pub tid : k.tid ≡ (row_at plan.rows row).tid
   pub number : k.number ≡ last_number (history_of h) row
   pub kept : IsKeptAt (phase_in (events_of row (history_of h))) plan h row k
@@ -96,12 +96,13 @@ pub record HasMade (content : CaseContent) (run : RunState) (h : List Entry) : T
   pub known : IsCase content
   pub world : CameTo run.world (history_of h)
   pub world_rows : run.world.rows ≡ content.rows
-  pub folder : HasCome run.folder (pieces_of (show_of run.config) content.rows h)
+  pub folder : Represents run.folder (pieces_of (show_of run.config) content.rows h)
   pub folder_rows : run.folder.rows ≡ content.rows
   pub legal : AreLegal content.rows h
   pub driven : AreDriven (plan_of run.config content) h
   pub long : length run.rows ≡ length content.rows
-  pub each : (row : ℕ) (k : KeptRow) → slice_get run.rows row ≡ Some k → IsKept (plan_of run.config content) h row k
+  pub each : (row : ℕ) (k : KeptRow) → slice_get run.rows row ≡ Some k
+      → IsKeptAfter (plan_of run.config content) h row k
 
 -- between two turns no stop is claimed
 abbrev pub AreFree : List Entry → Type 0
@@ -115,7 +116,7 @@ Stands content run h = HasMade content run h × AreFree h
 
 -- no script has more stops
 abbrev pub most_stops : ℕ
-most_stops = 1 + 4 * 65536
+most_stops = 2 + 4 * 65536
 
 -- of a phase: the events up to the next stop or the last claim
 abbrev pub steps_left : Phase → ℕ
@@ -161,13 +162,13 @@ IsHeldOrIdle content h row =
     ⊎ ((other : ℕ) × (holding_back content.rows (state_after content.rows (history_of h)) row ≡ Some other))
 
 -- no row has anything to report
-abbrev pub IsQuiet : CaseContent → List Entry → Type 0
-IsQuiet content h =
+abbrev pub HasNothingToReport : CaseContent → List Entry → Type 0
+HasNothingToReport content h =
     (row : ℕ) → row < length content.rows → is_waitable (state_after content.rows (history_of h) row) ≡ false
 
 -- each row will never be born, or has been reaped
-abbrev pub IsOver : CaseContent → List Entry → Type 0
-IsOver content h =
+abbrev pub IsRunOver : CaseContent → List Entry → Type 0
+IsRunOver content h =
     (row : ℕ) → row < length content.rows
     → (state_after content.rows (history_of h) row ≡ state.Unborn)
     ⊎ (state_after content.rows (history_of h) row ≡ state.Reaped)

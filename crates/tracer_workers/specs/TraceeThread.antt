@@ -49,7 +49,7 @@ pub record IsOnScript (plan : Plan) (e : TraceeHandle) (p : Position) : Type 0 w
   pub driven : AreDrivenBy (actors_of e.view) plan e.view.seen
   pub position : p ≡ position_at plan e.view.seen e.row
 
--- the row is taken up: with this restart, and the content of its last stop
+-- the row is taken up: with the restart and the content of its last resume, or those that come before any
 pub record HasTaken (e : TraceeHandle) (how : Restart) (content : Content) : Type 0 where
   pub taken : e.view.taken ≡ true
   pub runs : state_after e.view.roster (history_of e.view.seen) e.row ≡ state.Running

@@ -16,12 +16,12 @@ use Rattle.trace_record.specs.declared.death.Death.{Death}
 use Rattle.trace_script.specs.CaseFile.{CaseContent}
 use Rattle.trace_script.specs.Machine.{IsAnswer}
 use Rattle.trace_script.specs.StopTrace.{Position, StopIs, context_of, first_restart, next_element, next_position}
-use Rattle.trace_script.specs.declared.next.Next.{Next}
+use Rattle.trace_script.specs.declared.machine.next.Next.{Next}
 use Rattle.tracer_workers.specs.Config.{plan_of}
 use Rattle.tracer_workers.specs.Driven.{IsDeathOf, element_after, position_at, restart_after}
 use Rattle.tracer_workers.specs.Plan.{Plan, opening_of}
-use Rattle.tracer_workers.specs.Scheduled.{HasMade, IsHeldOrIdle, IsOver, IsQuiet, IsReady, KeptRow, Moved, MovedBy}
-use Rattle.tracer_workers.specs.Scheduled.{RunState, Stands, is_claimed, run_left}
+use Rattle.tracer_workers.specs.Scheduled.{HasMade, HasNothingToReport, IsHeldOrIdle, IsReady, IsRunOver, KeptRow}
+use Rattle.tracer_workers.specs.Scheduled.{Moved, MovedBy, RunState, Stands, is_claimed, run_left}
 use Rattle.tracer_workers.specs.declared.config.Config.{Config}
 
 -- a row before its first stop
@@ -108,38 +108,38 @@ pub record HasHeld (content : CaseContent) (run : RunState) (h : List Entry) (ro
   pub others : (other : ℕ) → other ≢ row → is_claimed (phase_in (events_of other (history_of h))) ≡ false
 
 -- a tracer has claimed what waits in a row, and restarted the row where that is a stop, or nothing waits
-abbrev pub HasClaimed : CaseContent → RunState → RunState → List Entry → (row tracer : ℕ) → Bool → Type 0
-HasClaimed content run new h row tracer true = MovedBy (Tracer tracer) content run new h
-HasClaimed content run new h row tracer false =
+abbrev pub HasServedRow : CaseContent → RunState → RunState → List Entry → (row tracer : ℕ) → Bool → Type 0
+HasServedRow content run new h row tracer true = MovedBy (Tracer tracer) content run new h
+HasServedRow content run new h row tracer false =
     Stands content new h × (run_left new ≡ run_left run)
     × (is_waitable (state_after content.rows (history_of h) row) ≡ false)
 
 -- a worker's turn: the same of all rows
-abbrev pub HasWorked : CaseContent → RunState → RunState → List Entry → (tracer : ℕ) → Bool → Type 0
-HasWorked content run new h tracer true = MovedBy (Tracer tracer) content run new h
-HasWorked content run new h tracer false =
-    Stands content new h × (run_left new ≡ run_left run) × IsQuiet content h
+abbrev pub HasServedAll : CaseContent → RunState → RunState → List Entry → (tracer : ℕ) → Bool → Type 0
+HasServedAll content run new h tracer true = MovedBy (Tracer tracer) content run new h
+HasServedAll content run new h tracer false =
+    Stands content new h × (run_left new ≡ run_left run) × HasNothingToReport content h
 
 -- ---- a round
 
 -- no event could come of a row: it does not run or is held back, and nothing waits in it
-abbrev pub IsResting : CaseContent → List Entry → ℕ → Type 0
-IsResting content h row =
+abbrev pub CanMakeNoEvent : CaseContent → List Entry → ℕ → Type 0
+CanMakeNoEvent content h row =
     IsHeldOrIdle content h row × (is_waitable (state_after content.rows (history_of h) row) ≡ false)
 
 -- a row has run as far as it goes, by turns of its tracee and of a worker
 abbrev pub HasRunOut : CaseContent → RunState → RunState → List Entry → ℕ → Bool → Type 0
 HasRunOut content run new h row true = Moved content run new h
 HasRunOut content run new h row false =
-    Stands content new h × (run_left new ≡ run_left run) × IsResting content h row
+    Stands content new h × (run_left new ≡ run_left run) × CanMakeNoEvent content h row
 
 -- the same of the first rows
 abbrev pub HaveRunOut : CaseContent → RunState → RunState → List Entry → (rows : ℕ) → Bool → Type 0
 HaveRunOut content run new h rows true = Moved content run new h
 HaveRunOut content run new h rows false =
-    Stands content new h × (run_left new ≡ run_left run) × ((row : ℕ) → row < rows → IsResting content h row)
+    Stands content new h × (run_left new ≡ run_left run) × ((row : ℕ) → row < rows → CanMakeNoEvent content h row)
 
 -- the same of all rows: where no event came of them, the run is over
 abbrev pub HasGone : CaseContent → RunState → RunState → List Entry → Bool → Type 0
 HasGone content run new h true = Moved content run new h
-HasGone content run new h false = Stands content new h × IsOver content h
+HasGone content run new h false = Stands content new h × IsRunOver content h

@@ -3,7 +3,7 @@
 use Rattle.std.specs.Prelude.{◌≡◌, ◌==◌, ◌<◌, ◌∷◌, ◌++◌, [], ℕ, Bool, true, false, List, Option, Some, None, length}
 use Rattle.std.specs.Prelude.{if◌then◌else◌}
 use Rattle.record_printer.specs.Piece.{Died, Piece}
-use Rattle.record_printer.specs.declared.show.Show.{Show}
+use Rattle.record_printer.specs.declared.call.show.Show.{Show}
 use Rattle.stop_history.specs.Actor.{actor_of}
 use Rattle.stop_history.specs.declared.actor.Actor.{Actor}
 use Rattle.stop_history.specs.declared.roster.Row.{Row}
@@ -12,7 +12,7 @@ use Rattle.stop_history.specs.Event.{Event, events_of}
 use Rattle.stop_history.specs.Roster.{row_at}
 use Rattle.stop_history.specs.State.{number_in, state_after}
 use Rattle.stop_history.specs.Over.{is_gone}
-use Rattle.stop_table.specs.Entry.{AreLegal, Entry, bare, content_after, history_of}
+use Rattle.stop_table.specs.Entry.{AreLegal, Entry, content_after, history_of, resume_of}
 use Rattle.stop_table.specs.Handle.{EndsWith, IsSame}
 use Rattle.stop_table.specs.Tracer.{held_rows}
 use Rattle.stop_table.specs.View.{View, actors_of}
@@ -35,18 +35,19 @@ abbrev pub claimed_piece : Show → (tid : ℕ) → Content → List Event → P
 claimed_piece show tid content (event.Exit row death ∷ es) = Died tid (number_in es) death
 claimed_piece show tid content other = stop_piece show content
 
-abbrev pub pieces_with : Show → List Row → (tracer : ℕ) → List Entry → Event → List Piece → List Piece
-pieces_with show rows tracer h (event.Claim row number claimer) pieces =
+abbrev pub worker_pieces_with : Show → List Row → (tracer : ℕ) → List Entry → Event → List Piece → List Piece
+worker_pieces_with show rows tracer h (event.Claim row number claimer) pieces =
     if claimer == tracer
     then pieces
     ++ claimed_piece show (row_at rows row).tid (content_after rows h row) (events_of row (history_of h)) ∷ []
     else pieces
-pieces_with show rows tracer h other pieces = pieces
+worker_pieces_with show rows tracer h other pieces = pieces
 
 -- in the order of the claims
 abbrev pub pieces_claimed : Show → List Row → (tracer : ℕ) → List Entry → List Piece
 pieces_claimed show rows tracer [] = []
-pieces_claimed show rows tracer (x ∷ h) = pieces_with show rows tracer h x.event (pieces_claimed show rows tracer h)
+pieces_claimed show rows tracer (x ∷ h) =
+    worker_pieces_with show rows tracer h x.event (pieces_claimed show rows tracer h)
 
 -- those of a tracer's handle
 abbrev pub own_pieces : Show → View → List Piece
@@ -60,18 +61,20 @@ pub record AreKept (before after kept : List Piece) (short : Bool) : Type 0 wher
 
 -- ---- restarts
 
--- a claim, or a resume that is the policy's for the content of the stop; `h` is the history before it
-abbrev pub IsService : Config → List Row → (h : List Entry) → Event → Type 0
-IsService config rows h (event.Claim row number tracer) = Unit {0}
-IsService config rows h (event.Resume row number how tracer) = how ≡ policy_of config (content_after rows h row)
-IsService config rows h (event.Publish row number stop) = ⊥
-IsService config rows h (event.Exit row death) = ⊥
+-- a claim, or a resume that is the policy's for the content of the stop, and leaves that as it was published; `h` is the
+-- history before it
+abbrev pub IsService : Config → List Row → (h : List Entry) → Event → Content → Type 0
+IsService config rows h (event.Claim row number tracer) content = Unit {0}
+IsService config rows h (event.Resume row number how tracer) content =
+    (how ≡ policy_of config (content_after rows h row)) × (content ≡ content_after rows h row)
+IsService config rows h (event.Publish row number stop) content = ⊥
+IsService config rows h (event.Exit row death) content = ⊥
 
 -- of the entries that came after a history, each one of these actors is such a claim or resume; the newest stands first
 abbrev pub AreServices : Config → List Row → (Actor → Bool) → (more h : List Entry) → Type 0
 AreServices config rows actors [] h = Unit {0}
 AreServices config rows actors (x ∷ more) h =
-    (actors (actor_of x.event) ≡ true → IsService config rows (more ++ h) x.event)
+    (actors (actor_of x.event) ≡ true → IsService config rows (more ++ h) x.event x.content)
     × AreServices config rows actors more h
 
 -- since then the handle has only claimed, and restarted by the policy, whatever it had done before
@@ -107,8 +110,9 @@ death_in (status.Exited pid code) = Some (death.Exited code)
 death_in (status.Signaled pid signal core) = Some (death.Signaled signal core)
 death_in other = None
 
--- the row was restarted by the policy
+-- the row was restarted by the policy, with the content of its stop
 abbrev pub Restarts : Config → View → View → ℕ → Type 0
 Restarts config v w row =
     (before : List Entry) × (number : ℕ) × EndsWith v w before
-    (bare (event.Resume row number (policy_of config (content_after v.roster v.seen row)) v.number))
+    (resume_of row number (policy_of config (content_after v.roster v.seen row)) v.number
+    (content_after v.roster v.seen row))

@@ -17,6 +17,8 @@ pub struct Config {
     pub follow: bool,
     /// Stop at the system calls that are shown by a filter, and at no others.
     pub seccomp: bool,
+    /// Stop each tracee before its death (ptrace(2), `PTRACE_EVENT_EXIT`).
+    pub exits: bool,
     /// How many tracers share the tracees, 1 to 16.
     pub workers: u32,
     /// How many bytes of a string or of a buffer, and how many entries of an array, are printed at most.
@@ -27,7 +29,8 @@ pub struct Config {
 
 impl Config {
     /// The options of its tracees (ptrace(2), `PTRACE_SETOPTIONS`): TRACESYSGOOD and TRACEEXEC, TRACEFORK and TRACECLONE
-    /// where children are followed, TRACESECCOMP where there is a filter.
+    /// where children are followed, TRACESECCOMP where there is a filter, TRACEEXIT where tracees stop before their
+    /// deaths.
     pub fn options(&self) -> Options
         ensures { result ≡ options_of self.now }
     {
@@ -39,6 +42,9 @@ impl Config {
         }
         if self.seccomp {
             options.insert(Options::TRACESECCOMP);
+        }
+        if self.exits {
+            options.insert(Options::TRACEEXIT);
         }
         options
     }
@@ -64,7 +70,7 @@ impl Config {
 
 /// How a tracer restarts a tracee at a stop (ptrace(2), `PTRACE_SYSCALL`, `PTRACE_CONT`). Without a filter the tracee
 /// runs on to its next syscall-stop. With one it does so only in a call that is shown; otherwise it runs on to its next
-/// other stop. A signal-delivery-stop's signal is handed over.
+/// other stop. A signal-delivery-stop's signal is handed over; at the stop before a death no signal is.
 pub fn policy<A: Allocator>(stop: &StopRecord<A>, config: &Config) -> Resume
     ensures { result ≡ policy_of config.now stop.now }
 {

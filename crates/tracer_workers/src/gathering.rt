@@ -11,11 +11,11 @@ ghost use Rattle.stop_history.specs.declared.roster.Row.{Row};
 ghost use Rattle.stop_table.specs.Handle.{Looked};
 ghost use Rattle.stop_table.specs.Entry.{AreLegal};
 ghost use Rattle.record_printer.specs.FolderAnswers.{pieces_text};
-ghost use Rattle.record_printer.specs.declared.show.Show.{Show};
+ghost use Rattle.record_printer.specs.declared.call.show.Show.{Show};
 ghost use Rattle.tracer_workers.specs.CaseText.{history_text};
 ghost use Rattle.tracer_workers.specs.Driven.{AreReaped};
-ghost use Rattle.tracer_workers.specs.Gathering.{AreSeen, AreWhole, HasLooked, IsAllReaped, IsFreeTracee};
-ghost use Rattle.tracer_workers.specs.Gathering.{IsFreeTracer, IsLost, TakesIn, is_over, run_error_of, views_of};
+ghost use Rattle.tracer_workers.specs.Gathering.{AreSeen, AreWhole, HasLookedForUnreaped, HasLostStop, IsAllReaped};
+ghost use Rattle.tracer_workers.specs.Gathering.{IsFreeTracee, IsFreeTracer, TakesIn, is_over, run_error_of, views_of};
 ghost use Rattle.tracer_workers.specs.Printing.{printed_lines};
 
 use crate::invariants;
@@ -64,7 +64,7 @@ pub fn gather<A: Allocator + Copy, B: Allocator>(
         AreSeen show roster.now (views_of tracers.items tracees.items) pieces.items →
         IfOk result (λ r. r.1 ≡ history_text (printed_lines show) roster.now r.0.view.seen) }
     ensures lost { result ≡ Err RunError.Lost →
-        IsLost roster.now (views_of tracers.items tracees.items) pieces.items }
+        HasLostStop roster.now (views_of tracers.items tracees.items) pieces.items }
     ensures no_memory { result ≡ Err RunError.NoMemory →
         IsAllReaped roster.now (views_of tracers.items tracees.items) }
     ensures threads { result ≢ Err RunError.Threads }
@@ -119,7 +119,7 @@ fn are_reaped<A: Allocator>(tracer: &mut Tracer<A>, rows: u32) -> bool
     requires { rows ≡ length tracer.old.view.roster }
     ensures roster { IsRoster tracer.old.view.roster }
     ensures handle { (tracer.new.table_id ≡ tracer.old.table_id) × Looked tracer.old.view tracer.new.view }
-    ensures looked { HasLooked tracer.old.view tracer.new.view result }
+    ensures looked { HasLookedForUnreaped tracer.old.view tracer.new.view result }
 {
     invariants::of_tracer(tracer);
     for row in 0..rows {

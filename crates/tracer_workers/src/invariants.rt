@@ -5,7 +5,7 @@
 ghost use Rattle.std.specs.Prelude.{◌<◌, ◌^◌, length};
 ghost use Rattle.stop_table.specs.Tracee.{IsTraceeHandle};
 ghost use Rattle.stop_table.specs.Tracer.{IsTracerHandle};
-ghost use Rattle.trace_calls.specs.Handle.{tracer_of};
+ghost use Rattle.trace_calls.specs.Handle.{HasRecords, tracer_of};
 ghost use Rattle.trace_script.specs.CaseFacts.{IsCase};
 
 use std::alloc::Allocator;
@@ -27,9 +27,11 @@ pub(crate) fn of_tracee<A: Allocator>(tracee: &Tracee<A>)
     let _holds = tracee.holds();
 }
 
-/// The tracer of calls has a roster, and what it has seen is legal there.
+/// The tracer of calls has a roster, and what it has seen is legal there; the record of a claimed row is the one that was
+/// published, with what has been written.
 pub(crate) fn of_calls<A: Allocator>(calls: &Calls<A>)
-    ensures { IsTracerHandle (tracer_of calls.now) }
+    ensures handle { IsTracerHandle (tracer_of calls.now) }
+    ensures records { HasRecords calls.now }
 {
     let _number = calls.number();
 }

@@ -4,7 +4,7 @@ ghost use Rattle.std.specs.Prelude.{◌≡◌, List, None, ℕ};
 ghost use Rattle.stop_history.specs.Roster.{IsRoster};
 ghost use Rattle.stop_table.specs.Entry.{AreLegal, Entry};
 ghost use Rattle.record_printer.specs.FolderAnswers.{lost, pieces_text};
-ghost use Rattle.record_printer.specs.declared.show.Show.{Show};
+ghost use Rattle.record_printer.specs.declared.call.show.Show.{Show};
 ghost use Rattle.trace_options.specs.declared.filter.Filter.{Filter};
 ghost use Rattle.trace_options.specs.declared.options.Options.{Options};
 ghost use Rattle.trace_script.specs.CaseFile.{CaseContent};
@@ -37,7 +37,8 @@ pub fn pieces_of_a_run_are_whole()
 {}
 
 /// Tracing with a filter prints the same lines of a script as tracing plainly, creates the same children, and ends alike:
-/// for every set of calls that is shown and filtered, and whatever the filter hands to the tracer.
+/// for every set of calls that is shown and filtered, whatever the filter hands to the tracer, and whether the tracee
+/// stops before its death in one of the two, in both or in neither.
 pub fn seccomp_changes_no_line()
     ensures lines { (show : Show) (tid ret_data : ℕ) (options more : Options) (other : Filter) (script : Script) →
         AgreeButFilter options more →
@@ -55,7 +56,7 @@ pub fn seccomp_changes_no_line()
     lines_are_folded();
 }
 
-/// The text of a case does not depend on the mode in which it is traced.
+/// The text of a case does not depend on the mode in which it is traced, nor on stops before deaths.
 pub fn the_mode_changes_no_text()
     ensures { (config : Config) (content : CaseContent) → text_of config content ≡ text_of (plain config) content }
 {

@@ -24,7 +24,8 @@ use std::alloc::Allocator;
 use trace_script::Case;
 
 /// Runs a case on one thread and prints it, first by the turns of a schedule, then by rounds of turns until each row has
-/// been reaped or will never be born. The text does not depend on the schedule, the number of workers or the filter.
+/// been reaped or will never be born. The text does not depend on the schedule, the number of workers, the filter or
+/// the stops before deaths.
 /// `NoMemory` where a growth is refused; no other error comes.
 pub fn run_scheduled<A: Allocator + Copy>(
     alloc: A,

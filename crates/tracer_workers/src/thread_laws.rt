@@ -3,7 +3,7 @@
 ghost use Rattle.std.specs.Prelude.{◌≡◌, Bool, List, ℕ};
 ghost use Rattle.std.specs.List.{Contains};
 ghost use Rattle.record_printer.specs.Piece.{Piece};
-ghost use Rattle.record_printer.specs.declared.show.Show.{Show};
+ghost use Rattle.record_printer.specs.declared.call.show.Show.{Show};
 ghost use Rattle.stop_history.specs.declared.roster.Row.{Row};
 ghost use Rattle.stop_table.specs.Entry.{AreLegal, Entry, GoesOn};
 ghost use Rattle.stop_table.specs.Handle.{Meets};

@@ -292,8 +292,8 @@ fn split_spare<A: Allocator + Copy>(
 }
 
 /// Runs a case on threads, and prints it: a thread runs each tracee's script, and as many workers as the configuration
-/// says serve their stops. The text does not depend on the number of workers, on the filter, or on how the threads take
-/// turns.
+/// says serve their stops. The text does not depend on the number of workers, on the filter, on the stops before
+/// deaths, or on how the threads take turns.
 ///
 /// `NoMemory` where a growth is refused, and `Threads` where a thread could not be started; then no tracee has run, unless
 /// the growth was one of a worker that had begun to work. Either way all threads have ended. Never `Lost`: what the

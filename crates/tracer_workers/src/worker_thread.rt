@@ -3,11 +3,11 @@
 ghost use Rattle.std.specs.Prelude.{◌≡◌, ◌≤◌, ◌∷◌, ◌++◌, [], List, MatchOption, None, Some, false};
 ghost use Rattle.record_printer.specs.Piece as pieces;
 ghost use Rattle.stop_history.specs.declared.limits.TheConstants.{LAST_NUMBER};
+ghost use Rattle.stop_table.specs.Entry.{content_after};
 ghost use Rattle.stop_table.specs.Handle.{IsSame};
 ghost use Rattle.stop_table.specs.Tracer.{held_rows};
-ghost use Rattle.trace_calls.specs.ByPid.{published};
 ghost use Rattle.trace_calls.specs.ByRow.{HasClaimedRow};
-ghost use Rattle.trace_calls.specs.Handle.{KeepsTable};
+ghost use Rattle.trace_calls.specs.Handle.{KeepsTable, claimed_record};
 ghost use Rattle.trace_status.specs.WaitStatus.{pid_of};
 ghost use Rattle.tracer_workers.specs.Config.{show_of};
 ghost use Rattle.tracer_workers.specs.HistoryPieces.{stop_piece};
@@ -70,6 +70,7 @@ pub fn run_worker<A: Allocator + Copy, R: Wait + Clock, G: Gate>(
         match death_of(found.status) {
             Some((tid, death)) => worked.keep_death(tid, found.number, death),
             None => {
+                invariants::of_calls(calls);
                 worked.keep_stop(alloc, calls, found.row, config);
                 restart(calls, found.row, config, worker, gate);
             }
@@ -122,7 +123,7 @@ impl<A: Allocator + Copy> Worked<A> {
         requires { HasClaimedRow calls.now row }
         ensures { (before after : List pieces.Piece) →
             AreKept before after self.old.pieces.items self.old.short →
-            AreKept before (after ++ stop_piece (show_of config.now) (published calls.now row) ∷ [])
+            AreKept before (after ++ stop_piece (show_of config.now) (claimed_record calls.now row) ∷ [])
             self.new.pieces.items self.new.short }
     {
         invariants::of_calls(calls);
@@ -147,7 +148,9 @@ fn restart<A: Allocator, G: Gate>(
     worker: u32,
     gate: &G,
 )
-    requires { HasClaimedRow calls.old row }
+    requires row { HasClaimedRow calls.old row }
+    requires record { claimed_record calls.old row
+        ≡ content_after calls.old.view.roster calls.old.view.seen row }
     ensures table { KeepsTable calls.old calls.new }
     ensures restarts { Restarts config.now calls.old.view calls.new.view row }
 {

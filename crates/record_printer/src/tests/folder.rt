@@ -3,8 +3,8 @@
 ghost use Rattle.std.specs.Prelude.{◌<◌, ◌≤◌};
 ghost use Rattle.stop_history.specs.declared.limits.TheConstants.{LAST_NUMBER};
 
-use crate::call_parts::{CallEnd, CallStart};
-use crate::note::Note;
+use crate::call::parts::{CallEnd, CallStart};
+use crate::piece::note::Note;
 use crate::{FoldError, Folder, Piece, death_piece};
 use std::alloc::{AllocError, Allocator};
 use std::test::Fail;

@@ -1,16 +1,16 @@
 //! The notes of stops that are no whole call.
 
 use super::{Call, stopped};
-use crate::call_parts::CallStart;
-use crate::note::Note;
-use crate::notes::stop_note;
+use crate::call::parts::CallStart;
+use crate::piece::note::Note;
+use crate::piece::stop_note::stop_note;
 use crate::{Show, piece_of};
 use std::alloc::Global;
 use std::test::Fail;
 use stop_history::LAST_NUMBER;
 use trace_options::{CallSet, NoMemory};
 use trace_pages::Memory;
-use trace_record::Stop;
+use trace_record::{Death, Stop};
 
 /// The note of a stop of thread 100 with no memory.
 fn note_at(alloc: Global, stop: Stop, calls: CallSet) -> Result<Note, NoMemory> {
@@ -48,7 +48,7 @@ fn a_birth_names_its_child(rt: HostRuntime) -> Result<(), Fail> {
         let note = note_at(rt.alloc(), stop, CallSet::none())?;
         assert!(rt; matches!(&note, Note::Birth(101)));
     }
-    for stop in [Stop::Start, Stop::Exec(100)] {
+    for stop in [Stop::Start, Stop::Exec(100), Stop::Ending(Death::Exited(3))] {
         let note = note_at(rt.alloc(), stop, CallSet::all())?;
         assert!(rt; matches!(&note, Note::Quiet));
     }

@@ -90,40 +90,40 @@ fn a_row_that_never_stopped_dies_with_number_0(rt: HostRuntime) -> Result<(), Fa
 }
 
 #[test]
-fn a_board_keeps_64_rows(rt: HostRuntime) -> Result<(), Fail> {
-    let rows = roots(rt.alloc(), 64)?;
+fn a_board_keeps_256_rows(rt: HostRuntime) -> Result<(), Fail> {
+    let rows = roots(rt.alloc(), 256)?;
     let roster = Roster::new(rt.alloc(), rows.as_slice())?;
     let mut board = Board::new(rt.alloc(), &roster)?;
-    for row in 0..64 {
+    for row in 0..256 {
         assert_eq!(rt; board.publish(row, Stop::Start), Ok(1));
         assert_eq!(rt; board.claim(row, row % 16), Ok(Got::Stop(1, 0x80057f)));
     }
-    for row in 0..64 {
+    for row in 0..256 {
         assert_eq!(rt; board.state(row), State::Claimed(1, row % 16));
         assert_eq!(rt; board.resume(row, row % 16, SYSCALL), Ok(()));
         assert_eq!(rt; board.exit(row, Death::Exited(255)), Ok(()));
         assert_eq!(rt; board.claim(row, 15), Ok(Got::Ended(1, 0x00ff00)));
     }
-    assert_eq!(rt; board.state(63), State::Reaped);
-    assert_eq!(rt; board.state(64), State::Absent);
+    assert_eq!(rt; board.state(255), State::Reaped);
+    assert_eq!(rt; board.state(256), State::Absent);
     Ok(())
 }
 
 #[test]
-fn a_row_creates_63_children(rt: HostRuntime) -> Result<(), Fail> {
-    let rows = family(rt.alloc(), 63)?;
+fn a_row_creates_255_children(rt: HostRuntime) -> Result<(), Fail> {
+    let rows = family(rt.alloc(), 255)?;
     let roster = Roster::new(rt.alloc(), rows.as_slice())?;
     let mut board = Board::new(rt.alloc(), &roster)?;
-    for child in 1..64 {
+    for child in 1..256 {
         assert_eq!(rt; board.state(child), State::Unborn);
         assert_eq!(rt; board.publish(0, Stop::Fork(child + 1)), Ok(child));
         assert_eq!(rt; board.state(child), State::Running);
         assert_eq!(rt; board.claim(0, 0), Ok(Got::Stop(child, 0x01057f)));
         assert_eq!(rt; board.resume(0, 0, CONT), Ok(()));
     }
-    assert_eq!(rt; board.publish(0, Stop::Fork(64)), Err(Refused::NotNext));
-    assert_eq!(rt; board.publish(0, Stop::Fork(65)), Err(Refused::NotNext));
-    assert_eq!(rt; board.publish(0, Stop::Enter), Ok(64));
+    assert_eq!(rt; board.publish(0, Stop::Fork(256)), Err(Refused::NotNext));
+    assert_eq!(rt; board.publish(0, Stop::Fork(257)), Err(Refused::NotNext));
+    assert_eq!(rt; board.publish(0, Stop::Enter), Ok(256));
     Ok(())
 }
 
@@ -150,4 +150,5 @@ fn the_laws_are_there() {
     crate::laws::rows_are_placed();
     crate::laws::settled_rows_stay_settled();
     stop_history::laws::limits_are_fixed();
+    stop_history::laws::widths_are_fixed();
 }

@@ -9,7 +9,7 @@ pub(crate) const OPENING: Word = Word {
     number: 0,
 };
 
-/// Stopped at number 1, by the first stop of a tracee: 0x0001000a00000203.
+/// Stopped at number 1, by the first stop of a tracee: 0x0004002800000803.
 pub(crate) fn stopped_at_start() -> Word {
     Word {
         phase: Phase::Stopped { status: 0x80057f },
@@ -27,7 +27,7 @@ pub(crate) fn stopped_at_fork() -> Word {
     }
 }
 
-/// Dead by exit code 3 after stop 2, with one child created: 0x000006000000040d.
+/// Dead by exit code 3 after stop 2, with one child created: 0x000018000000100d.
 pub(crate) fn dead() -> Word {
     Word {
         phase: Phase::Dead { status: 0x300 },

@@ -1,6 +1,7 @@
 //! What the rows of a roster are to each other, and rosters that grow row by row.
 
-use crate::tests::rows::{ROOT, THREAD, roots, row};
+use crate::tests::rows::{ROOT, THREAD, family as children, roots, row};
+use std::alloc::Allocator;
 use std::test::Fail;
 use stop_history::{Roster, RosterError, Row, is_leader};
 
@@ -42,6 +43,40 @@ fn each_row_has_its_parent_its_rank_and_its_leader(rt: HostRuntime) -> Result<()
     Ok(())
 }
 
+/// Whether a roster has a row at this place, with this parent and this rank.
+fn has_family<A: Allocator>(
+    roster: &Roster<A>,
+    at: usize,
+    parent: Option<usize>,
+    rank: usize,
+) -> bool {
+    at < roster.rows().len() && roster.parent_place(at) == parent && roster.rank(at) == rank
+}
+
+#[test]
+fn parents_and_ranks_go_up_to_255(rt: HostRuntime) -> Result<(), Fail> {
+    // The last of 256 roots has 255 before it.
+    let rows = roots(rt.alloc(), 256)?;
+    let roster = Roster::new(rt.alloc(), rows.as_slice())?;
+    let copied = Roster::copy(rt.alloc(), &roster)?;
+    for at in [0usize, 63, 64, 254, 255] {
+        assert!(rt; has_family(&roster, at, None, at), "{at}");
+        assert!(rt; has_family(&copied, at, None, at), "{at}");
+    }
+    // The last of a root's 255 children has 254 before it.
+    let rows = children(rt.alloc(), 255)?;
+    let roster = Roster::new(rt.alloc(), rows.as_slice())?;
+    for (at, rank) in [(1usize, 0usize), (64, 63), (65, 64), (255, 254)] {
+        assert!(rt; has_family(&roster, at, Some(0), rank), "{at}");
+    }
+    // The last row may be a child of the one before it.
+    let mut rows = roots(rt.alloc(), 255)?;
+    rows.push(row(256, 256, 77, 255))?;
+    let roster = Roster::new(rt.alloc(), rows.as_slice())?;
+    assert!(rt; has_family(&roster, 255, Some(254), 0));
+    Ok(())
+}
+
 #[test]
 fn a_roster_grows_row_by_row(rt: HostRuntime) -> Result<(), Fail> {
     let mut roster = Roster::empty(rt.alloc());
@@ -71,12 +106,18 @@ fn a_refused_row_leaves_the_roster_as_it_was(rt: HostRuntime) -> Result<(), Fail
 }
 
 #[test]
-fn a_65th_row_has_its_own_fault_first(rt: HostRuntime) -> Result<(), Fail> {
-    let mut rows = roots(rt.alloc(), 64)?;
+fn a_257th_row_has_its_own_fault_first(rt: HostRuntime) -> Result<(), Fail> {
+    let mut rows = roots(rt.alloc(), 255)?;
     let mut roster = Roster::new(rt.alloc(), rows.as_slice())?;
-    assert_eq!(rt; roster.push(row(1, 1, 77, 0)), Err(RosterError::Twice(64)));
-    assert_eq!(rt; roster.push(row(65, 65, 77, 0)), Err(RosterError::TooMany));
-    assert_eq!(rt; roster.len(), 64);
+    rows.push(row(256, 256, 77, 0))?;
+    roster.push(row(256, 256, 77, 0))?;
+    assert_eq!(rt; roster.rows(), rows.as_slice());
+    assert_eq!(rt; roster.push(row(1, 1, 77, 0)), Err(RosterError::Twice(256)));
+    assert_eq!(rt;
+        roster.push(row(257, 257, 77, 0)),
+        Err(RosterError::TooMany)
+    );
+    assert_eq!(rt; roster.len(), 256);
     // All at once there are too many before any row is looked at.
     rows.push(row(1, 1, 77, 0))?;
     let all = Roster::new(rt.alloc(), rows.as_slice());

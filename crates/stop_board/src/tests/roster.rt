@@ -64,12 +64,15 @@ fn the_first_row_with_a_fault_is_reported(rt: HostRuntime) {
 }
 
 #[test]
-fn no_more_than_64_rows_are_accepted(rt: HostRuntime) -> Result<(), Fail> {
-    let rows = roots(rt.alloc(), 64)?;
-    let roster = Roster::new(rt.alloc(), rows.as_slice())?;
-    assert_eq!(rt; roster.len(), 64);
-    assert_eq!(rt; roster.row_of(64), Some(63));
-    let rows = roots(rt.alloc(), 65)?;
+fn no_more_than_256_rows_are_accepted(rt: HostRuntime) -> Result<(), Fail> {
+    for (count, last, next) in [(255, 254, 256), (256, 255, 257)] {
+        let rows = roots(rt.alloc(), count)?;
+        let roster = Roster::new(rt.alloc(), rows.as_slice())?;
+        assert_eq!(rt; roster.len(), count);
+        assert_eq!(rt; roster.row_of(count), Some(last));
+        assert_eq!(rt; roster.row_of(next), None);
+    }
+    let rows = roots(rt.alloc(), 257)?;
     assert!(rt;
         matches!(
             Roster::new(rt.alloc(), rows.as_slice()),

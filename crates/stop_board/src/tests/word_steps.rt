@@ -1,7 +1,7 @@
 //! What each step on a row makes of its word, by bits worked out by hand.
 
-ghost use Rattle.std.specs.Prelude.{◌<◌, ◌≤◌};
-ghost use Rattle.stop_history.specs.declared.limits.TheConstants.{LAST_NUMBER, MOST_ROWS};
+ghost use Rattle.std.specs.Prelude.{◌≤◌};
+ghost use Rattle.stop_history.specs.declared.limits.TheConstants.{LAST_NUMBER};
 
 use crate::tests::expected_words::{OPENING, dead, stopped_at_fork, stopped_at_start};
 use stop_history::{
@@ -11,8 +11,7 @@ use trace_record::{Death, Kind, Resume, Stop};
 
 /// A word whose fields besides the phase are these.
 fn claimed_by_2(births: u8, number: u32) -> Word
-    requires births { births < MOST_ROWS }
-    requires number { number ≤ LAST_NUMBER }
+    requires { number ≤ LAST_NUMBER }
 {
     Word {
         phase: Phase::Claimed { tracer: 2 },
@@ -31,13 +30,13 @@ fn a_publish_counts_its_stop_and_its_child(rt: HostRuntime) {
         published(taken_up(OPENING), Stop::Fork(101)),
         stopped_at_fork()
     );
-    assert_eq!(rt; stopped_at_fork().pack(), 0x0000020a0000020b);
+    assert_eq!(rt; stopped_at_fork().pack(), 0x000008280000080b);
 }
 
 #[test]
 fn a_claim_takes_a_stop_and_reaps_a_death(rt: HostRuntime) {
-    assert_eq!(rt; claimed(stopped_at_start(), 2).pack(), 0x0400000000000204);
-    assert_eq!(rt; claimed(dead(), 2).pack(), 0x40e);
+    assert_eq!(rt; claimed(stopped_at_start(), 2).pack(), 0x1000000000000804);
+    assert_eq!(rt; claimed(dead(), 2).pack(), 0x100e);
 }
 
 #[test]
@@ -47,9 +46,9 @@ fn a_resume_keeps_its_restart_until_it_is_taken_up(rt: HostRuntime) {
         signal: 15,
     };
     let resumed = restarted(claimed_by_2(0, 4), how);
-    assert_eq!(rt; resumed.pack(), 0x003e000000000801);
+    assert_eq!(rt; resumed.pack(), 0x00f8000000002001);
     assert_eq!(rt; restart_in(resumed.phase), Ok(how));
-    assert_eq!(rt; taken_up(resumed).pack(), 0x802);
+    assert_eq!(rt; taken_up(resumed).pack(), 0x2002);
     assert_eq!(rt;
         restart_in(taken_up(resumed).phase),
         Err(Refused::NotRunning)
@@ -67,5 +66,5 @@ fn an_exit_keeps_the_status_of_the_death(rt: HostRuntime) {
         died(taken_up(claimed_by_2(1, 2)), Death::Exited(3)),
         dead()
     );
-    assert_eq!(rt; dead().pack(), 0x000006000000040d);
+    assert_eq!(rt; dead().pack(), 0x000018000000100d);
 }

@@ -24,7 +24,7 @@ pub(crate) const CONT: Resume = Resume {
     signal: 0,
 };
 
-/// Stop 1, claimed by tracer 1: 0x0200000000000204.
+/// Stop 1, claimed by tracer 1: 0x0800000000000804.
 pub(crate) const CLAIMED: Word = Word {
     phase: Phase::Claimed { tracer: 1 },
     births: 0,
@@ -38,8 +38,8 @@ fn a_claim_of_a_word_that_has_changed_misses(rt: HostRuntime) -> Result<(), Fail
     let roster = Roster::new(rt.alloc(), &[ROOT])?;
     let mut world = World::new(rt.alloc(), &roster, 2)?;
     let stopped = stopped_at_start();
-    assert_eq!(rt; stopped.pack(), 0x0001000a00000203);
-    assert_eq!(rt; CLAIMED.pack(), 0x0200000000000204);
+    assert_eq!(rt; stopped.pack(), 0x0004002800000803);
+    assert_eq!(rt; CLAIMED.pack(), 0x0800000000000804);
     let table = [
         (0u32, Action::TakeUp, Reply::Took(CONT)),
         (0, Action::Publish(Stop::Start), Reply::Number(1)),
@@ -256,22 +256,23 @@ fn a_restart_is_taken_up_with_its_signal(rt: HostRuntime) -> Result<(), Fail> {
 }
 
 #[test]
-fn a_world_keeps_64_rows_and_16_tracers(rt: HostRuntime) -> Result<(), Fail> {
-    let rows = roots(rt.alloc(), 64)?;
+fn a_world_keeps_256_rows_and_16_tracers(rt: HostRuntime) -> Result<(), Fail> {
+    let rows = roots(rt.alloc(), 256)?;
     let roster = Roster::new(rt.alloc(), rows.as_slice())?;
     let mut world = World::new(rt.alloc(), &roster, 16)?;
-    for row in 0..64 {
+    for row in 0..256 {
         assert_eq!(rt; world.step(row, Action::TakeUp), Reply::Took(CONT));
         assert_eq!(rt;
             world.step(row, Action::Publish(Stop::Start)),
             Reply::Number(1)
         );
     }
-    for row in 0..64 {
-        assert!(rt; lets_go(&mut world, 64 + row % 16, row, SYSCALL));
+    for row in 0..256 {
+        assert!(rt; lets_go(&mut world, 256 + row % 16, row, SYSCALL));
         assert_eq!(rt; world.step(row, Action::TakeUp), Reply::Took(SYSCALL));
     }
-    assert_eq!(rt; world.step(80, Action::Look(0)), NO_ROW);
+    assert_eq!(rt; world.step(256, Action::Look(256)), NO_ROW);
+    assert_eq!(rt; world.step(272, Action::Look(0)), NO_ROW);
     Ok(())
 }
 

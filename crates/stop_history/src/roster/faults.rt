@@ -24,7 +24,7 @@ pub(super) fn fault_of(rows: &[Row]) -> Option<RosterError>
     None
 }
 
-/// The fault of a row that comes after others, if it has one. There are at most 64 others.
+/// The fault of a row that comes after others, if it has one. There are at most `MOST_ROWS` others.
 pub fn fault_after(before: &[Row], row: Row) -> Option<RosterError>
     requires { length before.now ≤ MOST_ROWS }
     ensures { result ≡ fault_after before.now row }

@@ -4,13 +4,13 @@
 //! they name, and answers it only if that word packs to the very bits: so an unused bit that is set has no word.
 
 ghost use Rattle.std.specs.Prelude.{◌≡◌, ◌↔◌, ◌<◌, ◌≤◌, ◌^◌, ◌%◌, ◌/◌, IfSome, Some, IsTrue};
-ghost use Rattle.stop_history.specs.Layout.{kept_of, kind_number, raw_of};
+ghost use Rattle.stop_history.specs.Layout.{kind_number, phase_fields, raw_of};
 ghost use Rattle.stop_history.specs.Parts.{kept_in};
 ghost use Rattle.stop_history.specs.Word as words;
 ghost use Rattle.stop_history.specs.Word.{IsPhase, IsWord, Reports, reports_death, reports_stop};
 ghost use Rattle.stop_history.specs.declared.phase.Phase.{Phase};
 
-use crate::limits::{LAST_NUMBER, MOST_ROWS, TRACERS};
+use crate::limits::{LAST_NUMBER, TRACERS};
 use crate::phase::Phase;
 use crate::word::Word;
 use trace_options::LAST_SIGNAL;
@@ -21,7 +21,7 @@ use trace_status::{STOPPED, WaitStatus, decode};
 /// is above the signal is the tracer's.
 pub(crate) const STATE_BITS: u32 = 3;
 
-pub(crate) const BIRTHS_BITS: u32 = 6;
+pub(crate) const BIRTHS_BITS: u32 = 8;
 
 pub(crate) const NUMBER_BITS: u32 = 24;
 
@@ -53,8 +53,8 @@ impl Word {
         ensures word { IfSome result (λ word. IsWord word × (raw_of word ≡ raw)) }
         ensures each { (word : words.Word) → IsWord word → raw_of word ≡ raw → result ≡ Some word }
     {
-        let cut = Cut::of(raw);
-        let word = word_of(cut.parts.phase()?, cut.births, cut.number)?;
+        let fields = WordFields::of(raw);
+        let word = word_of(fields.parts.phase()?, fields.births, fields.number)?;
         if word.pack() == raw { Some(word) } else { None }
     }
 
@@ -63,30 +63,30 @@ impl Word {
         requires { (word : words.Word) × IsWord word × (raw_of word ≡ raw) }
         ensures { IsWord result × (raw_of result ≡ raw) }
     {
-        let cut = Cut::of(raw);
-        let Some(phase) = cut.parts.phase() else {
+        let fields = WordFields::of(raw);
+        let Some(phase) = fields.parts.phase() else {
             unreachable!()
         };
         Word {
             phase,
-            births: cut.births,
-            number: cut.number,
+            births: fields.births,
+            number: fields.number,
         }
     }
 }
 
 /// The fields that the bits of a word have.
 #[derive(Clone, Copy)]
-struct Cut {
+struct WordFields {
     parts: Parts,
     births: u8,
     number: u32,
 }
 
-impl Cut {
-    fn of(raw: u64) -> Cut
+impl WordFields {
+    fn of(raw: u64) -> WordFields
         ensures { (word : words.Word) → IsWord word → raw_of word ≡ raw
-            → (kept_in result.parts ≡ kept_of word.phase) × (result.births ≡ word.births)
+            → (kept_in result.parts ≡ phase_fields word.phase) × (result.births ≡ word.births)
             × (result.number ≡ word.number) }
     {
         let (state, rest) = split(raw, STATE_BITS);
@@ -95,7 +95,7 @@ impl Cut {
         let (status, rest) = split(rest, STATUS_BITS);
         let (kind, rest) = split(rest, KIND_BITS);
         let (signal, tracer) = split(rest, SIGNAL_BITS);
-        Cut {
+        WordFields {
             parts: Parts {
                 state: state as u8,
                 status: status as u16,
@@ -118,14 +118,14 @@ fn split(raw: u64, bits: u32) -> (u64, u64)
     (raw & ((1 << bits) - 1), raw >> bits)
 }
 
-/// The word of these fields, if they are in range.
+/// The word of these fields, if they are in range. Any byte is a number of births: see `MOST_ROWS`.
 fn word_of(phase: Phase, births: u8, number: u32) -> Option<Word>
     ensures word { IfSome result (λ word. word ≡ record { phase = phase; births = births; number = number }) }
     ensures each { IsWord (record { phase = phase; births = births; number = number })
         → result ≡ Some (record { phase = phase; births = births; number = number }) }
 {
     let opening = births == 0 && number == 0;
-    let in_range = usize::from(births) < MOST_ROWS && number <= LAST_NUMBER && is_phase(phase);
+    let in_range = number <= LAST_NUMBER && is_phase(phase);
     if in_range && (opening || phase != Phase::Fresh) {
         Some(Word {
             phase,
@@ -183,14 +183,14 @@ pub(crate) struct Parts {
 }
 
 impl Parts {
-    ghost use Rattle.stop_history.specs.Layout.{kept_of, kind_number};
+    ghost use Rattle.stop_history.specs.Layout.{kind_number, phase_fields};
     ghost use Rattle.stop_history.specs.Parts.{kept_in};
     ghost use Rattle.stop_history.specs.declared.limits.TheConstants.{TRACERS};
     ghost use Rattle.stop_history.specs.Word.{IsPhase};
 
     pub(crate) fn of(phase: Phase) -> Parts
         requires { IsPhase phase }
-        ensures kept { kept_in result ≡ kept_of phase }
+        ensures kept { kept_in result ≡ phase_fields phase }
         ensures ranges { (result.state < 8) × (result.kind < 2) × (result.signal ≤ LAST_SIGNAL)
             × (result.tracer < TRACERS) }
     {
@@ -231,7 +231,7 @@ impl Parts {
 
     /// The phase of this number, by the fields that it uses.
     pub(crate) fn phase(self) -> Option<Phase>
-        ensures { (phase : Phase) → IsPhase phase → kept_in self ≡ kept_of phase → result ≡ Some phase }
+        ensures { (phase : Phase) → IsPhase phase → kept_in self ≡ phase_fields phase → result ≡ Some phase }
     {
         match self.state {
             0 => Some(Phase::Fresh),

@@ -143,12 +143,15 @@ fn a_death_is_left_by_claim_stop_and_claimed_by_claim(rt: HostRuntime) -> Result
 }
 
 #[test]
-fn at_most_16_tracers_are_opened_and_a_roster_may_be_empty(rt: HostRuntime) -> Result<(), Fail> {
+fn at_most_16_tracers_are_opened_for_any_roster(rt: HostRuntime) -> Result<(), Fail> {
     let one = Roster::new(rt.alloc(), &[ROOT])?;
     assert_eq!(rt; opened(rt.alloc(), &one, 17), Err(OpenError::TooMany));
     assert_eq!(rt; opened(rt.alloc(), &one, 16), Ok((1, 16)));
     let nobody = Roster::empty(rt.alloc());
     assert_eq!(rt; opened(rt.alloc(), &nobody, 1), Ok((0, 1)));
+    let rows = roots(rt.alloc(), 256)?;
+    let all = Roster::new(rt.alloc(), rows.as_slice())?;
+    assert_eq!(rt; opened(rt.alloc(), &all, 16), Ok((256, 16)));
     Ok(())
 }
 

@@ -2,6 +2,7 @@
 //! caller is checked here, so that a test needs no proof.
 
 ghost use Rattle.std.specs.Prelude.{◌≡◌, ◌+◌, ◌<◌, false, length, true, IfOk, IfSome, MatchResult, is_some, if◌then◌else◌};
+ghost use Rattle.trace_record.specs.Death.{IsDeath};
 ghost use Rattle.trace_record.specs.Stop.{IsStop, child_of};
 ghost use Rattle.stop_history.specs.History.{creates_next};
 ghost use Rattle.stop_history.specs.Roster.{row_at};
@@ -13,6 +14,7 @@ use stop_history::{LAST_NUMBER, Roster, place_of};
 use stop_table::laws::{a_record_is_its_rows, stops_are_counted_by_their_tracee};
 use stop_table::{GroupAlive, Start, Tracee};
 use trace_record::{Death, Resume, Stop, StopRecord};
+use trace_script::{Machine, Next};
 
 /// A tracee that does not have its row taken up.
 #[derive(Drop)]
@@ -110,13 +112,39 @@ impl<A: Allocator> AtRest<A> {
     }
 }
 
-/// Whether a tracee of this row, which has created this many children, can make a stop now. No test makes the stop of a
-/// signal.
+/// Whether a stop is one that tests make: none makes the stop of a signal, nor that before a death by one.
+fn is_made(stop: Stop) -> bool
+    ensures { result ≡ true → IsStop stop }
+{
+    match stop {
+        Stop::Start => true,
+        Stop::Enter => true,
+        Stop::Exit => true,
+        Stop::Seccomp(_) => true,
+        Stop::Fork(_) => true,
+        Stop::Clone(_) => true,
+        Stop::Exec(_) => true,
+        Stop::Signal(_) => false,
+        Stop::Ending(death) => is_exit(death),
+    }
+}
+
+/// Whether a death is an exit.
+fn is_exit(death: Death) -> bool
+    ensures { result ≡ true → IsDeath death }
+{
+    match death {
+        Death::Exited(_) => true,
+        Death::Signaled { .. } => false,
+    }
+}
+
+/// Whether a tracee of this row, which has created this many children, can make a stop now.
 fn may_make<A: Allocator>(roster: &Roster<A>, row: u32, births: usize, stop: Stop) -> bool
     requires { row < length roster.now }
     ensures { result ≡ true → IsStop stop × (creates_next roster.now row births stop ≡ true) }
 {
-    if let Stop::Signal(_) = stop {
+    if !is_made(stop) {
         return false;
     }
     match stop.child() {
@@ -194,6 +222,37 @@ impl<A: Allocator> Running<A> {
             row,
             births,
         })
+    }
+
+    /// Runs a script on, and publishes the stop that comes next. None where that is a death, or the row cannot make it.
+    pub(crate) fn next_of(self, machine: &mut Machine<A>) -> Option<AtRest<A>>
+        ensures { IfSome result (λ r. r.tracee.table_id ≡ self.tracee.table_id) }
+    {
+        let Running {
+            tracee,
+            roster,
+            row,
+            births,
+            how,
+            mut record,
+        } = self;
+        let (tid, number) = (record.tid, record.number);
+        if machine.next(how, &mut record) != Next::Stop {
+            return None;
+        }
+        let (stop, mark) = (record.stop, record.regs.rax);
+        // Both are the row's, whatever the machine makes of them.
+        record.tid = tid;
+        record.number = number;
+        let running = Running {
+            tracee,
+            roster,
+            row,
+            births,
+            how,
+            record,
+        };
+        running.publish(stop, mark)
     }
 
     /// Ends the row with an exit code. A leader that another row of its group holds back answers that row, and runs on.

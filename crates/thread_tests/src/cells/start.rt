@@ -1,9 +1,9 @@
 //! Whether a tracee may begin to run.
 
 use crate::cells::cast::open_for;
-use crate::cells::desk::Desk;
+use crate::cells::desk::{Answer, Desk};
 use crate::cells::runner::AtRest;
-use crate::rows::{CHILD, ROOT, THREAD};
+use crate::rows::{CHILD, ROOT, THREAD, family};
 use std::alloc::Allocator;
 use std::test::Fail;
 use stop_table::{Shown, Start};
@@ -53,5 +53,41 @@ fn a_thread_is_not_born_before_its_clone(rt: HostRuntime) -> Result<(), Fail> {
     let (thread, mut desk) = open_thread(rt.alloc())?;
     assert!(rt; thread.take_up().is_err(), "its leader has made no clone");
     assert_eq!(rt; desk.look(1), Shown::Unborn);
+    Ok(())
+}
+
+/// A root of thread id 1, the last of its 255 children, and a tracer.
+fn open_largest<A: Allocator + Copy>(alloc: A) -> Result<(AtRest<A>, AtRest<A>, Desk<A>), Fail> {
+    let rows = family(alloc, 255)?;
+    let mut cast = open_for(alloc, rows.as_slice(), 1)?;
+    let last = cast.tracee(alloc)?;
+    for _ in 0..254 {
+        let _between = cast.tracee(alloc)?;
+    }
+    let root = cast.tracee(alloc)?;
+    Ok((root, last, cast.desk()?))
+}
+
+#[test]
+fn the_255th_child_is_born_by_the_255th_fork(rt: HostRuntime) -> Result<(), Fail> {
+    let (mut root, mut last, mut desk) = open_largest(rt.alloc())?;
+    for fork in 1..256 {
+        assert_eq!(rt; last.start(), Start::NotYet, "{fork}");
+        assert_eq!(rt; desk.look(255), Shown::Unborn, "{fork}");
+        root = root.stop(Stop::Fork(fork + 1), 0)?;
+        let stop = Answer::Stop {
+            tid: 1,
+            number: fork,
+            mark: 0,
+        };
+        assert_eq!(rt; desk.try_claim(0), stop);
+    }
+    assert_eq!(rt; last.start(), Start::Born);
+    assert_eq!(rt; desk.look(255), Shown::Running);
+    let Ok(running) = root.take_up() else {
+        return Err(Fail::new("the root was resumed"));
+    };
+    let more = running.publish(Stop::Fork(257), 0);
+    assert!(rt; more.is_none(), "it has no 256th child");
     Ok(())
 }

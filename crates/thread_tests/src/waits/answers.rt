@@ -7,7 +7,7 @@ use std::alloc::Allocator;
 use std::test::Fail;
 use trace_calls::{Calls, Id};
 use trace_options::{Errno, WaitFlags};
-use trace_record::Stop;
+use trace_record::{Death, Stop};
 use trace_status::WaitStatus;
 
 /// The answer for a tracee at `Stop::Start`: SIGTRAP (5), and `PTRACE_EVENT_STOP` (128).
@@ -156,6 +156,19 @@ fn a_parent_comes_before_its_child(rt: HostRuntime) -> Result<(), Fail> {
     assert_eq!(rt; found, [forked, started(101)]);
     assert_eq!(rt; calls.getevent(100), Ok(101));
     let _tracer = end(&rt, calls, &[100, 101]);
+    Ok(())
+}
+
+#[test]
+fn an_exit_is_reported_before_the_death(rt: HostRuntime) -> Result<(), Fail> {
+    let mut calls = over_stopped_root(rt.alloc(), Stop::Ending(Death::Exited(3)))?;
+    // PTRACE_EVENT_EXIT is 6; the message is the raw wait status of the death.
+    let exits = Ok(WaitStatus::PtraceEvent(100, 5, 6));
+    let found = waits(&mut calls, [-1, -1]);
+    assert_eq!(rt; found, [exits, Ok(WaitStatus::StillAlive)]);
+    assert_eq!(rt; calls.getevent(100), Ok(0x300));
+    assert_eq!(rt; calls.count(100), Some(1));
+    let _tracer = end(&rt, calls, &[100]);
     Ok(())
 }
 

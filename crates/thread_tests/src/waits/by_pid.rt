@@ -2,7 +2,7 @@
 
 use crate::cells::runner::{AtRest, Running};
 use crate::waits::answers::started;
-use crate::waits::caller::{end, over_stopped_root, root_and_waiter, with_stopped_root};
+use crate::waits::caller::{Waiter, end, over_stopped_root, root_and_waiter, with_stopped_root};
 use std::alloc::{Allocator, Global};
 use std::sync::Wait;
 use std::test::Fail;
@@ -31,15 +31,21 @@ fn refusals<A: Allocator>(calls: &mut Calls<A>) -> [Result<(), Errno>; 3] {
     [(100, Some(65)), (999, Some(65)), (-100, None)].map(|(pid, signal)| calls.cont(pid, signal))
 }
 
-/// The calls over the root with its page, at `Stop::Start`.
-fn over_a_page(alloc: Global) -> Result<Calls, Fail> {
+/// The root with its page, at `Stop::Start`, and a tracer that is still to get its calls.
+pub(crate) fn with_a_page(alloc: Global) -> Result<(AtRest, Waiter), Fail> {
     let (root, waiter) = root_and_waiter(alloc)?;
     let Ok(running) = root.take_up() else {
         return Err(Fail::new("a root runs"));
     };
-    if start_with_a_page(running).is_none() {
+    let Some(root) = start_with_a_page(running) else {
         return Err(Fail::new("there is no memory for a page"));
-    }
+    };
+    Ok((root, waiter))
+}
+
+/// The calls over the root with its page, at `Stop::Start`.
+fn over_a_page(alloc: Global) -> Result<Calls, Fail> {
+    let (_root, waiter) = with_a_page(alloc)?;
     waiter.ready(alloc)
 }
 

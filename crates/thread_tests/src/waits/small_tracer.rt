@@ -24,13 +24,13 @@ fn trace<R: Wait + Clock, A: Allocator>(rt: &R, calls: &mut Calls<A>) -> u64 {
             Ok(WaitStatus::PtraceEvent(pid, _, _)) => (pid, None),
             // The signal is handed on.
             Ok(WaitStatus::Stopped(pid, signal)) => (pid, Some(signal)),
-            // A death is reaped by the wait itself.
-            Ok(_) => (0, None),
+            // A death is reaped by the wait itself: there is nobody to restart.
+            Ok(_) => continue,
             // ECHILD: there is nobody left to wait for.
             Err(_) => return syscall_stops,
         };
+        // A status has the pid as a u32, a call takes an i32. No pid is above 4,194,303.
         if let Ok(pid) = i32::try_from(pid) {
-            // ESRCH for a tracee that has ended.
             let _ = calls.syscall(pid, signal);
         }
     }

@@ -14,10 +14,10 @@ use crate::case::image::{decode_onto, no_image};
 use crate::case::keyword::Place;
 use crate::case::late::{Late, LateStep};
 use crate::case::raw_line::{RawCall, RawFill, RawStep};
+use crate::case::signals::can_arrive;
 use crate::cause::Cause;
 use crate::limits::MOST_STEPS;
 use crate::script::{Call, Fill, Image, Script, Step};
-use crate::signals::can_arrive;
 use std::alloc::Allocator;
 use trace_options::NoMemory;
 

@@ -1,8 +1,8 @@
 //! The line of a system call: `call NAME A1 .. An = R`, and the same with `fill ADDR BYTES` after it.
 
 ghost use Rattle.std.specs.Prelude.{◌≡◌, ◌<◌, ◌≤◌, IfOk, length, map, position};
-ghost use Rattle.trace_script.specs.CaseLine.{answer_of, answered_call, any_number, argument, arguments_before};
-ghost use Rattle.trace_script.specs.CaseLine.{arguments_of, call_of, filled_call, has_own_line, is_byte_word};
+ghost use Rattle.trace_script.specs.CaseLine.{answer_of, answered_call, any_number, argument, argument_count};
+ghost use Rattle.trace_script.specs.CaseLine.{argument_numbers, call_of, filled_call, has_own_line, is_byte_word};
 ghost use Rattle.trace_script.specs.CaseLine.{is_equals};
 ghost use Rattle.trace_script.specs.CaseLine.{named_call, nr_named, plain_call};
 ghost use Rattle.trace_script.specs.RawLine.{IsTestedCall, call_said, if_said};
@@ -56,7 +56,7 @@ fn named_call<'a>(nr: u64, words: &[&'a [u8]]) -> Result<RawCall<'a>, LineFault>
 /// How many arguments come before the first `=`.
 #[tactic(auto, using(crate::proofs::Places::position_of_map))]
 fn arguments_before(words: &[&[u8]]) -> Result<usize, LineFault>
-    ensures count { result ≡ arguments_before (map (λ w. w.now) words.now) }
+    ensures count { result ≡ argument_count (map (λ w. w.now) words.now) }
     ensures within { IfOk result (λ count. count < length words.now) }
 {
     match equals(words) {
@@ -130,7 +130,7 @@ fn filled_call<'a>(
 
 /// Six arguments; those that are missing are 0.
 fn arguments_of(words: &[&[u8]]) -> Result<[u64; 6], LineFault>
-    ensures { result ≡ arguments_of (map (λ w. w.now) words.now) }
+    ensures { result ≡ argument_numbers (map (λ w. w.now) words.now) }
 {
     Ok([
         argument(words, 0)?,

@@ -9,8 +9,8 @@ ghost use Rattle.trace_script.specs.RawLine.{step_said};
 use crate::case::call::read_call;
 use crate::case::keyword::{Keyword, Place, keyword_at};
 use crate::case::raw_line::{RawLine, RawPart, RawStep};
+use crate::case::row_words::{id, row_of_words};
 use crate::case::words::{any_number, byte_word, page_address};
-use crate::row_words::{id, row_of_words};
 use text_lines::LineFault;
 
 /// How many words of a line are looked at: one more than any line may have.

@@ -3,7 +3,7 @@
 ghost use Rattle.std.specs.Prelude.{◌≡◌, ◌+◌, ◌%◌, true, IfOk};
 ghost use Rattle.std.specs.List.{list_all};
 ghost use Rattle.hex.specs.Hex.{is_hex_digit};
-ghost use Rattle.trace_script.specs.CaseLine.{any_number, bytes_of, bytes_written, is_byte_word, page_address};
+ghost use Rattle.trace_script.specs.CaseLine.{any_number, bytes_of_word, bytes_written, is_byte_word, page_address};
 ghost use Rattle.trace_script.specs.RawLine.{if_said};
 
 use text_lines::{LineFault, number};
@@ -31,7 +31,7 @@ pub(crate) fn page_address(word: &[u8]) -> Result<u64, LineFault>
 
 /// The word itself, if it is an even number of hexadecimal digits, at least two.
 pub(crate) fn byte_word<'a>(word: &'a [u8]) -> Result<&'a [u8], LineFault>
-    ensures bytes { if_said (λ w. bytes_written w.now) result ≡ bytes_of word.now }
+    ensures bytes { if_said (λ w. bytes_written w.now) result ≡ bytes_of_word word.now }
     ensures range { IfOk result (λ w. is_byte_word w.now ≡ true) }
 {
     if is_byte_word(word) {

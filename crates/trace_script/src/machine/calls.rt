@@ -2,7 +2,7 @@
 
 ghost use Rattle.std.specs.Prelude.{◌≡◌, ◌<◌, ◌≤◌, [], ℕ, drop, length, IfOk};
 ghost use Rattle.stop_history.specs.Roster.{row_at};
-ghost use Rattle.trace_options.specs.Options.{IsTaken, option_bits};
+ghost use Rattle.trace_options.specs.Options.{AreValidOptions, option_bits};
 ghost use Rattle.trace_record.specs.Content.{content_by};
 ghost use Rattle.trace_record.specs.declared.stop.Stop.TheVariants as stop;
 ghost use Rattle.trace_script.specs.Arrivals.{reached};
@@ -12,24 +12,24 @@ ghost use Rattle.trace_script.specs.Left.{left_in};
 ghost use Rattle.trace_script.specs.Machine.{IsAnswer};
 ghost use Rattle.trace_script.specs.Registers.{first_regs};
 ghost use Rattle.trace_script.specs.StopTrace.{advance, context_of, next_element, next_position, opening_position};
-ghost use Rattle.trace_script.specs.declared.effect.Reached.TheVariants as reached_at;
+ghost use Rattle.trace_script.specs.declared.step.effect.Reached.TheVariants as reached_at;
 
 use crate::case::Case;
-use crate::copies::{copy_image, copy_steps};
-use crate::effect::Reached;
 use crate::limits::MOST_STEPS;
-use crate::look_ahead::fault_ahead;
 use crate::machine::Machine;
-use crate::next::Next;
-use crate::progress::Progress;
-use crate::registers::first_regs;
+use crate::machine::next::Next;
+use crate::machine::progress::Progress;
+use crate::script::copies::{copy_image, copy_steps};
 use crate::script::{Image, Script, Step};
-use crate::setting::Setting;
-use crate::steps_run::run_steps;
-use crate::walk::Walk;
+use crate::setting::{Setting, has_option};
+use crate::step::effect::Reached;
+use crate::step::look_ahead::fault_ahead;
+use crate::step::registers::first_regs;
+use crate::step::steps_run::run_steps;
+use crate::step::walk::Walk;
 use std::alloc::Allocator;
 use trace_options::{Filter, NoMemory, Options};
-use trace_record::{Death, Resume, Stop, StopRecord};
+use trace_record::{Resume, Stop, StopRecord};
 
 impl<A: Allocator + Copy> Machine<A> {
     /// The machine of a row of a case, before its first stop. The options are ones that a tracer takes (`check`). It
@@ -42,7 +42,7 @@ impl<A: Allocator + Copy> Machine<A> {
         filter: &Filter,
     ) -> Result<Machine<A>, NoMemory>
         requires row { row < length case.now.rows }
-        requires options { IsTaken (option_bits options) }
+        requires options { AreValidOptions (option_bits options) }
         ensures { IfOk result (λ machine. machine ≡ opening_position
             (record { tid = (row_at case.now.rows row).tid; options = options; filter = filter.now })
             (script_at case.now.scripts row)) }
@@ -76,8 +76,9 @@ impl<A: Allocator + Copy> Machine<A> {
 
 impl<A: Allocator> Machine<A> {
     /// Runs the tracee on, to its next stop or its death. The first call ignores the restart and what the record
-    /// holds: it loads the program. It takes no memory, and at the death it gives back that of the steps and of the
-    /// bytes of fills.
+    /// holds: it loads the program. Where TRACEEXIT is set, a stop (`Stop::Ending`) comes before the death, with the
+    /// registers and the memory as they were (ptrace(2), `PTRACE_EVENT_EXIT`); after it the death comes whatever the
+    /// restart is. It takes no memory, and at the exit it gives back that of the steps and of the bytes of fills.
     pub fn next(&mut self, how: Resume, held: &mut StopRecord<A>) -> Next
         ensures element { IsAnswer (next_element self.old how (context_of held.old)) result held.old held.new }
         ensures position { self.new ≡ next_position self.old how (context_of held.old) }
@@ -103,17 +104,17 @@ impl<A: Allocator> Machine<A> {
                         sign(self.setting.tid, self.number, held);
                         Next::Stop
                     }
-                    Reached::Through => {
-                        self.progress = Progress::Ended(Death::Exited(0));
-                        let_go(&mut self.steps);
-                        let_go(&mut self.filled);
-                        Next::Death(Death::Exited(0))
-                    }
-                    Reached::Died(death) => {
+                    Reached::AtExit(death) => {
                         self.progress = Progress::Ended(death);
                         let_go(&mut self.steps);
                         let_go(&mut self.filled);
-                        Next::Death(death)
+                        if !has_option(&self.setting, Options::TRACEEXIT) {
+                            return Next::Death(death);
+                        }
+                        held.stop = Stop::Ending(death);
+                        self.number += 1;
+                        sign(self.setting.tid, self.number, held);
+                        Next::Stop
                     }
                     Reached::Faulted(addr) => Next::Fault(addr),
                 }
@@ -123,7 +124,7 @@ impl<A: Allocator> Machine<A> {
     }
 }
 
-/// Lets steps or bytes go, of which none is left after the death, and their memory with them.
+/// Lets steps or bytes go, of which none is left after the exit, and their memory with them.
 fn let_go<T: Drop, A: Allocator>(items: &mut Vec<T, A>)
     ensures { items.new.items ≡ [] }
 {
@@ -161,7 +162,8 @@ fn go_on<A: Allocator>(
 ) -> Reached
     ensures outcome { advance walk.now.setting.now walk.now.how
         (left_in walk.now.setting.now walk.now.filled.now (drop index steps.old) place) (context_of held.old)
-        ≡ reached walk.now.setting.now result walk.now.filled.now steps.new held.new.stop (context_of held.new) }
+        ≡ reached walk.now.setting.now walk.now.how result walk.now.filled.now steps.new held.new.stop
+        (context_of held.new) }
     ensures len { length steps.new ≡ length steps.old }
     ensures fault { (address : ℕ) → result ≡ reached_at.Faulted address →
         (steps.new ≡ steps.old) × (held.new ≡ held.old) }

@@ -4,7 +4,7 @@ ghost use Rattle.record_printer.specs.Piece as pieces;
 ghost use Rattle.stop_history.specs.Event as event;
 ghost use Rattle.std.specs.Prelude.{◌≡◌, ◌≤◌, ◌∷◌, List, None, true, false, IfOk, OnOk, ◌+◌, IsErr, Ok};
 ghost use Rattle.record_printer.specs.FolderAnswers.{lost, pieces_text, refusal};
-ghost use Rattle.record_printer.specs.Represents.{Represents as HasCome};
+ghost use Rattle.record_printer.specs.Represents.{Represents};
 ghost use Rattle.stop_history.specs.Event.{History};
 ghost use Rattle.stop_history.specs.Sequential.{exit_answer, publish_answer};
 ghost use Rattle.stop_history.specs.State.{last_number};
@@ -25,10 +25,10 @@ use trace_record::Death;
 /// Adds a piece that no folder refuses. It is compiled into its callers, so that a piece is moved less often.
 #[inline(always)]
 fn add<A: Allocator + Copy>(folder: &mut Folder<A>, piece: Piece<A>) -> Result<(), NoMemory>
-    requires { (came : List pieces.Piece) × HasCome folder.old came
+    requires { (came : List pieces.Piece) × Represents folder.old came
         × (refusal folder.old.rows came piece ≡ None) }
-    ensures came { (came : List pieces.Piece) → HasCome folder.old came
-        → OnOk result (HasCome folder.new (piece ∷ came)) }
+    ensures came { (came : List pieces.Piece) → Represents folder.old came
+        → OnOk result (Represents folder.new (piece ∷ came)) }
     ensures rows { folder.new.rows ≡ folder.old.rows }
 {
     match folder.add(piece) {
@@ -40,8 +40,8 @@ fn add<A: Allocator + Copy>(folder: &mut Folder<A>, piece: Piece<A>) -> Result<(
 
 /// The text of a folder in which nothing is lost.
 pub(crate) fn finish<A: Allocator + Copy>(folder: Folder<A>) -> Result<Text<A>, NoMemory>
-    requires { (came : List pieces.Piece) × HasCome folder came × (lost folder.rows came ≡ None) }
-    ensures { (came : List pieces.Piece) → HasCome folder came
+    requires { (came : List pieces.Piece) × Represents folder came × (lost folder.rows came ≡ None) }
+    ensures { (came : List pieces.Piece) → Represents folder came
         → IfOk result (λ text. text ≡ pieces_text folder.rows came) }
 {
     match folder.finish() {
@@ -63,14 +63,14 @@ pub(crate) fn publish_stop<A: Allocator + Copy>(
     requires stop { IsStop traced.old.content.stop }
     requires answer { (h : History) × CameTo world.old h
         × (publish_answer world.old.rows h row traced.old.content.stop ≡ Ok (last_number h row + 1)) }
-    requires taken { (came : List pieces.Piece) × HasCome folder.old came
+    requires taken { (came : List pieces.Piece) × Represents folder.old came
         × (refusal folder.old.rows came piece ≡ None) }
     ensures made { (h : History) → CameTo world.old h →
         publish_answer world.old.rows h row traced.old.content.stop ≡ Ok (last_number h row + 1) →
         OnOk result (CameTo world.new (event.Publish row (last_number h row + 1) traced.old.content.stop ∷ h)
         × (traced.new ≡ with_number traced.old (last_number h row + 1))) }
-    ensures came { (came : List pieces.Piece) → HasCome folder.old came →
-        OnOk result (HasCome folder.new (piece ∷ came)) }
+    ensures came { (came : List pieces.Piece) → Represents folder.old came →
+        OnOk result (Represents folder.new (piece ∷ came)) }
     ensures rows { (world.new.rows ≡ world.old.rows) × (folder.new.rows ≡ folder.old.rows) }
 {
     let number = one_thread::publish(world, row, traced.content.stop);
@@ -88,12 +88,12 @@ pub(crate) fn end_row<A: Allocator + Copy>(
 ) -> Result<bool, NoMemory>
     requires number { traced.now.number ≤ LAST_NUMBER }
     requires death { IsDeath death }
-    requires taken { (came : List pieces.Piece) × HasCome folder.old came
+    requires taken { (came : List pieces.Piece) × Represents folder.old came
         × (refusal folder.old.rows came (pieces.Died traced.now.tid traced.now.number death) ≡ None) }
     ensures ended { (h : History) → CameTo world.old h → IfOk result (λ ended. ended ≡ true →
         (exit_answer world.old.rows h row ≡ Ok tt) × CameTo world.new (event.Exit row death ∷ h)) }
-    ensures came { (came : List pieces.Piece) → HasCome folder.old came → IfOk result (λ ended. ended ≡ true →
-        HasCome folder.new (pieces.Died traced.now.tid traced.now.number death ∷ came)) }
+    ensures came { (came : List pieces.Piece) → Represents folder.old came → IfOk result (λ ended. ended ≡ true →
+        Represents folder.new (pieces.Died traced.now.tid traced.now.number death ∷ came)) }
     ensures held { (h : History) → CameTo world.old h → IfOk result (λ ended. ended ≡ false →
         (IsErr (exit_answer world.old.rows h row)) × (CameTo world.new h) × (folder.new ≡ folder.old)) }
     ensures rows { (world.new.rows ≡ world.old.rows) × (folder.new.rows ≡ folder.old.rows) }

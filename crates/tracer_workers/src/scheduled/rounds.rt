@@ -3,7 +3,7 @@
 ghost use Rattle.std.specs.Prelude.{◌≡◌, ◌<◌, List, IfOk, OnOk, length};
 ghost use Rattle.stop_table.specs.Entry.{Entry};
 ghost use Rattle.trace_script.specs.CaseFile.{CaseContent};
-ghost use Rattle.tracer_workers.specs.Scheduled.{IsOver, Stands};
+ghost use Rattle.tracer_workers.specs.Scheduled.{IsRunOver, Stands};
 ghost use Rattle.tracer_workers.specs.Turn.{HasGone, HasRunOut};
 
 use crate::scheduled::run::Run;
@@ -57,7 +57,7 @@ impl<'a, A: Allocator + Copy> Run<'a, A> {
     pub(crate) fn rounds(&mut self) -> Result<(), NoMemory>
         requires { (content : CaseContent) × (h : List Entry) × Stands content self.old h }
         ensures over { (content : CaseContent) (h : List Entry) → Stands content self.old h →
-            OnOk result ((later : List Entry) × Stands content self.new later × IsOver content later) }
+            OnOk result ((later : List Entry) × Stands content self.new later × IsRunOver content later) }
         ensures config { self.new.config ≡ self.old.config }
     {
         let mut moved = true;

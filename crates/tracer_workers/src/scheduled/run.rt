@@ -4,7 +4,7 @@ ghost use Rattle.std.specs.Prelude.{[], ◌≡◌, List, IfOk};
 ghost use Rattle.stop_table.specs.Entry.{Entry};
 ghost use Rattle.trace_script.specs.CaseFile.{CaseContent};
 ghost use Rattle.tracer_workers.specs.Config.{text_of};
-ghost use Rattle.tracer_workers.specs.Scheduled.{IsOver, Stands};
+ghost use Rattle.tracer_workers.specs.Scheduled.{IsRunOver, Stands};
 
 use crate::config::Config;
 use crate::scheduled::events;
@@ -66,8 +66,8 @@ impl<'a, A: Allocator + Copy> Run<'a, A> {
 
     /// The text of a run that is over.
     pub(crate) fn finish(self) -> Result<Text<A>, NoMemory>
-        requires { (content : CaseContent) × (h : List Entry) × Stands content self h × IsOver content h }
-        ensures { (content : CaseContent) (h : List Entry) → Stands content self.entry h → IsOver content h →
+        requires { (content : CaseContent) × (h : List Entry) × Stands content self h × IsRunOver content h }
+        ensures { (content : CaseContent) (h : List Entry) → Stands content self.entry h → IsRunOver content h →
             IfOk result (λ text. text ≡ text_of self.entry.config content) }
     {
         events::finish(self.folder)

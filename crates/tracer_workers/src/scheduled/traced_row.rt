@@ -10,7 +10,7 @@ ghost use Rattle.tracer_workers.specs.Scheduled.{KeptRow};
 ghost use Rattle.tracer_workers.specs.Turn.{new_row, with_next};
 
 use crate::config::Config;
-use crate::scheduled::tracee::Tracee;
+use crate::scheduled::tracee::ScheduledTracee;
 use record_printer::{Piece, Show, piece_of};
 use std::alloc::{Allocator, Global};
 use std::marker::Model;
@@ -26,7 +26,7 @@ pub(crate) struct TracedRow<'a, A: Allocator = Global> {
     pub(crate) how: Resume,
     pub(crate) number: u32,
     pub(crate) content: StopRecord<A>,
-    pub(crate) tracee: Tracee<'a, A>,
+    pub(crate) tracee: ScheduledTracee<'a, A>,
 }
 
 impl<'a, A: Allocator> Model for TracedRow<'a, A> {
@@ -62,7 +62,7 @@ impl<'a, A: Allocator + Copy> TracedRow<'a, A> {
             },
             number: 0,
             content: StopRecord::empty(alloc, tid),
-            tracee: Tracee::new(case, row, config),
+            tracee: ScheduledTracee::new(case, row, config),
         }
     }
 

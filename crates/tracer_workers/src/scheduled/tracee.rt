@@ -18,7 +18,7 @@ use trace_script::{Case, Machine, Next};
 
 /// The tracee of a row of a case.
 #[derive(Drop)]
-pub(crate) struct Tracee<'a, A: Allocator = Global> {
+pub(crate) struct ScheduledTracee<'a, A: Allocator = Global> {
     case: &'a Case<A>,
     row: u32,
     config: Config,
@@ -26,7 +26,7 @@ pub(crate) struct Tracee<'a, A: Allocator = Global> {
     machine: Option<Machine<A>>,
 }
 
-impl<'a, A: Allocator> Model for Tracee<'a, A> {
+impl<'a, A: Allocator> Model for ScheduledTracee<'a, A> {
     ghost use Rattle.std.specs.Coded.{codes};
     ghost use Rattle.std.specs.Prelude.{◌<◌, length};
     ghost use Rattle.trace_pages.specs.FlatMemory.{flat_code};
@@ -44,13 +44,13 @@ impl<'a, A: Allocator> Model for Tracee<'a, A> {
     ghost invariant = { λ t. t.row < length t.case.now.rows };
 }
 
-impl<'a, A: Allocator + Copy> Tracee<'a, A> {
+impl<'a, A: Allocator + Copy> ScheduledTracee<'a, A> {
     /// The tracee of a row before its first turn. It takes no memory.
-    pub(crate) fn new(case: &'a Case<A>, row: u32, config: &Config) -> Tracee<'a, A>
+    pub(crate) fn new(case: &'a Case<A>, row: u32, config: &Config) -> ScheduledTracee<'a, A>
         requires { row < length case.now.rows }
         ensures { result ≡ opening_of (plan_of config.now case.now) row }
     {
-        Tracee {
+        ScheduledTracee {
             case,
             row,
             config: *config,

@@ -8,8 +8,8 @@ ghost use Rattle.stop_table.specs.Entry.{Entry};
 ghost use Rattle.trace_record.specs.Content.{Content};
 ghost use Rattle.trace_script.specs.CaseFile.{CaseContent};
 ghost use Rattle.tracer_workers.specs.Scheduled.{MovedBy, Stands};
-ghost use Rattle.tracer_workers.specs.Turn.{HasClaimed, HasDied, HasHeld, HasRunOn, HasStopped, HasTurned};
-ghost use Rattle.tracer_workers.specs.Turn.{HasWorked, IsToRun};
+ghost use Rattle.tracer_workers.specs.Turn.{HasDied, HasHeld, HasRunOn, HasServedAll, HasServedRow, HasStopped};
+ghost use Rattle.tracer_workers.specs.Turn.{HasTurned, IsToRun};
 
 use crate::config::policy;
 use crate::fault::FAULT_DEATH;
@@ -97,7 +97,7 @@ impl<'a, A: Allocator + Copy> Run<'a, A> {
         requires stands { (content : CaseContent) × (h : List Entry) × Stands content self.old h
             × (row < length content.rows) }
         ensures claimed { (content : CaseContent) (h : List Entry) → Stands content self.old h →
-            row < length content.rows → HasClaimed content self.old self.new h row tracer result }
+            row < length content.rows → HasServedRow content self.old self.new h row tracer result }
         ensures config { self.new.config ≡ self.old.config }
     {
         match one_thread::claim(&mut self.world, row, tracer) {
@@ -128,7 +128,7 @@ impl<'a, A: Allocator + Copy> Run<'a, A> {
         requires low { tracer < TRACERS }
         requires stands { (content : CaseContent) × (h : List Entry) × Stands content self.old h }
         ensures worked { (content : CaseContent) (h : List Entry) → Stands content self.old h →
-            HasWorked content self.old self.new h tracer result }
+            HasServedAll content self.old self.new h tracer result }
         ensures config { self.new.config ≡ self.old.config }
     {
         for row in 0..self.rows.len() as u32 {
@@ -149,7 +149,7 @@ impl<'a, A: Allocator + Copy> Run<'a, A> {
         ensures worker { (content : CaseContent) (h : List Entry) → Stands content self.old h →
             length content.rows ≤ actor → actor < length content.rows + self.old.config.workers →
             OnOk result ((found : Bool)
-            × HasWorked content self.old self.new h (actor - length content.rows) found) }
+            × HasServedAll content self.old self.new h (actor - length content.rows) found) }
         ensures nobody { (content : CaseContent) (h : List Entry) → Stands content self.old h →
             length content.rows + self.old.config.workers ≤ actor → OnOk result (self.new ≡ self.old) }
         ensures gone { (content : CaseContent) (h : List Entry) → Stands content self.old h →

@@ -57,8 +57,8 @@ impl StartingLine {
         self.told.store(what, Ordering::SeqCst);
     }
 
-    /// Waits until the threads are told; whether to go.
-    pub(crate) fn is_go<R: Wait + Clock>(&self, rt: &R) -> bool {
+    /// Waits until the threads are told whether to go, and returns that.
+    pub(crate) fn wait_for_go<R: Wait + Clock>(&self, rt: &R) -> bool {
         let mut patience = Patience::new();
         for _ in rt.forever() {
             let told = self.told.load(Ordering::SeqCst);

@@ -49,7 +49,7 @@ fn run_when_told<A: Allocator, R: Wait + Clock>(
         mut tracee,
         machine,
     } = scripted;
-    if !line.is_go(rt) {
+    if !line.wait_for_go(rt) {
         return tracee;
     }
     run_tracee(rt, &mut tracee, machine);

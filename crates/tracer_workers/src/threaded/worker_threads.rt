@@ -83,7 +83,7 @@ fn work_when_told<A: Allocator + Copy, R: Wait + Clock, G: Gate>(
         }
     };
     shared.line.report(true);
-    if !shared.line.is_go(rt) {
+    if !shared.line.wait_for_go(rt) {
         return idle(alloc, spend(calls));
     }
     let worked = run_worker(rt, alloc, &mut calls, shared.config, worker, shared.gate);

@@ -38,7 +38,7 @@ fn a_roster_wants_memory_once(rt: HostRuntime) {
 
 #[test]
 fn a_fault_of_the_rows_is_found_before_a_growth(rt: HostRuntime) -> Result<(), Fail> {
-    let many = roots(rt.alloc(), 65)?;
+    let many = roots(rt.alloc(), 257)?;
     for (rows, fault) in [
         ([ROOT, ROOT].as_slice(), RosterError::Twice(1)),
         (&[THREAD], RosterError::ParentLater(0)),

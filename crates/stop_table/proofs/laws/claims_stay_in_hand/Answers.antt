@@ -1,5 +1,5 @@
 -- A claimed row stays in the hand of its tracer, with its word and its record.
-use Rattle.std.proofs.Common.{◌≡◌, ℕ, true, false, ◌∙◌, sym, ap, refl, eq-eqb}
+use Rattle.std.proofs.Common.{◌≡◌, ℕ, true, false, ◌∙◌, sym, subst, ap, refl, eq-eqb}
 use Rattle.trace_record.specs.Content.{Content}
 use Rattle.stop_history.specs.declared.phase.Phase.TheVariants as phase
 use Rattle.stop_history.specs.Word.{Word}
@@ -7,6 +7,7 @@ use Rattle.stop_table.specs.Entry.{Cell, cell_after, word_of}
 use Rattle.stop_table.specs.Handle.{IsHolding}
 use Rattle.stop_table.specs.Tracer.{is_claimed_by, is_held}
 use Rattle.stop_table.specs.View.{View}
+use Rattle.stop_table.specs.Written.{IsWrittenOver}
 use Rattle.stop_table.proofs.Own.{claim_stays, claim_stays_beside}
 use Rattle.stop_table.proofs.laws.claims_stay_in_hand.Goals as goal
 
@@ -21,7 +22,7 @@ still : (v w : View) (row : ℕ) (word : Word) (content : Content) → w.number 
 still v w row word content number same holding = record {
   is_phase = holding.is_phase ∙ ap phase.Claimed (sym number);
   is_word = holding.is_word ∙ ap (word_of false) (sym same);
-  is_content = holding.is_content ∙ ap (λ (x : Cell). x.content) (sym same);
+  is_content = subst (λ (x : Cell). IsWrittenOver x.content content) (sym same) holding.is_content;
 }
 
 pub returns-clause-looks : goal.returns-clause-looks

@@ -5,6 +5,7 @@ use Rattle.trace_status.specs.WaitStatus.{Encodes}
 use Rattle.trace_record.specs.Stop.{IsStop, stop_status, stop_wait_status}
 use Rattle.trace_record.specs.declared.stop.Stop.{Stop}
 use Rattle.trace_record.specs.declared.stop.Stop.TheVariants.{Start, Enter, Exit, Seccomp, Fork, Clone, Exec, Signal}
+use Rattle.trace_record.specs.declared.stop.Stop.TheVariants.{Ending}
 use Rattle.trace_record.proofs.laws.statuses_are_encoded.Goals as goal
 
 -- each event stop is reported by its event
@@ -17,6 +18,7 @@ stop_is_encoded pid (Fork child) is = (refl, (event.Fork, refl), refl)
 stop_is_encoded pid (Clone child) is = (refl, (event.Clone, refl), refl)
 stop_is_encoded pid (Exec former) is = (refl, (event.Exec, refl), refl)
 stop_is_encoded pid (Signal signal) is = (is, refl)
+stop_is_encoded pid (Ending death) is = (refl, (event.Exit, refl), refl)
 
 pub returns-clause-stops : goal.returns-clause-stops
 returns-clause-stops c = stop_is_encoded

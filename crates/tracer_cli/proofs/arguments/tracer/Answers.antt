@@ -15,7 +15,9 @@ returns c =
     ∙ ap wants_subcommand (ap app_of_fields c.version.ensures ∙ ap has_version named_is) in
     let with_replay = c.in_ok-subcommand.ensures.shape c.in_ok-replay.ensures.own
     ∙ ap₂ with_subcommand above_is (ap (λ (app : App). app.top) c.in_ok-replay.ensures.app) in
-    IfOk-weaker c.subcommand-2.result _ _
-    (λ command h. h.shape c.in_ok-run.ensures.own
-    ∙ ap₂ with_subcommand with_replay (ap (λ (app : App). app.top) c.in_ok-run.ensures.app))
-    c.subcommand-2.ensures
+    let with_run = c.in_ok-subcommand-2.ensures.shape c.in_ok-run.ensures.own
+    ∙ ap₂ with_subcommand with_replay (ap (λ (app : App). app.top) c.in_ok-run.ensures.app) in
+    IfOk-weaker c.subcommand-3.result _ _
+    (λ command h. h.shape c.in_ok-explore.ensures.own
+    ∙ ap₂ with_subcommand with_run (ap (λ (app : App). app.top) c.in_ok-explore.ensures.app))
+    c.subcommand-3.ensures

@@ -13,3 +13,6 @@ returns-in-Err-clause-output g c = (
 
 pub returns-in-Ok-clause-run : goal.returns-in-Ok-clause-run
 returns-in-Ok-clause-run g c = rw c.in-Ok.is (rw c.as_slice.ensures.value at c.program.ensures.run)
+
+pub returns-in-Ok-clause-explore : goal.returns-in-Ok-clause-explore
+returns-in-Ok-clause-explore g c = rw c.in-Ok.is (rw c.as_slice.ensures.value at c.program.ensures.explore)

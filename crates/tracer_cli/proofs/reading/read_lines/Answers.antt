@@ -2,7 +2,7 @@
 use Rattle.std.proofs.Common.{◌∙◌, List, ℕ, ap, arith, length, sym}
 use Rattle.text_lines.specs.Lines.{lines_of}
 use Rattle.trace_script.proofs.LinesRead.{ends, ends_here, goes_on}
-use Rattle.tracer_cli.specs.File.{ReplayContent, content_after, line_read}
+use Rattle.tracer_cli.specs.File.{ReplayContent, replay_content_after, replay_line_read}
 use Rattle.tracer_cli.proofs.reading.read_lines.Goals as goal
 
 pub returns-in-Err-clause-err : goal.returns-in-Err-clause-err
@@ -11,7 +11,8 @@ returns-in-Err-clause-err g c =
     let new : ReplayContent = record { rows = c.take_line.new.rows; orders = c.take_line.new.orders.items } in
     let counted = ap (λ (ls : List (List ℕ)). length ls) c.cut_line.ensures.lines in
     rw (← c.loop-rest.invariant.read, c.cut_line.ensures.lines) (
-    ends_here (λ n. line_read) c.args.text.now c.loop-rest.number so_far new c.cut_line.result.0.now (lines_of c.cut_line.result.1.now)
+    ends_here (λ n. replay_line_read) c.args.text.now c.loop-rest.number so_far new c.cut_line.result.0.now
+    (lines_of c.cut_line.result.1.now)
     c.in-Err.cause
     c.loop-rest.invariant.first (omega (arith, counted, c.loop-rest.invariant.counted)) c.in-Err.ensures.line)
 
@@ -26,13 +27,16 @@ loop-rest-preserved g c =
       first = omega arith;
       range = c.take_line.ensures.range c.loop-rest.invariant.range;
       read = sym
-          (goes_on (λ n. line_read) c.loop-rest.number so_far new c.cut_line.result.0.now (lines_of c.cut_line.result.1.now)
+          (goes_on (λ n. replay_line_read) c.loop-rest.number so_far new c.cut_line.result.0.now
+          (lines_of c.cut_line.result.1.now)
           c.in_default.ensures.line)
-          ∙ ap (content_after c.loop-rest.number so_far) (sym c.cut_line.ensures.lines) ∙ c.loop-rest.invariant.read;
+          ∙ ap (replay_content_after c.loop-rest.number so_far) (sym c.cut_line.ensures.lines)
+          ∙ c.loop-rest.invariant.read;
     }
 
 pub returns-clause-ok : goal.returns-clause-ok
 returns-clause-ok g c =
     sym c.loop-rest.invariant.read
-    ∙ ends (λ n. line_read) c.loop-rest.number (record { rows = c.loop-rest.rows; orders = c.loop-rest.orders.items })
+    ∙ ends (λ n. replay_line_read) c.loop-rest.number
+    (record { rows = c.loop-rest.rows; orders = c.loop-rest.orders.items })
     c.loop-rest.rest.now c.loop-rest-test.ensures

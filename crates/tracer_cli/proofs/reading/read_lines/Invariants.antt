@@ -1,7 +1,7 @@
 -- What was read so far, and the lines that are left, make the content of the file.
 use Rattle.std.proofs.Common.{◌≡◌, ◌+◌, ◌≤◌, All, length}
 use Rattle.tracer_cli.specs.Command.{IsOrder}
-use Rattle.tracer_cli.specs.File.{content_after, nothing}
+use Rattle.tracer_cli.specs.File.{nothing, replay_content_after}
 use Rattle.text_lines.specs.Lines.{lines_of}
 use Rattle.tracer_cli.proofs.reading.read_lines.Given as goal
 
@@ -12,8 +12,8 @@ invariant-loop-rest g l = record {
   counted : l.number + length (lines_of l.rest) ≡ length (lines_of l.text) + 1;
   first : 1 ≤ l.number;
   range : All IsOrder l.orders.items;
-  read : content_after l.number (record { rows = l.rows; orders = l.orders.items })
-      (lines_of l.rest) ≡ content_after 1 nothing (lines_of l.text);
+  read : replay_content_after l.number (record { rows = l.rows; orders = l.orders.items })
+      (lines_of l.rest) ≡ replay_content_after 1 nothing (lines_of l.text);
 }
 
 abbrev pub decreases-loop-rest : goal.decreases-loop-rest

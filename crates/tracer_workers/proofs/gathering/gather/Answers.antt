@@ -6,7 +6,8 @@ use Rattle.stop_history.specs.Roster.{IsRoster}
 use Rattle.stop_table.specs.Entry.{AreLegal}
 use Rattle.stop_table.proofs.Walking.{legal_after}
 use Rattle.tracer_workers.specs.Driven.{AreReaped}
-use Rattle.tracer_workers.specs.Gathering.{GoesOnFrom, HasLooked, HasUnreaped, IsFreeTracee, TakesIn, views_of}
+use Rattle.tracer_workers.specs.Gathering.{GoesOnFrom, HasLookedForUnreaped, HasUnreaped, IsFreeTracee, TakesIn}
+use Rattle.tracer_workers.specs.Gathering.{views_of}
 use Rattle.tracer_workers.specs.declared.run_error.RunError.TheVariants as run_error
 use Rattle.tracer_workers.proofs.AnyOrder.{seen_there, text_there}
 use Rattle.tracer_workers.proofs.Folding.{same_error}
@@ -52,7 +53,8 @@ all_reaped : (g : _) (c : After-are_reaped g) → c.are_reaped.result ≡ true
     → AreReaped c.args.roster.now c.are_reaped.new.tracer.view.seen
 all_reaped g c is =
     subst (λ rows. AreReaped rows c.are_reaped.new.tracer.view.seen) (same_roster g c)
-    (subst (HasLooked c.meet_tracees-tracer.result.view c.are_reaped.new.tracer.view) is c.are_reaped.ensures.looked)
+    (subst (HasLookedForUnreaped c.meet_tracees-tracer.result.view c.are_reaped.new.tracer.view)
+    is c.are_reaped.ensures.looked)
 
 pub meet_tracees-tracer-requires : goal.meet_tracees-tracer-requires
 meet_tracees-tracer-requires g c =
@@ -72,7 +74,7 @@ returns-then-not-are_reaped-clause-lost g c = λ is.
     let t = c.meet_tracees-tracer.result.view in
     let u = c.are_reaped.new.tracer.view in
     let before = (goal.at.returns-then-not-are_reaped-clause-lost g c).After-are_reaped in
-    let left = subst (HasLooked t u) c.if-not-are_reaped.true c.are_reaped.ensures.looked in
+    let left = subst (HasLookedForUnreaped t u) c.if-not-are_reaped.true c.are_reaped.ensures.looked in
     let same = same_roster g before in
     record {
       history = left.0;

@@ -5,7 +5,7 @@ use Rattle.std.proofs.lemmas.Iterator.Consumers.{YieldsList-end, YieldsList-so_f
 use Rattle.std.proofs.lemmas.List.{map-id}
 use Rattle.std.proofs.lemmas.Result.{err_from_is_err_and}
 use Rattle.record_printer.specs.FolderAnswers.{lost, refusal}
-use Rattle.record_printer.specs.Represents.{AreTaken, Represents as HasCome}
+use Rattle.record_printer.specs.Represents.{AreTaken, Represents}
 use Rattle.tracer_workers.specs.Gathering.{AreWhole}
 use Rattle.tracer_workers.specs.declared.run_error.RunError.TheVariants as run_error
 use Rattle.tracer_workers.proofs.Folding.{never_threads, none_lost, none_refused, not_memory, reverse_push, same_error}
@@ -15,7 +15,7 @@ use Rattle.tracer_workers.proofs.gathering.join_pieces.Goals as goal
 pub loop-piece-preserved : goal.loop-piece-preserved
 loop-piece-preserved g c = record {
   rows = c.add.ensures.rows ∙ c.loop-piece.invariant.rows;
-  came = subst (HasCome c.add.new.self) (sym (reverse_push c.loop-piece.yielded c.in-Some.piece))
+  came = subst (Represents c.add.new.self) (sym (reverse_push c.loop-piece.yielded c.in-Some.piece))
       (c.in_ok-add.ensures.ok (reverse c.loop-piece.yielded) c.loop-piece.invariant.came);
 }
 

@@ -7,7 +7,7 @@ use Rattle.stop_table.specs.Entry.{AreLegal}
 use Rattle.stop_table.specs.Opening.{AreTracees, AreTracers}
 use Rattle.tracer_workers.specs.Config.{plan_of, show_of}
 use Rattle.tracer_workers.specs.Driven.{AreReaped}
-use Rattle.tracer_workers.specs.Gathering.{AreSeen, GoesOnFrom, IsFreeTracee, IsFreeTracer, IsLost, views_of}
+use Rattle.tracer_workers.specs.Gathering.{AreSeen, GoesOnFrom, HasLostStop, IsFreeTracee, IsFreeTracer, views_of}
 use Rattle.tracer_workers.specs.CaseText.{history_text}
 use Rattle.tracer_workers.specs.Printing.{printed_lines}
 use Rattle.tracer_workers.specs.declared.run_error.RunError.TheVariants as run_error
@@ -144,7 +144,7 @@ returns-in_err-_tracer-clause-kept g c =
     first (sym c.in-Ok.ends.tracees.ok.0 ∙ ok.1 ∙ ap length c.roster-roster.ensures.rows) second many c.in_ok-spare.ensures.all
     c.in_ok-scripted.ensures c.in_ok-back.ensures.tracees c.in_ok-back.ensures.workers c.in_ok-pieces.ensures.tracers
     c.roster-roster.ensures.case.roster c.in_ok-pieces.ensures.whole some
-    (subst (λ rows. IsLost rows views (flat_map (λ (s : Served g.row.A.Denot). s.worked.pieces.items)
+    (subst (λ rows. HasLostStop rows views (flat_map (λ (s : Served g.row.A.Denot). s.worked.pieces.items)
     c.in_ok-back.back.served.items)) c.roster-roster.ensures.rows
-    (subst (IsLost c.roster-roster.result.now views) c.in_ok-pieces.ensures.pieces
+    (subst (HasLostStop c.roster-roster.result.now views) c.in_ok-pieces.ensures.pieces
     (c.in_err-_tracer.ensures.lost (ap Err (sym told.2 ∙ is))))))

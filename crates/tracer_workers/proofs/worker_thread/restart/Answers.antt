@@ -12,6 +12,6 @@ unreachable-requires-in_default-restart_row g c =
     let a = c.args.calls.now in
     let how = c.policy-how.ensures ∙ ap (policy_of c.args.config.now) s.1 in
     not_refused a c.restart_row.new.self c.args.row c.policy-how.result c.in_default-restart_row.field-0 s.0
-    (subst IsResume (sym how) (restart_ranged c.args.config.now a c.of_calls.ensures c.args.row))
+    (subst IsResume (sym how) (restart_ranged c.args.config.now a c.of_calls.ensures.handle c.of_calls.ensures.records c.args.row s.0))
     (subst (IsRowRestart a c.restart_row.new.self c.args.row c.policy-how.result) c.in_default-restart_row.is
     c.restart_row.ensures.answer)

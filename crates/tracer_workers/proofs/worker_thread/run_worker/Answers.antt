@@ -4,7 +4,7 @@ use Rattle.record_printer.specs.Piece.{Piece}
 use Rattle.tracer_workers.specs.Config.{show_of}
 use Rattle.tracer_workers.specs.WorkerThread.{HasServed, own_pieces}
 use Rattle.tracer_workers.proofs.WorkerThreads.{few, holds, no_child, served_death, served_look, served_none, served_stop}
-use Rattle.tracer_workers.proofs.WorkerThreads.{tracer_on, waited}
+use Rattle.tracer_workers.proofs.WorkerThreads.{recorded, tracer_on, waited}
 use Rattle.tracer_workers.proofs.worker_thread.run_worker.Goals as goal
 
 pub loop-init : goal.loop-init
@@ -12,7 +12,7 @@ loop-init g c =
     let v = c.args.calls.now.view in (
       tt,
       tt,
-      c.of_calls.ensures,
+      c.of_calls.ensures.handle,
       refl,
       subst (λ (kept : List Piece). HasServed c.args.config.now v v kept false) (sym c.new.ensures.items)
           (served_none c.args.config.now v c.requires),
@@ -82,13 +82,23 @@ keep_stop-requires g c =
     holds c.loop.calls.view c.wait_row_blocking.new.self c.in-Some-waited.found i.2.mine i.2.placed i.4.free some
     c.in-None-death_of.ensures
 
-pub restart-requires : goal.restart-requires
-restart-requires g c =
+pub restart-requires-clause-row : goal.restart-requires-clause-row
+restart-requires-clause-row g c =
     let i = c.loop.invariant in
     let some = waited c.loop.calls c.wait_row_blocking.new.self c.wait_row_blocking.result c.in-Ok.waited
     c.in-Some-waited.found c.in-Ok.is c.in-Some-waited.is c.wait_row_blocking.ensures.answer in
     holds c.loop.calls.view c.wait_row_blocking.new.self c.in-Some-waited.found i.2.mine i.2.placed i.4.free some
     c.in-None-death_of.ensures
+
+pub restart-requires-clause-record : goal.restart-requires-clause-record
+restart-requires-clause-record g c =
+    let i = c.loop.invariant in
+    let some = waited c.loop.calls c.wait_row_blocking.new.self c.wait_row_blocking.result c.in-Ok.waited
+    c.in-Some-waited.found c.in-Ok.is c.in-Some-waited.is c.wait_row_blocking.ensures.answer in
+    let has = holds c.loop.calls.view c.wait_row_blocking.new.self c.in-Some-waited.found i.2.mine i.2.placed i.4.free some
+    c.in-None-death_of.ensures in
+    recorded c.loop.calls c.wait_row_blocking.new.self c.wait_row_blocking.result c.in-Ok.waited c.in-Some-waited.found
+    c.in-Ok.is c.in-Some-waited.is c.wait_row_blocking.ensures.answer has c.of_calls-in-None-death_of.ensures.records
 
 pub loop-preserved : goal.loop-preserved
 loop-preserved g c =
@@ -100,7 +110,10 @@ loop-preserved g c =
     let b = c.wait_row_blocking.new.self in
     let show = show_of c.args.config.now in
     let kept = c.keep_stop.ensures (own_pieces show u) (own_pieces show v) i.4.pieces in
-    let made = c.restart.ensures.restarts in (
+    let made = c.restart.ensures.restarts in
+    let has = holds v b c.in-Some-waited.found i.2.mine i.2.placed i.4.free some c.in-None-death_of.ensures in
+    let stands = recorded c.loop.calls b c.wait_row_blocking.result c.in-Ok.waited c.in-Some-waited.found c.in-Ok.is
+    c.in-Some-waited.is c.wait_row_blocking.ensures.answer has c.of_calls-in-None-death_of.ensures.records in (
       tt,
       tt,
       tracer_on b c.restart.new.calls (tracer_on c.loop.calls b i.2 some.claimed.1.same some.claimed.1.legal) made.2.same
@@ -108,5 +121,5 @@ loop-preserved g c =
       c.restart.ensures.table ∙ c.wait_row_blocking.ensures.table ∙ i.3,
       served_stop v b c.in-Some-waited.found i.2.mine i.2.placed i.4.free some c.args.config.now u
           c.loop.worked.pieces.items c.keep_stop.new.self.pieces.items c.loop.worked.short c.keep_stop.new.self.short i.4
-          c.in-None-death_of.ensures c.restart.new.calls.view made kept,
+          c.in-None-death_of.ensures stands c.restart.new.calls.view made kept,
     )

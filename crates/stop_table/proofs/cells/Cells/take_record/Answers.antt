@@ -2,12 +2,12 @@
 use Rattle.std.proofs.Common.{◌≡◌, ◌∙◌, ◌∷◌, None, Some, ap, arith, length, refl, sym}
 use Rattle.atomic_table.specs.Table.{rest}
 use Rattle.stop_history.specs.Change.{restart_in}
-use Rattle.stop_history.specs.Change.{taken_up as taken_up_word}
+use Rattle.stop_history.specs.Change.{taken_up}
 use Rattle.stop_history.specs.Layout.{raw_of}
 use Rattle.stop_history.specs.Word.{Word}
 use Rattle.stop_table.specs.Entry.{cell_after}
 use Rattle.stop_table.specs.Place.{place}
-use Rattle.stop_table.specs.Steps.{took}
+use Rattle.stop_table.specs.Steps.{takes_up}
 use Rattle.stop_table.proofs.Allowed.{slot_is}
 use Rattle.stop_table.proofs.Exchanges.{take_up_allowed}
 use Rattle.stop_table.proofs.Telling.{at_hand, in_place, key_step, took_up}
@@ -21,12 +21,13 @@ compare_exchange-requires g c =
     let at = c.place-at.ensures in (
       r.seat.0.0,
       omega arith,
-      key_step took c.args.self.now.table.shared.key _ _ _ (place c.args.row) _ _ c.args.seat.now.me c.args.seat.now.me refl
+      key_step takes_up c.args.self.now.table.shared.key _ _ _ (place c.args.row) _ _ c.args.seat.now.me
+          c.args.seat.now.me refl
           r.seat.0.1 at
           (take_up_allowed c.args.seat.now.me _ _ c.args.row _ _ r.seen.1.0 r.seat.1 r.tracee.0 r.tracee.1 r.tracee.2
           (ap (λ (w : Word). restart_in w.phase) (sym r.seen.0) ∙ r.seen.1.1)
           (c.seen.invariant.0 ∙ ap raw_of (c.seen.view_is ∙ r.seen.0))
-          (c.pack-new.ensures.bits ∙ ap raw_of (c.taken_up.ensures ∙ ap taken_up_word (c.seen.view_is ∙ r.seen.0)))),
+          (c.pack-new.ensures.bits ∙ ap raw_of (c.taken_up.ensures ∙ ap taken_up (c.seen.view_is ∙ r.seen.0)))),
     )
 
 pub exchange-requires : goal.exchange-requires

@@ -3,11 +3,11 @@ use Rattle.std.proofs.Common.{◌≡◌, ◌∙◌, ◌∷◌, None, Some, ap, a
 use mathlib.Core.Option.{none}
 use Rattle.atomic_table.specs.Table.{rest, step}
 use Rattle.stop_history.specs.Layout.{raw_of}
-use Rattle.stop_history.specs.Step.{claimed as claimed_word}
+use Rattle.stop_history.specs.Step.{claimed}
 use Rattle.stop_table.specs.Entry.{cell_after}
 use Rattle.stop_history.specs.Word.{IsWord}
 use Rattle.stop_table.specs.Place.{place}
-use Rattle.stop_table.specs.Steps.{claimed}
+use Rattle.stop_table.specs.Steps.{claims_stop}
 use Rattle.stop_table.proofs.Allowed.{slot_is}
 use Rattle.stop_table.proofs.Exchanges.{claim_allowed}
 use Rattle.stop_table.proofs.Telling.{at_hand, in_place, key_step, other_word, saw, shows_word, took_out}
@@ -21,12 +21,13 @@ compare_exchange-found-requires g c =
     let at = c.place-at.ensures in (
       r.seat.0.0,
       omega arith,
-      key_step claimed c.args.self.now.table.shared.key _ _ _ (place c.args.row) _ _ c.args.seat.now.me c.args.seat.now.me refl
+      key_step claims_stop c.args.self.now.table.shared.key _ _ _ (place c.args.row) _ _ c.args.seat.now.me
+          c.args.seat.now.me refl
           r.seat.0.1 at
           (claim_allowed c.args.seat.now.me _ _ c.args.row _ _ r.seen.0 c.args.seen r.seat.1 r.tracer.1
           (omega (arith, r.tracer.0, r.tracer.2)) (subst IsWord c.seen.view_is c.seen.invariant.1) r.seen.1 (c.seen.invariant.0 ∙ ap raw_of c.seen.view_is)
-          (c.pack-new.ensures.bits ∙ ap raw_of (c.claimed.ensures ∙ ap (λ w. claimed_word w c.args.tracer) c.seen.view_is
-          ∙ ap (claimed_word c.args.seen) (sym r.tracer.0)))),
+          (c.pack-new.ensures.bits ∙ ap raw_of (c.claimed.ensures ∙ ap (λ w. claimed w c.args.tracer) c.seen.view_is
+          ∙ ap (claimed c.args.seen) (sym r.tracer.0)))),
     )
 
 pub unpack_known-requires : goal.unpack_known-requires

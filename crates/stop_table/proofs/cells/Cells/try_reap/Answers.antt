@@ -3,7 +3,7 @@ use Rattle.std.proofs.Common.{◌∙◌, ap, arith, length, refl, subst, sym}
 use mathlib.Core.Option.{none}
 use Rattle.atomic_table.specs.Table.{step}
 use Rattle.stop_history.specs.Layout.{raw_of}
-use Rattle.stop_history.specs.Step.{claimed as claimed_word}
+use Rattle.stop_history.specs.Step.{claimed}
 use Rattle.stop_history.specs.Word.{IsWord}
 use Rattle.stop_table.specs.Place.{place}
 use Rattle.stop_table.specs.Steps.{reaped}
@@ -23,8 +23,8 @@ compare_exchange-found-requires g c =
           r.seat.0.1 at
           (reap_allowed c.args.seat.now.me _ _ c.args.row _ _ r.seen.0 c.args.seen r.seat.1 r.tracer.1
           (omega (arith, r.tracer.0, r.tracer.2)) (subst IsWord c.seen.view_is c.seen.invariant.1) r.seen.1 (c.seen.invariant.0 ∙ ap raw_of c.seen.view_is)
-          (c.pack-new.ensures.bits ∙ ap raw_of (c.claimed.ensures ∙ ap (λ w. claimed_word w c.args.tracer) c.seen.view_is
-          ∙ ap (claimed_word c.args.seen) (sym r.tracer.0)))),
+          (c.pack-new.ensures.bits ∙ ap raw_of (c.claimed.ensures ∙ ap (λ w. claimed w c.args.tracer) c.seen.view_is
+          ∙ ap (claimed c.args.seen) (sym r.tracer.0)))),
     )
 
 pub unpack_known-requires : goal.unpack_known-requires

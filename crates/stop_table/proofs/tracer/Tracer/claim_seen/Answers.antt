@@ -4,7 +4,7 @@ use Rattle.std.specs.Arc.{arc_value}
 use Rattle.stop_history.specs.declared.phase.Phase.TheVariants as phase
 use Rattle.stop_history.specs.Event as event
 use Rattle.stop_history.specs.State.{is_born}
-use Rattle.stop_history.specs.Step.{claimed as claimed_word}
+use Rattle.stop_history.specs.Step.{claimed}
 use Rattle.stop_history.specs.Word.{Word}
 use Rattle.stop_table.specs.Entry.{AreLegal, bare, cell_after, history_of, word_of}
 use Rattle.stop_table.specs.declared.shown.Shown.TheVariants as shows
@@ -61,7 +61,7 @@ returns-in-Ok-clause-taken g c =
     c.in-Ok.ensures.claimed c.requires.word.1.1 in (
       subst (λ (h : TracerHandle). Claims h.view c.try_claim.new.seat.me.0 c.args.row c.in-Ok.stop) c.self.view_is did.0,
       subst (λ w. IsHolding c.try_claim.new.seat.me.0 c.args.row w c.in-Ok.stop)
-          (ap (claimed_word c.args.seen) (sym number) ∙ ap (λ w. claimed_word w x.number) (sym c.seen.view_is)
+          (ap (claimed c.args.seen) (sym number) ∙ ap (λ w. claimed w x.number) (sym c.seen.view_is)
           ∙ sym c.claimed.ensures) did.1,
       refl,
       number ∙ ap (λ (h : TracerHandle). h.view.number) c.self.view_is,

@@ -1,8 +1,7 @@
 -- A tracer resumes a row that it has claimed.
 use Rattle.std.proofs.Common.{◌∙◌, ap, drop, subst, sym}
 use Rattle.std.specs.Arc.{arc_value}
-use Rattle.stop_history.specs.Event as event
-use Rattle.stop_table.specs.Entry.{bare}
+use Rattle.stop_table.specs.Entry.{resume_of}
 use Rattle.stop_table.specs.Handle.{EndsWith, IsHolding}
 use Rattle.stop_table.specs.Tracer.{IsTracer, TracerHandle}
 use Rattle.stop_table.specs.View.{View}
@@ -45,7 +44,7 @@ invariant_of-self g c =
     let others = c.bring.ensures.front.0 in
     let front = subst (IsTracer key c.bring.new.seat.me x.number) c.bring.ensures.front.1 turned in
     let last = let_go key c.bring.new.seat.me c.let_run.new.seat.me x.number c.args.claim.row c.args.claim.word.number
-    c.args.how others front c.let_run.ensures.1 in (
+    c.args.how c.args.claim.stop others front c.let_run.ensures.1 in (
       c.let_run.ensures.0.0 ∙ c.bring.ensures.seat.0 ∙ c.self.invariant.0,
       subst (IsTracer key c.let_run.new.seat.me x.number)
           (sym (c.take_first.ensures ∙ ap (drop 1) c.bring.ensures.front.1)) last,
@@ -63,9 +62,10 @@ returns-clause-made g c =
     let run = c.let_run.ensures.1 in
     let number = c.args.claim.word.number in
     let row = c.args.claim.row in
-    let x' = bare (event.Resume row number c.args.how c.bring.new.seat.me.0.number) in (
+    let stop = c.args.claim.stop in
+    let x' = resume_of row number c.args.how c.bring.new.seat.me.0.number stop in (
       run.1,
-      subst (λ (v : View). EndsWith v c.let_run.new.seat.me.0 run.1 (bare (event.Resume row number c.args.how v.number)))
+      subst (λ (v : View). EndsWith v c.let_run.new.seat.me.0 run.1 (resume_of row number c.args.how v.number stop))
           (c.bring.ensures.seat.2 ∙ ap (λ (h : TracerHandle). h.view) c.self.view_is)
           (ended_with c.bring.new.seat.me.0 c.let_run.new.seat.me.0 run.1 x' c.bring.new.seat.me.0.taken run.2),
     )

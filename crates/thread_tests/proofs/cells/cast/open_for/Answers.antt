@@ -3,7 +3,7 @@ use Rattle.std.proofs.Common.{◌≡◌, ◌∷◌, ◌++◌, [], length, ◌∙
 use Rattle.std.specs.List.{slice_get}
 use Rattle.stop_table.specs.Opening.{new_tracee, new_tracer}
 use Rattle.stop_table.specs.Tracer.{TracerHandle}
-use Rattle.thread_tests.proofs.Handles.{at_end, in_front}
+use Rattle.refusing_allocator.proofs.Lists.{at_end, in_front}
 use Rattle.thread_tests.proofs.cells.cast.open_for.Goals as goal
 
 pub invariant_of-result : goal.invariant_of-result

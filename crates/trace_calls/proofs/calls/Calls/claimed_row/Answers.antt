@@ -1,6 +1,6 @@
 -- The claim at the place of a row says whether the caller has claimed it, and has its record.
 use Rattle.std.proofs.Common.{◌∙◌, ◌<◌, length, arith}
-use Rattle.trace_calls.proofs.Keeping.{has_claimed, in_roster, not_claimed, was_published}
+use Rattle.trace_calls.proofs.Keeping.{has_claimed, in_roster, is_recorded, not_claimed}
 use Rattle.trace_calls.proofs.calls.Calls.claimed_row.Goals as goal
 
 pub returns-in-None-clause-none : goal.returns-in-None-clause-none
@@ -19,6 +19,6 @@ returns-in-Some-clause-some g c =
       has_claimed a x.tracer x.roster x.held.items x.counts.items c.self.view_is c.self.invariant c.args.row
           c.index.result.now within c.index.ensures c.in-Some.claim c.in-Some.is,
       c.record.ensures
-          ∙ was_published a x.tracer x.roster x.held.items x.counts.items c.self.view_is c.self.invariant c.args.row
+          ∙ is_recorded a x.tracer x.roster x.held.items x.counts.items c.self.view_is c.self.invariant c.args.row
           c.index.result.now within c.index.ensures c.in-Some.claim c.in-Some.is,
     )

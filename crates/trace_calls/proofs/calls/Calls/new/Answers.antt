@@ -1,8 +1,8 @@
 -- A new caller keeps nothing, and counts 0 of each row.
-use Rattle.std.proofs.Common.{◌≡◌, ◌∙◌, ap, length, replicate, subst, sym}
+use Rattle.std.proofs.Common.{◌≡◌, ◌∙◌, None, ap, length, replicate, subst, sym}
 use Rattle.std.proofs.lemmas.List.{length-replicate}
-use Rattle.trace_calls.specs.Handle.{KeepsClaims, handle_of}
-use Rattle.trace_calls.proofs.Keeping.{nothing_yet}
+use Rattle.trace_calls.specs.Handle.{KeepsClaims, handle_of, records_of}
+use Rattle.trace_calls.proofs.Keeping.{no_records, nothing_yet}
 use Rattle.trace_calls.proofs.calls.Calls.new.Goals as goal
 
 pub invariant_of-result : goal.invariant_of-result
@@ -26,4 +26,7 @@ pub returns : goal.returns
 returns g c =
     let items : c.in-Ok-vec.counts.items ≡ replicate (length c.args.roster.now) 0 =
     c.in-Ok-vec.ensures.items_if_clones_equal (λ y same. same) ∙ ap (λ n. replicate n 0) c.len-count.ensures in
-    ap (handle_of c.args.tracer) items
+    let held : records_of c.in-Ok-nothing_held.held.items ≡ replicate (length c.args.roster.now) None =
+    ap records_of (c.in-Ok-nothing_held.ensures ∙ ap (λ n. replicate n None) c.len-count.ensures)
+    ∙ no_records _ (length c.args.roster.now) in
+    λ i. handle_of c.args.tracer (items i) (held i)

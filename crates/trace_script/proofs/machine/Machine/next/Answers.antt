@@ -6,7 +6,7 @@ use Rattle.trace_script.specs.Left.{left_in}
 use Rattle.trace_script.specs.StopNumbers.{IsWithin}
 use Rattle.trace_script.specs.StopTrace.{advance, context_of, position}
 use Rattle.trace_script.proofs.Steps.{left_first, written_back}
-use Rattle.trace_script.proofs.StopNumbers.{loaded_within, stopped_within}
+use Rattle.trace_script.proofs.StopNumbers.{exiting_within, loaded_within, stopped_within}
 use Rattle.trace_script.proofs.machine.Machine.next.Goals as goal
 
 pub invariant_of-self : goal.invariant_of-self
@@ -31,11 +31,29 @@ invariant_of-self-in-Stopped g c =
     (context_of c.args.held.now)) (sym c.as_slice.ensures.value)
     ∙ ap (λ steps. advance s c.args.how (left_in s seen (drop c.in-Going.index steps) c.in-Going.place)
     (context_of c.args.held.now)) (sym c.as_mut_slice.ensures.value) ∙ c.go_on.ensures.outcome
-    ∙ ap (λ b. reached s c.go_on.result b c.go_on.new.steps c.go_on.new.held.stop (context_of c.go_on.new.held))
-    c.as_slice.ensures.value
-    ∙ ap (λ came. reached s came filled c.go_on.new.steps c.go_on.new.held.stop (context_of c.go_on.new.held))
-    c.in-Stopped.is)
+    ∙ ap (λ b. reached s c.args.how c.go_on.result b c.go_on.new.steps c.go_on.new.held.stop
+    (context_of c.go_on.new.held)) c.as_slice.ensures.value
+    ∙ ap (λ came. reached s c.args.how came filled c.go_on.new.steps c.go_on.new.held.stop
+    (context_of c.go_on.new.held)) c.in-Stopped.is)
     c.self.invariant)
+
+pub invariant_of-self-in-AtExit : goal.invariant_of-self-in-AtExit
+invariant_of-self-in-AtExit g c =
+    let s = c.self.inside.setting in
+    let filled = c.self.inside.filled.items in
+    let seen = c.as_slice.result.now in
+    exiting_within s c.args.how c.self.inside.progress c.self.inside.image filled c.self.inside.steps.items
+    c.self.inside.number c.in-Going.index c.in-Going.place c.in-AtExit.death (context_of c.args.held.now)
+    (context_of c.go_on.new.held) c.in-Going.is
+    (ap (λ b. advance s c.args.how (left_in s b (drop c.in-Going.index c.self.inside.steps.items) c.in-Going.place)
+    (context_of c.args.held.now)) (sym c.as_slice.ensures.value)
+    ∙ ap (λ steps. advance s c.args.how (left_in s seen (drop c.in-Going.index steps) c.in-Going.place)
+    (context_of c.args.held.now)) (sym c.as_mut_slice.ensures.value) ∙ c.go_on.ensures.outcome
+    ∙ ap (λ b. reached s c.args.how c.go_on.result b c.go_on.new.steps c.go_on.new.held.stop
+    (context_of c.go_on.new.held)) c.as_slice.ensures.value
+    ∙ ap (λ came. reached s c.args.how came filled c.go_on.new.steps c.go_on.new.held.stop
+    (context_of c.go_on.new.held)) c.in-AtExit.is)
+    (sym c.has_option.ensures ∙ c.if-not-has_option.false) c.self.invariant
 
 pub returns-in-New-clause-position : goal.returns-in-New-clause-position
 returns-in-New-clause-position g c =

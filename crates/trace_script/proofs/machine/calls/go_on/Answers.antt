@@ -21,5 +21,5 @@ returns-clause-fault g c = λ address faulted.
     (left_in walk.setting.now walk.filled.now (drop c.args.index c.args.steps.now) c.args.place)
     (context_of c.args.held.now) address (rw (← c.held.view_is) (sym c.fault_ahead.ensures ∙ c.in_default.is))
     (c.run_steps.ensures.reached
-    ∙ ap (λ came. reached walk.setting.now came walk.filled.now c.run_steps.new.steps c.run_steps.new.held.stop
-    (context_of c.run_steps.new.held)) faulted))
+    ∙ ap (λ came. reached walk.setting.now walk.how came walk.filled.now c.run_steps.new.steps
+    c.run_steps.new.held.stop (context_of c.run_steps.new.held)) faulted))

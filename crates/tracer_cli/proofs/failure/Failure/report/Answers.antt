@@ -43,3 +43,9 @@ returns-in-NoThreads-clause-ok g c = rw c.in-NoThreads.is c.write_part-in-NoThre
 
 pub returns-in-NoThreads-clause-cut_off : goal.returns-in-NoThreads-clause-cut_off
 returns-in-NoThreads-clause-cut_off g c = rw c.in-NoThreads.is c.write_part-in-NoThreads.ensures.cut_off
+
+pub returns-in-TooManyPlaces-clause-ok : goal.returns-in-TooManyPlaces-clause-ok
+returns-in-TooManyPlaces-clause-ok g c = rw c.in-TooManyPlaces.is c.write_part-in-TooManyPlaces.ensures.ok
+
+pub returns-in-TooManyPlaces-clause-cut_off : goal.returns-in-TooManyPlaces-clause-cut_off
+returns-in-TooManyPlaces-clause-cut_off g c = rw c.in-TooManyPlaces.is c.write_part-in-TooManyPlaces.ensures.cut_off

@@ -10,9 +10,9 @@ returns-in-Err g c =
     c.idle.result.worked.short (ap (λ e. e.table_id) is) (ap (λ e. e.view) is) c.requires.idle c.idle.ensures.1
     c.idle.ensures.2
 
-pub returns-then-not-is_go : goal.returns-then-not-is_go
-returns-then-not-is_go g c =
-    let left = c.idle-then-not-is_go in
+pub returns-then-not-wait_for_go : goal.returns-then-not-wait_for_go
+returns-then-not-wait_for_go g c =
+    let left = c.idle-then-not-wait_for_go in
     idle_worked c.args.shared.now.config.now c.args.tracer left.result.tracer left.result.worked.pieces.items left.result.worked.short
     (ap (λ e. e.table_id) left.ensures.0 ∙ c.spend.ensures.0 ∙ ap (λ a. a.table_id) c.in-Ok.ensures)
     (ap (λ e. e.view) left.ensures.0 ∙ c.spend.ensures.1 ∙ ap (λ a. a.view) c.in-Ok.ensures) c.requires.idle left.ensures.1

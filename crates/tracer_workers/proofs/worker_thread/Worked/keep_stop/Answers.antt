@@ -9,4 +9,4 @@ pub piece_of-requires : goal.piece_of-requires
 piece_of-requires g c =
     let s = c.in-Some.ensures.some in
     subst (λ (x : Content). x.number ≤ LAST_NUMBER) (sym s.1)
-    (claimed_few c.args.calls.now c.of_calls.ensures c.args.row s.0)
+    (claimed_few c.args.calls.now c.of_calls.ensures.handle c.of_calls.ensures.records c.args.row s.0)

@@ -3,7 +3,7 @@ use Rattle.std.proofs.Common.{◌≡◌, ◌∙◌, ap, length, sym}
 use Rattle.std.specs.List.{slice_get}
 use Rattle.stop_table.specs.Opening.{new_tracer}
 use Rattle.stop_table.specs.Tracer.{TracerHandle}
-use Rattle.thread_tests.proofs.Handles.{at_end}
+use Rattle.refusing_allocator.proofs.Lists.{at_end}
 use Rattle.thread_tests.proofs.cells.cast.Cast.desk.Goals as goal
 
 pub invariant_of-result : goal.invariant_of-result

@@ -6,7 +6,7 @@ use Rattle.stop_history.specs.History.{births_in}
 use Rattle.stop_table.specs.Entry.{history_of}
 use Rattle.stop_table.specs.Opening.{new_tracee}
 use Rattle.stop_table.specs.Tracee.{TraceeHandle}
-use Rattle.thread_tests.proofs.Handles.{at_end, in_front}
+use Rattle.refusing_allocator.proofs.Lists.{at_end, in_front}
 use Rattle.thread_tests.proofs.cells.cast.Cast.tracee.Goals as goal
 
 pub invariant_of-self : goal.invariant_of-self

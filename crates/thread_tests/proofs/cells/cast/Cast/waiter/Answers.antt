@@ -4,7 +4,7 @@ use Rattle.std.specs.List.{filter, range_with_len, slice_get}
 use Rattle.stop_history.specs.declared.roster.Row.{Row}
 use Rattle.stop_table.specs.Opening.{new_tracer, new_view}
 use Rattle.stop_table.specs.Tracer.{TracerHandle, held_rows, is_held}
-use Rattle.thread_tests.proofs.Handles.{at_end}
+use Rattle.refusing_allocator.proofs.Lists.{at_end}
 use Rattle.thread_tests.proofs.cells.cast.Cast.waiter.Goals as goal
 
 -- no row is claimed by a tracer before any step

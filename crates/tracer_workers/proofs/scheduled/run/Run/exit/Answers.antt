@@ -3,7 +3,7 @@ use Rattle.std.proofs.Common.{◌≡◌, ◌≤◌, ◌∷◌, None, refl, sym, 
 use Rattle.std.proofs.lemmas.Bool.{cases_Bool}
 use Rattle.record_printer.specs.FolderAnswers.{refusal}
 use Rattle.record_printer.specs.Piece.{Died}
-use Rattle.record_printer.specs.Represents.{Folded, Represents as HasCome}
+use Rattle.record_printer.specs.Represents.{Folded, Represents}
 use Rattle.stop_board.specs.World.{Contents}
 use Rattle.stop_history.specs.declared.limits.TheConstants.{LAST_NUMBER}
 use Rattle.stop_table.specs.Entry.{history_of}
@@ -63,7 +63,7 @@ returns-clause-turned g c =
           let piece = c.in_ok-ended.ensures.came came can.folder ends in
           subst (HasTurned content old new h c.args.row) (sym ends)
           (end_moves content old new h c.args.row c.args.death s refl over.0 over.1 c.end_row.ensures.rows.0
-          (subst (λ (k : KeptRow). HasCome c.end_row.new.folder (Died k.tid k.number c.args.death ∷ came)) is piece)
+          (subst (λ (k : KeptRow). Represents c.end_row.new.folder (Died k.tid k.number c.args.death ∷ came)) is piece)
           c.end_row.ensures.rows.1 refl))
       | inr stays ↦
           (let held = c.in_ok-ended.ensures.held (history_of h) can.world stays in

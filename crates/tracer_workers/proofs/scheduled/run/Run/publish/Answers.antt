@@ -2,7 +2,7 @@
 use Rattle.std.proofs.Common.{◌≡◌, ◌≤◌, ◌+◌, ◌∷◌, ◌∙◌, Ok, None, refl, sym, ap, subst, slice_set}
 use Rattle.record_printer.specs.FolderAnswers.{refusal}
 use Rattle.record_printer.specs.Piece.{Piece}
-use Rattle.record_printer.specs.Represents.{Represents as HasCome}
+use Rattle.record_printer.specs.Represents.{Represents}
 use Rattle.tracer_workers.specs.Scheduled.{CameTo}
 use Rattle.stop_history.specs.Event as event
 use Rattle.stop_history.specs.Sequential.{publish_answer}
@@ -73,7 +73,7 @@ returns-clause-moved g c =
     (subst (λ (k : KeptRow). CameTo c.publish_stop.new.world
     (event.Publish c.args.row number k.content.stop ∷ history_of h)) is made.0)
     c.in_ok-publish_stop.ensures.rows.0
-    (subst (λ (p : Piece). HasCome c.publish_stop.new.folder
+    (subst (λ (p : Piece). Represents c.publish_stop.new.folder
     (p ∷ pieces_of (show_of c.self.inside.config) content.rows h))
     (c.in_ok-piece.ensures ∙ (λ i. stop_piece (c.self.invariant i) (is i).content)) came)
     c.in_ok-publish_stop.ensures.rows.1

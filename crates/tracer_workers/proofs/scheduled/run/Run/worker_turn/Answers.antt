@@ -5,7 +5,7 @@ use Rattle.stop_history.specs.declared.actor.Actor.TheVariants.{Tracer}
 use Rattle.stop_history.specs.State.{is_waitable, state_after}
 use Rattle.stop_table.specs.Entry.{history_of}
 use Rattle.tracer_workers.specs.Scheduled.{RunState}
-use Rattle.tracer_workers.specs.Turn.{HasClaimed}
+use Rattle.tracer_workers.specs.Turn.{HasServedRow}
 use Rattle.tracer_workers.proofs.Rounds.{moved_by_from}
 use Rattle.tracer_workers.proofs.scheduled.run.Run.worker_turn.Goals as goal
 
@@ -36,7 +36,8 @@ returns-then-claim-clause-worked g c content h stands =
     let claimed = c.claim.ensures.claimed content h now.0
     (omega (arith, c.loop-row-test.true, c.len-row-end.ensures, view, long)) in
     moved_by_from (Tracer c.args.tracer) content c.args.self.now c.loop-row.self c.claim.new.self h now.1
-    (subst (HasClaimed content c.loop-row.self c.claim.new.self h c.loop-row.row c.args.tracer) c.if-claim.true claimed)
+    (subst (HasServedRow content c.loop-row.self c.claim.new.self h c.loop-row.row c.args.tracer)
+    c.if-claim.true claimed)
 
 pub returns-then-claim-clause-config : goal.returns-then-claim-clause-config
 returns-then-claim-clause-config g c = c.claim.ensures.config ∙ c.loop-row.invariant.config
@@ -48,8 +49,8 @@ loop-row-preserved g c = record {
       let view = ap (λ (r : RunState). length r.rows) c.self.view_is in
       let long = stands.0.long in
       let now = c.loop-row.invariant.quiet content h stands in
-      let claimed : HasClaimed content c.loop-row.self c.claim.new.self h c.loop-row.row c.args.tracer false =
-      subst (HasClaimed content c.loop-row.self c.claim.new.self h c.loop-row.row c.args.tracer) c.if-claim.false
+      let claimed : HasServedRow content c.loop-row.self c.claim.new.self h c.loop-row.row c.args.tracer false =
+      subst (HasServedRow content c.loop-row.self c.claim.new.self h c.loop-row.row c.args.tracer) c.if-claim.false
       (c.claim.ensures.claimed content h now.0
       (omega (arith, c.loop-row-test.true, c.len-row-end.ensures, view, long))) in (
         claimed.0,

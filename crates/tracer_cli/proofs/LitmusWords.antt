@@ -1,0 +1,171 @@
+-- No line of a litmus file has more than ten words, so the first eleven of them say all.
+use Rattle.std.proofs.Common.{refl, ◌≡◌, ◌+◌, ◌<◌, ◌≤◌, ◌&&◌, ◌∷◌, [], ℕ, Bool, true, false, List, length, take, drop}
+use Rattle.std.proofs.Common.{Option, Some, None, Result, Ok, Err, cond, arith, eqb, nat_le, ap, sym, ◌∙◌, length-take}
+use Rattle.std.proofs.Common.{if◌then◌else◌, position, slice_index}
+use Rattle.std.proofs.lemmas.Bool.Decides.{nat_tests}
+use Rattle.std.proofs.lemmas.List.{length-drop, take_all}
+use Rattle.stop_history.specs.declared.refused.Refused.{Refused}
+use Rattle.stop_explorer.specs.declared.answer.Answer.TheVariants as answer
+use Rattle.text_lines.specs.declared.fault.LineFault.{LineFault}
+use Rattle.text_lines.specs.declared.fault.LineFault.TheVariants.{BadHex, BadNumber, UnknownWord}
+use Rattle.text_lines.specs.Lines.{nth_word}
+use Rattle.text_lines.specs.Ranges.{◌>>=◌}
+use Rattle.trace_script.specs.CaseLine.{is_equals}
+use Rattle.tracer_cli.specs.declared.grammar.Line.{Line}
+use Rattle.tracer_cli.specs.declared.litmus.keyword.CommandKeyword.{CommandKeyword}
+use Rattle.tracer_cli.specs.declared.litmus.keyword.CommandKeyword.TheVariants as command
+use Rattle.tracer_cli.specs.declared.litmus.keyword.LitmusKeyword.{LitmusKeyword}
+use Rattle.tracer_cli.specs.declared.litmus.keyword.LitmusKeyword.TheVariants as keyword
+use Rattle.tracer_cli.specs.declared.litmus.line.LitmusCommand.{LitmusCommand}
+use Rattle.tracer_cli.specs.declared.litmus.line.LitmusLine.{LitmusLine}
+use Rattle.tracer_cli.specs.declared.litmus.line.LitmusLine.TheVariants as line
+use Rattle.tracer_cli.specs.declared.litmus.line.LitmusReply.{LitmusReply}
+use Rattle.tracer_cli.specs.declared.litmus.line.Within.{Within}
+use Rattle.tracer_cli.specs.Grammar.{publish_line}
+use Rattle.tracer_cli.specs.LitmusGrammar.{as_in_replay, bare_command_of, command_parted, litmus_keyword_in}
+use Rattle.tracer_cli.specs.LitmusGrammar.{litmus_line_of, litmus_rest_of, so_answered}
+use Rattle.tracer_cli.specs.LitmusReply.{claim_any_reply, claim_tid_reply, is_any_word, is_it_word, no_child_reply}
+use Rattle.tracer_cli.specs.LitmusReply.{publish_refusals, claim_refusals, refused_reply, reply_of_words}
+use Rattle.tracer_cli.specs.LitmusReply.{resume_it_reply, resume_refusals, resume_tid_reply, state_of_words}
+use Rattle.tracer_cli.specs.LitmusReply.{wait_any_reply, wait_reply, wait_tid_reply, without_tid}
+
+not_so_many : (words : List (List ℕ)) (k : ℕ) → k < length words → eqb (length words) k ≡ false
+not_so_many words k more = grind (arith, nat_tests)
+
+-- what is read of fewer words is not read of these
+module _ {A : Type 0} where
+  not_read : (words : List (List ℕ)) (k : ℕ) (some other : Result A LineFault) → k < length words
+      → cond (eqb (length words) k) some other ≡ other
+  not_read words k some other more = ap (λ b. cond b some other) (not_so_many words k more)
+
+  not_read_and : (words : List (List ℕ)) (k : ℕ) (is : Bool) (some other : Result A LineFault) → k < length words
+      → cond (eqb (length words) k && is) some other ≡ other
+  not_read_and words k is some other more = ap (λ b. cond (b && is) some other) (not_so_many words k more)
+
+  either : (b : Bool) (x y r : Result A LineFault) → x ≡ r → y ≡ r → cond b x y ≡ r
+  either true x y r first second = first
+  either false x y r first second = second
+
+-- ---- replies have at most four words
+
+long_refused : (refusals : List (List ℕ × Refused)) (words : List (List ℕ)) → 4 < length words
+    → refused_reply refusals words ≡ Err UnknownWord
+long_refused refusals words more = not_read_and words 2 _ _ _ (omega arith)
+
+long_no_child : (words : List (List ℕ)) → 4 < length words → no_child_reply words ≡ Err UnknownWord
+long_no_child words more = not_read_and words 2 _ _ _ (omega arith)
+
+long_state : (words : List (List ℕ)) → 4 < length words → state_of_words words ≡ Err UnknownWord
+long_state words more = not_read words 1 _ _ (omega arith) ∙ not_read words 3 _ _ (omega arith)
+
+long_wait_tid : (word : CommandKeyword) (words : List (List ℕ)) → 4 < length words
+    → wait_tid_reply word words ≡ Err UnknownWord
+long_wait_tid word words more = not_read words 3 _ _ (omega arith) ∙ long_no_child words more
+
+long_wait_any : (word : CommandKeyword) (words : List (List ℕ)) → 4 < length words
+    → wait_any_reply word words ≡ Err UnknownWord
+long_wait_any word words more = not_read words 4 _ _ more ∙ ap without_tid (long_no_child words more)
+
+long_wait : (word : CommandKeyword) (named : List ℕ) (words : List (List ℕ)) → 4 < length words
+    → wait_reply word named words ≡ Err UnknownWord
+long_wait word named words more =
+    either (is_any_word named) _ _ _ (long_wait_any word words more) (ap without_tid (long_wait_tid word words more))
+
+long_claim_tid : (words : List (List ℕ)) → 4 < length words → claim_tid_reply words ≡ Err UnknownWord
+long_claim_tid words more = not_read words 3 _ _ (omega arith) ∙ long_refused claim_refusals words more
+
+long_claim_any : (words : List (List ℕ)) → 4 < length words → claim_any_reply words ≡ Err UnknownWord
+long_claim_any words more = not_read_and words 1 _ _ _ (omega arith) ∙ long_wait_any command.Claim words more
+
+long_resume_tid : (words : List (List ℕ)) → 4 < length words → resume_tid_reply words ≡ Err UnknownWord
+long_resume_tid words more = not_read_and words 1 _ _ _ (omega arith) ∙ long_refused resume_refusals words more
+
+long_resume_it : (words : List (List ℕ)) → 4 < length words → resume_it_reply words ≡ Err UnknownWord
+long_resume_it words more = not_read_and words 1 _ _ _ (omega arith) ∙ long_resume_tid words more
+
+long_reply : (word : CommandKeyword) (named : List ℕ) (words : List (List ℕ)) → 4 < length words
+    → reply_of_words word named words ≡ Err UnknownWord
+long_reply command.Publish named words more =
+    ap without_tid (not_read_and words 2 _ _ _ (omega arith) ∙ long_refused publish_refusals words more)
+long_reply command.Exit named words more = ap without_tid (not_read_and words 1 _ _ _ (omega arith))
+long_reply command.State named words more =
+    ap (λ read. without_tid (read >>= λ s. Ok (answer.State s))) (long_state words more)
+long_reply command.Claim named words more =
+    either (is_any_word named) _ _ _ (long_claim_any words more) (ap without_tid (long_claim_tid words more))
+long_reply command.Wait named words more = long_wait command.Wait named words more
+long_reply command.Look named words more = long_wait command.Look named words more
+long_reply command.Resume named words more =
+    ap without_tid (either (is_it_word named) _ _ _ (long_resume_it words more) (long_resume_tid words more))
+
+-- ---- commands have at most four words after their first one
+
+long_publish : (words : List (List ℕ)) → 4 < length words → publish_line words ≡ Err UnknownWord
+long_publish words more =
+    not_read words 2 _ _ (omega arith) ∙ not_read words 3 _ _ (omega arith) ∙ not_read words 4 _ _ more
+
+long_bare : (word : CommandKeyword) (words : List (List ℕ)) → 4 < length words
+    → bare_command_of word words ≡ Err UnknownWord
+long_bare command.Publish words more = ap (λ read. read >>= as_in_replay command.Publish) (long_publish words more)
+long_bare command.Exit words more =
+    ap (λ (read : Result Line LineFault). read >>= as_in_replay command.Exit) (not_read words 3 _ _ (omega arith))
+long_bare command.State words more =
+    ap (λ (read : Result Line LineFault). read >>= as_in_replay command.State) (not_read words 1 _ _ (omega arith))
+long_bare command.Claim words more = not_read words 2 _ _ (omega arith)
+long_bare command.Wait words more = not_read words 2 _ _ (omega arith)
+long_bare command.Look words more = not_read words 2 _ _ (omega arith)
+long_bare command.Resume words more = not_read words 4 _ _ more
+
+-- ---- so a command with its reply has at most nine
+
+unknown_command : (reply : Result LitmusReply LineFault) → so_answered reply (Err UnknownWord) ≡ Err UnknownWord
+unknown_command (Ok reply) = refl
+unknown_command (Err UnknownWord) = refl
+unknown_command (Err BadNumber) = refl
+unknown_command (Err BadHex) = refl
+
+long_replied : (word : CommandKeyword) (words : List (List ℕ)) (place : ℕ) (early : Bool) → nat_le place 4 ≡ early
+    → 9 < length words → command_parted word words (Some place) ≡ Err UnknownWord
+long_replied word words place true early more =
+    let within : place ≤ 4 = grind (arith, nat_tests) in
+    ap (λ reply. so_answered reply (bare_command_of word (take place words)))
+    (long_reply word (nth_word (take place words) 0) (drop (place + 1) words)
+    (omega (arith, length-drop (place + 1) words)))
+long_replied word words place false early more =
+    let beyond : 4 < place = grind (arith, nat_tests) in
+    ap (so_answered (reply_of_words word (nth_word (take place words) 0) (drop (place + 1) words)))
+    (long_bare word (take place words) (omega (arith, length-take place words)))
+    ∙ unknown_command (reply_of_words word (nth_word (take place words) 0) (drop (place + 1) words))
+
+long_parted : (word : CommandKeyword) (words : List (List ℕ)) (place : Option ℕ) → 9 < length words
+    → command_parted word words place ≡ Err UnknownWord
+long_parted word words None more = long_bare word words (omega arith)
+long_parted word words (Some place) more = long_replied word words place (nat_le place 4) refl more
+
+-- ---- lines
+
+long_line : (word : LitmusKeyword) (words : List (List ℕ)) → 9 < length words
+    → litmus_rest_of word words ≡ Err UnknownWord
+long_line keyword.Row words more = not_read words 4 _ _ (omega arith)
+long_line keyword.Thread words more = not_read words 0 _ _ (omega arith) ∙ not_read_and words 1 _ _ _ (omega arith)
+long_line keyword.Repeat words more = not_read words 1 _ _ (omega arith)
+long_line keyword.End words more = not_read words 0 _ _ (omega arith)
+long_line (keyword.Command word) words more =
+    ap (λ (read : Result LitmusCommand LineFault). read >>= λ said. Ok (line.Command said))
+    (long_parted word words (position is_equals words) more)
+
+same_rest : (word : LitmusKeyword) (words : List (List ℕ)) (few : Bool) → nat_le (length words) 10 ≡ few
+    → litmus_rest_of word (take 10 words) ≡ litmus_rest_of word words
+same_rest word words true few =
+    let all : length words ≤ 10 = grind (arith, nat_tests) in ap (litmus_rest_of word) (take_all 10 words all)
+same_rest word words false few =
+    let more : 10 < length words = grind (arith, nat_tests) in
+    long_line word (take 10 words) (omega (arith, length-take 10 words)) ∙ sym (long_line word words (omega arith))
+
+pub first_eleven : (within : Within) (words : List (List ℕ))
+    → litmus_line_of within (take 11 words) ≡ litmus_line_of within words
+first_eleven within [] = refl
+first_eleven within (first ∷ words) =
+    let same : (λ word. litmus_rest_of word (take 10 words)) ≡ (λ word. litmus_rest_of word words) =
+    λ i word. same_rest word words (nat_le (length words) 10) refl i in
+    ap (λ (read : LitmusKeyword → Result LitmusLine LineFault). if eqb (slice_index first 0) 35 then Ok line.Nothing
+    else (litmus_keyword_in within first >>= read)) same

@@ -1,0 +1,23 @@
+-- What is known of a draft is known with one more line.
+use Rattle.text_lines.specs.Lines.{words_in}
+use Rattle.tracer_cli.specs.declared.litmus.line.LitmusLine.TheVariants as line
+use Rattle.tracer_cli.specs.LitmusDraft.{litmus_reading_of}
+use Rattle.tracer_cli.proofs.LitmusRanges.{taken_kept}
+use Rattle.tracer_cli.proofs.litmus.draft.take_said.Goals as goal
+
+pub returns-in-End-clause-range : goal.returns-in-End-clause-range
+returns-in-End-clause-range g c =
+    taken_kept c.end_repeat.result (litmus_reading_of c.args.draft.now) (litmus_reading_of c.end_repeat.new.draft)
+    (words_in c.args.line.now) line.End c.requires.draft tt tt c.end_repeat.ensures
+
+pub returns-in-Command-clause-range : goal.returns-in-Command-clause-range
+returns-in-Command-clause-range g c =
+    taken_kept c.take_command.result (litmus_reading_of c.args.draft.now)
+    (litmus_reading_of c.take_command.new.draft) (words_in c.args.line.now) (line.Command c.in-Command.command)
+    c.requires.draft (rw c.in-Command.is at c.requires.said) tt c.take_command.ensures
+
+pub returns-in-Thread-clause-range : goal.returns-in-Thread-clause-range
+returns-in-Thread-clause-range g c =
+    taken_kept c.take_thread.result (litmus_reading_of c.args.draft.now) (litmus_reading_of c.take_thread.new.draft)
+    (words_in c.args.line.now) line.Thread c.requires.draft tt (rw c.in-Thread.is at c.requires.named)
+    c.take_thread.ensures

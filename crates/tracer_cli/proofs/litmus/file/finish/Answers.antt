@@ -1,0 +1,33 @@
+-- No repeat may be open after the last line.
+use Rattle.std.proofs.Common.{◌≡◌, ◌∙◌, ◌<◌, Err, ℕ, ap, arith, length, subst, sym}
+use Rattle.std.specs.List.{All}
+use Rattle.stop_explorer.specs.declared.command.ProgramLine.{ProgramLine}
+use Rattle.trace_script.specs.declared.cause.Cause.TheVariants.{NoEnd}
+use Rattle.tracer_cli.specs.LitmusDraft.{litmus_reading_of, names_kept}
+use Rattle.tracer_cli.proofs.LitmusFiles.{are_texts, content_is, is_open, length_kept, refused_at_end}
+use Rattle.tracer_cli.proofs.litmus.file.finish.Goals as goal
+
+pub returns-then-is_some-clause-err : goal.returns-then-is_some-clause-err
+returns-then-is_some-clause-err g c =
+    let all = litmus_reading_of c.args.draft in
+    refused_at_end c.args.text.now all c.requires.lines
+    (is_open c.args.draft.times c.args.draft.body.items ∙ sym c.is_some.ensures ∙ c.if-is_some.true)
+    ∙ ap (λ n. Err (record { line = n; cause = NoEnd })) (sym c.last_line.ensures)
+
+pub returns-clause-ok : goal.returns-clause-ok
+returns-clause-ok g c =
+    let all = litmus_reading_of c.args.draft in
+    content_is c.args.text.now all c.requires.lines
+    (is_open c.args.draft.times c.args.draft.body.items ∙ sym c.is_some.ensures ∙ c.if-is_some.false)
+
+pub returns-clause-range : goal.returns-clause-range
+returns-clause-range g c =
+    let draft = c.args.draft in
+    let long : length (names_kept draft.names.items) ≡ length draft.names.items = length_kept draft.names.items in
+    record {
+      few = omega (arith, long, c.requires.range.few);
+      names = are_texts draft.names.items c.requires.range.names;
+      calls = c.requires.range.calls;
+      threads = subst (λ n. All (λ (line : ProgramLine). line.thread < n) draft.lines.items) long
+          c.requires.range.threads;
+    }

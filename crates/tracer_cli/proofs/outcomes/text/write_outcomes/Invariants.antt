@@ -1,0 +1,18 @@
+-- What is written, and the outcomes that are left, are all outcomes.
+use Rattle.std.proofs.Common.{◌≡◌, ◌≤◌, ◌+◌, ◌++◌, drop, length, string_bytes}
+use Rattle.stop_explorer.specs.Search.{commands_in}
+use Rattle.tracer_cli.specs.Chosen.{chosen_of}
+use Rattle.tracer_cli.specs.LitmusDraft.{names_kept}
+use Rattle.tracer_cli.specs.OutcomeText.{outcome_texts}
+use Rattle.tracer_cli.proofs.outcomes.text.write_outcomes.Given as goal
+
+abbrev pub invariant-loop-run : goal.invariant-loop-run
+invariant-loop-run g l = record {
+  few : l.before ≤ l.run-index;
+  written : string_bytes l.out
+      ++ outcome_texts l.rows (names_kept l.names) (commands_in l.commands) (l.before + 1) l.count
+      (chosen_of (length l.commands) (commands_in l.commands) (drop l.run-index l.runs))
+      ≡ string_bytes l.fn.out
+      ++ outcome_texts l.rows (names_kept l.names) (commands_in l.commands) 1 l.count
+      (chosen_of (length l.commands) (commands_in l.commands) l.runs);
+}

@@ -1,0 +1,11 @@
+-- What is written, and the threads that are left, are all threads.
+use Rattle.std.proofs.Common.{◌≡◌, ◌++◌, drop, string_bytes}
+use Rattle.stop_explorer.specs.Search.{commands_in}
+use Rattle.tracer_cli.specs.LitmusDraft.{names_kept}
+use Rattle.tracer_cli.specs.OutcomeText.{threads_text}
+use Rattle.tracer_cli.proofs.outcomes.text.write_threads.Given as goal
+
+abbrev pub invariant-loop-thread : goal.invariant-loop-thread
+invariant-loop-thread g l =
+    string_bytes l.out ++ threads_text l.rows (commands_in l.commands) l.run l.thread (names_kept (drop l.thread l.names))
+    ≡ string_bytes l.fn.out ++ threads_text l.rows (commands_in l.commands) l.run 0 (names_kept l.names)

@@ -1,0 +1,143 @@
+-- The text of outcomes: what each thread was answered, and the command that it waits at; the last states of the
+-- tracees; and one order that leads there.
+use Rattle.std.specs.Prelude.{◌+◌, ◌==◌, ◌++◌, ◌∷◌, [], ℕ, Bool, true, false, List, length, zip, flat_map}
+use Rattle.std.specs.Prelude.{Option, Some, None, slice_get, slice_index_or, codes, decimal, if◌then◌else◌}
+use Rattle.stop_history.specs.declared.roster.Row.{Row}
+use Rattle.stop_history.specs.declared.state.State.{State}
+use Rattle.stop_explorer.specs.declared.command.ThreadCommand.{ThreadCommand}
+use Rattle.stop_explorer.specs.declared.turn.Turn.{Turn}
+use Rattle.stop_explorer.specs.Program.{Log, command_after, index_after, own_turns}
+use Rattle.stop_explorer.specs.Run.{EndedRun}
+use Rattle.tracer_cli.specs.AnswerText.{answer_text, waits_text}
+use Rattle.tracer_cli.specs.Chosen.{chosen_of, has_replies}
+use Rattle.tracer_cli.specs.CommandText.{command_text}
+use Rattle.tracer_cli.specs.Replies.{state_text}
+
+-- ---- names
+
+-- a thread without a name has its number
+abbrev pub thread_word : (number : ℕ) → (name : Option (List ℕ)) → List ℕ
+thread_word number None = decimal number
+thread_word number (Some name) = name
+
+-- the name of a thread, by its place among all threads
+abbrev pub name_at : List (Option (List ℕ)) → (thread : ℕ) → Option (List ℕ)
+name_at names thread = slice_index_or names thread None
+
+abbrev pub thread_head : (number : ℕ) → (name : Option (List ℕ)) → List ℕ
+thread_head number name = codes "thread " ++ thread_word number name ++ codes "\n"
+
+-- ---- commands
+
+-- a command that was done, and its answer; where there is no command, no line
+abbrev pub done_line : List Row → Turn → Option ThreadCommand → List ℕ
+done_line rows turn None = []
+done_line rows turn (Some command) =
+    command_text rows command ++ codes ": " ++ (answer_text rows command turn ++ 10 ∷ [])
+
+-- a command that a thread waits at
+abbrev pub waiting_line : List Row → List State → Option ThreadCommand → List ℕ
+waiting_line rows states None = []
+waiting_line rows states (Some command) =
+    command_text rows command ++ codes ": " ++ (waits_text rows states command ++ 10 ∷ [])
+
+-- ---- threads
+
+-- what a thread's turns did, from a place among its commands on, and then the command that it waits at
+unfoldable pub thread_lines : List Row → List State → List ThreadCommand → (at : ℕ) → List Turn → List ℕ
+thread_lines rows states commands at [] = waiting_line rows states (slice_get commands at)
+thread_lines rows states commands at (turn ∷ turns) =
+    done_line rows turn (slice_get commands at)
+    ++ thread_lines rows states commands (index_after (slice_get commands at) at turn.answer) turns
+
+abbrev pub thread_text : List Row → (commands : ℕ → List ThreadCommand) → EndedRun → (thread : ℕ)
+    → (name : Option (List ℕ)) → List ℕ
+thread_text rows commands ending thread name =
+    thread_head (thread + 1) name
+    ++ thread_lines rows ending.states (commands thread) 0 (own_turns thread ending.turns)
+
+-- the threads of these names, the first of which has this number
+unfoldable pub threads_text : List Row → (commands : ℕ → List ThreadCommand) → EndedRun → (thread : ℕ)
+    → (names : List (Option (List ℕ))) → List ℕ
+threads_text rows commands ending thread [] = []
+threads_text rows commands ending thread (name ∷ names) =
+    thread_text rows commands ending thread name ++ threads_text rows commands ending (thread + 1) names
+
+-- ---- tracees
+
+abbrev pub tracee_line : Row × State → List ℕ
+tracee_line tracee = decimal tracee.0.tid ++ codes " " ++ (state_text tracee.1 ++ 10 ∷ [])
+
+abbrev pub tracees_text : List Row → List State → List ℕ
+tracees_text rows states = codes "tracees\n" ++ flat_map tracee_line (zip rows states)
+
+-- ---- the order
+
+-- the command that a turn did, after the turns before it
+abbrev pub command_of_turn : (commands : ℕ → List ThreadCommand) → (before : Log) → Turn → Option ThreadCommand
+command_of_turn commands before turn = command_after (commands turn.thread) (own_turns turn.thread before)
+
+-- what a thread of this name did, with the answer
+abbrev pub turn_line : List Row → (name : Option (List ℕ)) → Turn → Option ThreadCommand → List ℕ
+turn_line rows name turn None = []
+turn_line rows name turn (Some command) =
+    thread_word (turn.thread + 1) name ++ codes " " ++ done_line rows turn (Some command)
+
+-- turns after others
+unfoldable pub order_lines : List Row → (names : List (Option (List ℕ))) → (commands : ℕ → List ThreadCommand)
+    → (before turns : Log) → List ℕ
+order_lines rows names commands before [] = []
+order_lines rows names commands before (turn ∷ turns) =
+    turn_line rows (name_at names turn.thread) turn (command_of_turn commands before turn)
+    ++ order_lines rows names commands (before ++ turn ∷ []) turns
+
+abbrev pub order_text : List Row → (names : List (Option (List ℕ))) → (commands : ℕ → List ThreadCommand) → Log
+    → List ℕ
+order_text rows names commands turns = codes "order\n" ++ order_lines rows names commands [] turns
+
+-- ---- outcomes
+
+abbrev pub outcome_line : (number count : ℕ) → List ℕ
+outcome_line number count = codes "outcome " ++ decimal number ++ codes " of " ++ decimal count ++ codes "\n"
+
+-- an empty line ends it
+abbrev pub outcome_text : List Row → (names : List (Option (List ℕ))) → (commands : ℕ → List ThreadCommand)
+    → (number count : ℕ) → EndedRun → List ℕ
+outcome_text rows names commands number count ending =
+    outcome_line number count ++ threads_text rows commands ending 0 names ++ tracees_text rows ending.states
+    ++ order_text rows names commands ending.turns ++ codes "\n"
+
+-- outcomes, the first of which has this number
+unfoldable pub outcome_texts : List Row → (names : List (Option (List ℕ))) → (commands : ℕ → List ThreadCommand)
+    → (number count : ℕ) → List EndedRun → List ℕ
+outcome_texts rows names commands number count [] = []
+outcome_texts rows names commands number count (ending ∷ endings) =
+    outcome_text rows names commands number count ending
+    ++ outcome_texts rows names commands (number + 1) count endings
+
+-- ---- what was explored
+
+-- no outcome has all replies
+abbrev pub is_forbidden : (threads : ℕ) → (commands : ℕ → List ThreadCommand) → List EndedRun → Bool
+is_forbidden threads commands endings = length (chosen_of threads commands endings) == 0
+
+abbrev pub counts_line : (count places : ℕ) → List ℕ
+counts_line count places = codes "outcomes " ++ decimal count ++ codes ", places " ++ decimal places ++ codes "\n"
+
+abbrev pub allowed_line : (replies : Bool) → List ℕ
+allowed_line true = codes "allowed\n"
+allowed_line false = []
+
+-- outcomes, numbered from 1 and counted; and that they are allowed, where there are replies
+abbrev pub chosen_text : List Row → (names : List (Option (List ℕ))) → (commands : ℕ → List ThreadCommand)
+    → (places : ℕ) → (chosen : List EndedRun) → List ℕ
+chosen_text rows names commands places chosen =
+    outcome_texts rows names commands 1 (length chosen) chosen ++ counts_line (length chosen) places
+    ++ allowed_line (has_replies (length names) commands)
+
+-- only the outcomes in which every command with a reply was done; where there is none, that they are forbidden
+abbrev pub explored_text : List Row → (names : List (Option (List ℕ))) → (commands : ℕ → List ThreadCommand)
+    → (places : ℕ) → List EndedRun → List ℕ
+explored_text rows names commands places endings =
+    if is_forbidden (length names) commands endings then codes "forbidden\n"
+    else chosen_text rows names commands places (chosen_of (length names) commands endings)

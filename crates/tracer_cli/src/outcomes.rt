@@ -1,0 +1,9 @@
+//! The text of outcomes.
+
+mod answer_text;
+pub(crate) mod chosen;
+mod command_text;
+pub(crate) mod order;
+mod replay_text;
+pub(crate) mod text;
+mod waiting;

@@ -1,0 +1,377 @@
+//! The text of outcomes: what each thread was answered, the states of the tracees, and one order that leads there.
+
+ghost use Rattle.std.specs.Prelude.{◌≡◌, ◌++◌, length, IfOk, IfSome, IsUtf8, OnOk, decimal, option_map, slice_get};
+ghost use Rattle.std.specs.Prelude.{string_bytes};
+ghost use Rattle.stop_explorer.specs.Program.{own_turns};
+ghost use Rattle.stop_explorer.specs.Search.{commands_in};
+ghost use Rattle.tracer_cli.specs.Chosen.{chosen_of};
+ghost use Rattle.tracer_cli.specs.LitmusDraft.{AreTexts, names_kept};
+ghost use Rattle.tracer_cli.specs.OutcomeText.{allowed_line, counts_line, done_line, explored_text, name_at, order_text};
+ghost use Rattle.tracer_cli.specs.OutcomeText.{outcome_line, outcome_text, outcome_texts, thread_head, thread_lines};
+ghost use Rattle.tracer_cli.specs.OutcomeText.{thread_word, threads_text, tracee_line, tracees_text};
+ghost use Rattle.tracer_cli.specs.OutcomeText.{turn_line, waiting_line};
+
+use super::answer_text::{write_answer, write_waits};
+use super::chosen::{count_chosen, has_replies, is_chosen, thread_commands};
+use super::command_text::write_command;
+use super::order::command_of_turn;
+use crate::replies::write_state;
+use itoa::Buffer;
+use std::alloc::Allocator;
+use stop_board::{NoMemory, Row, State};
+use stop_explorer::{Explored, FoundRun, ThreadCommand, Turn, index_after};
+
+// ---- commands
+
+/// Writes a command that was done, and its answer.
+#[tactic(auto, using(crate::proofs::Written::in_three))]
+fn write_done<A: Allocator>(
+    out: &mut String<A>,
+    rows: &[Row],
+    turn: &Turn,
+    command: &ThreadCommand,
+) -> Result<(), NoMemory>
+    ensures { OnOk result (string_bytes out.new
+        ≡ string_bytes out.old ++ done_line rows.now turn.now (Some command.now)) }
+{
+    write_command(out, rows, command)?;
+    out.push_str(": ")?;
+    write_answer(out, rows, command, turn)
+}
+
+/// Writes a command that a thread waits at.
+#[tactic(auto, using(crate::proofs::Written::in_three))]
+fn write_waiting<A: Allocator>(
+    out: &mut String<A>,
+    rows: &[Row],
+    states: &[State],
+    command: &ThreadCommand,
+) -> Result<(), NoMemory>
+    ensures { OnOk result (string_bytes out.new
+        ≡ string_bytes out.old ++ waiting_line rows.now states.now (Some command.now)) }
+{
+    write_command(out, rows, command)?;
+    out.push_str(": ")?;
+    write_waits(out, rows, states, command)
+}
+
+/// Writes the command at a place among a thread's commands, and its answer, if there is a command.
+fn write_done_at<A: Allocator>(
+    out: &mut String<A>,
+    rows: &[Row],
+    turn: &Turn,
+    commands: &[ThreadCommand],
+    at: usize,
+) -> Result<(), NoMemory>
+    ensures { OnOk result (string_bytes out.new
+        ≡ string_bytes out.old ++ done_line rows.now turn.now (slice_get commands.now at)) }
+{
+    match commands.get(at) {
+        None => Ok(()),
+        Some(command) => write_done(out, rows, turn, command),
+    }
+}
+
+/// Writes the command at a place among a thread's commands as one that it waits at, if there is a command.
+fn write_waiting_at<A: Allocator>(
+    out: &mut String<A>,
+    rows: &[Row],
+    states: &[State],
+    commands: &[ThreadCommand],
+    at: usize,
+) -> Result<(), NoMemory>
+    ensures { OnOk result (string_bytes out.new
+        ≡ string_bytes out.old ++ waiting_line rows.now states.now (slice_get commands.now at)) }
+{
+    match commands.get(at) {
+        None => Ok(()),
+        Some(command) => write_waiting(out, rows, states, command),
+    }
+}
+
+// ---- threads
+
+/// Writes the line that a thread begins with.
+#[tactic(auto, using(crate::proofs::Written::in_three))]
+fn write_thread_head<A: Allocator>(
+    out: &mut String<A>,
+    number: usize,
+    name: Option<&[u8]>,
+) -> Result<(), NoMemory>
+    requires { IfSome name (λ bytes. IsUtf8 bytes.now) }
+    ensures { OnOk result (string_bytes out.new
+        ≡ string_bytes out.old ++ thread_head number (option_map (λ bytes. bytes.now) name.entry)) }
+{
+    out.push_str("thread ")?;
+    write_thread_word(out, number, name)?;
+    out.push_str("\n")?;
+    Ok(())
+}
+
+/// Writes a thread's name, or its number where it has none.
+fn write_thread_word<A: Allocator>(
+    out: &mut String<A>,
+    number: usize,
+    name: Option<&[u8]>,
+) -> Result<(), NoMemory>
+    requires { IfSome name (λ bytes. IsUtf8 bytes.now) }
+    ensures { OnOk result (string_bytes out.new
+        ≡ string_bytes out.old ++ thread_word number (option_map (λ bytes. bytes.now) name.entry)) }
+{
+    match name {
+        None => write_decimal(out, number),
+        Some(name) => write_name(out, name),
+    }
+}
+
+fn write_decimal<A: Allocator>(out: &mut String<A>, number: usize) -> Result<(), NoMemory>
+    ensures { OnOk result (string_bytes out.new ≡ string_bytes out.old ++ decimal number) }
+{
+    let mut buffer = Buffer::new();
+    out.push_str(buffer.format(number))?;
+    Ok(())
+}
+
+fn write_name<A: Allocator>(out: &mut String<A>, name: &[u8]) -> Result<(), NoMemory>
+    requires { IsUtf8 name.now }
+    ensures { OnOk result (string_bytes out.new ≡ string_bytes out.old ++ name.now) }
+{
+    if let Ok(text) = std::str::from_utf8(name) {
+        out.push_str(text)?;
+    }
+    Ok(())
+}
+
+/// Writes what a thread's turns did, and then the command that it waits at.
+fn write_thread_lines<A: Allocator>(
+    out: &mut String<A>,
+    rows: &[Row],
+    states: &[State],
+    commands: &[ThreadCommand],
+    thread: usize,
+    turns: &[Turn],
+) -> Result<(), NoMemory>
+    ensures { OnOk result (string_bytes out.new ≡ string_bytes out.old
+        ++ thread_lines rows.now states.now commands.now 0 (own_turns thread turns.now)) }
+{
+    let mut at = 0;
+    for turn in turns {
+        if turn.thread as usize == thread {
+            write_done_at(out, rows, turn, commands, at)?;
+            at = index_after(commands, at, &turn.answer);
+        }
+    }
+    write_waiting_at(out, rows, states, commands, at)
+}
+
+/// Writes each thread.
+fn write_threads<A: Allocator>(
+    out: &mut String<A>,
+    rows: &[Row],
+    names: &[Option<&[u8]>],
+    commands: &[Vec<ThreadCommand, A>],
+    run: &FoundRun<A>,
+) -> Result<(), NoMemory>
+    requires { AreTexts names.now }
+    ensures { OnOk result (string_bytes out.new ≡ string_bytes out.old
+        ++ threads_text rows.now (commands_in commands.now) run.now 0 (names_kept names.now)) }
+{
+    for (thread, name) in names.iter().enumerate() {
+        write_thread_head(out, thread + 1, *name)?;
+        let own = thread_commands(commands, thread);
+        write_thread_lines(out, rows, run.states(), own, thread, run.turns())?;
+    }
+    Ok(())
+}
+
+// ---- tracees
+
+/// Writes a tracee and its state.
+#[tactic(auto, using(crate::proofs::Written::in_three))]
+fn write_tracee<A: Allocator>(out: &mut String<A>, row: &Row, state: State) -> Result<(), NoMemory>
+    ensures { OnOk result (string_bytes out.new ≡ string_bytes out.old ++ tracee_line (row.now, state)) }
+{
+    write_decimal(out, row.tid as usize)?;
+    out.push_str(" ")?;
+    write_state(out, state)
+}
+
+/// Writes the tracees and their states.
+fn write_tracees<A: Allocator>(
+    out: &mut String<A>,
+    rows: &[Row],
+    states: &[State],
+) -> Result<(), NoMemory>
+    ensures { OnOk result (string_bytes out.new ≡ string_bytes out.old ++ tracees_text rows.now states.now) }
+{
+    out.push_str("tracees\n")?;
+    for (row, state) in rows.iter().zip(states) {
+        write_tracee(out, row, *state)?;
+    }
+    Ok(())
+}
+
+// ---- the order
+
+/// The name of a thread, by its place among all threads, if it has one.
+fn name_at<'t>(names: &[Option<&'t [u8]>], thread: u32) -> Option<&'t [u8]>
+    requires { AreTexts names.now }
+    ensures name { option_map (λ bytes. bytes.now) result ≡ name_at (names_kept names.now) thread }
+    ensures text { IfSome result (λ bytes. IsUtf8 bytes.now) }
+{
+    match names.get(thread as usize) {
+        Some(name) => *name,
+        None => None,
+    }
+}
+
+/// Writes a turn of a thread: its name or number, the command that it did, if there is one, and its answer.
+#[tactic(auto, using(crate::proofs::Written::in_three))]
+fn write_turn<A: Allocator>(
+    out: &mut String<A>,
+    rows: &[Row],
+    name: Option<&[u8]>,
+    turn: &Turn,
+    command: Option<ThreadCommand>,
+) -> Result<(), NoMemory>
+    requires { IfSome name (λ bytes. IsUtf8 bytes.now) }
+    ensures { OnOk result (string_bytes out.new ≡ string_bytes out.old
+        ++ turn_line rows.now (option_map (λ bytes. bytes.now) name.entry) turn.now command) }
+{
+    let Some(command) = command else {
+        return Ok(());
+    };
+    write_thread_word(out, turn.thread as usize + 1, name)?;
+    out.push_str(" ")?;
+    write_done(out, rows, turn, &command)
+}
+
+/// Writes the turns in their order.
+fn write_turns<A: Allocator>(
+    out: &mut String<A>,
+    rows: &[Row],
+    names: &[Option<&[u8]>],
+    commands: &[Vec<ThreadCommand, A>],
+    turns: &[Turn],
+) -> Result<(), NoMemory>
+    requires { AreTexts names.now }
+    ensures { OnOk result (string_bytes out.new ≡ string_bytes out.old
+        ++ order_text rows.now (names_kept names.now) (commands_in commands.now) turns.now) }
+{
+    out.push_str("order\n")?;
+    for (i, turn) in turns.iter().enumerate() {
+        let command = command_of_turn(commands, &turns[..i], turn);
+        write_turn(out, rows, name_at(names, turn.thread), turn, command)?;
+    }
+    Ok(())
+}
+
+// ---- outcomes
+
+/// Writes the line that an outcome begins with.
+fn write_outcome_line<A: Allocator>(
+    out: &mut String<A>,
+    number: usize,
+    count: usize,
+) -> Result<(), NoMemory>
+    ensures { OnOk result (string_bytes out.new ≡ string_bytes out.old ++ outcome_line number count) }
+{
+    write!(out, "outcome {number} of {count}\n")?;
+    Ok(())
+}
+
+/// Writes an outcome, with its number and how many there are, and an empty line after it.
+#[tactic(auto, using(crate::proofs::Written::in_five))]
+pub(crate) fn write_outcome<A: Allocator>(
+    out: &mut String<A>,
+    rows: &[Row],
+    names: &[Option<&[u8]>],
+    commands: &[Vec<ThreadCommand, A>],
+    number: usize,
+    count: usize,
+    run: &FoundRun<A>,
+) -> Result<(), NoMemory>
+    requires { AreTexts names.now }
+    ensures { OnOk result (string_bytes out.new ≡ string_bytes out.old
+        ++ outcome_text rows.now (names_kept names.now) (commands_in commands.now) number count run.now) }
+{
+    write_outcome_line(out, number, count)?;
+    write_threads(out, rows, names, commands, run)?;
+    write_tracees(out, rows, run.states())?;
+    write_turns(out, rows, names, commands, run.turns())?;
+    out.push_str("\n")?;
+    Ok(())
+}
+
+/// Writes the outcomes in which every command with a reply was done, numbered from 1.
+fn write_outcomes<A: Allocator>(
+    out: &mut String<A>,
+    rows: &[Row],
+    names: &[Option<&[u8]>],
+    commands: &[Vec<ThreadCommand, A>],
+    count: usize,
+    runs: &[FoundRun<A>],
+) -> Result<(), NoMemory>
+    requires { AreTexts names.now }
+    ensures { OnOk result (string_bytes out.new ≡ string_bytes out.old
+        ++ outcome_texts rows.now (names_kept names.now) (commands_in commands.now) 1 count
+        (chosen_of (length commands.now) (commands_in commands.now) runs.now)) }
+{
+    let mut before = 0;
+    for run in runs {
+        if is_chosen(commands, run.turns()) {
+            write_outcome(out, rows, names, commands, before + 1, count, run)?;
+            before += 1;
+        }
+    }
+    Ok(())
+}
+
+/// Writes how many outcomes and places there are.
+fn write_counts<A: Allocator>(
+    out: &mut String<A>,
+    count: usize,
+    places: usize,
+) -> Result<(), NoMemory>
+    ensures { OnOk result (string_bytes out.new ≡ string_bytes out.old ++ counts_line count places) }
+{
+    write!(out, "outcomes {count}, places {places}\n")?;
+    Ok(())
+}
+
+/// Writes that the outcomes are allowed, where there are replies.
+fn write_allowed<A: Allocator>(out: &mut String<A>, replies: bool) -> Result<(), NoMemory>
+    ensures { OnOk result (string_bytes out.new ≡ string_bytes out.old ++ allowed_line replies) }
+{
+    if replies {
+        out.push_str("allowed\n")?;
+    }
+    Ok(())
+}
+
+/// The text of what was explored: the outcomes in which every command with a reply was done, and how many they and the
+/// places are; or that there is none. Each thread has a name, or none.
+pub(crate) fn outcomes_text<A: Allocator + Copy>(
+    alloc: A,
+    rows: &[Row],
+    names: &[Option<&[u8]>],
+    commands: &[Vec<ThreadCommand, A>],
+    explored: &Explored<A>,
+) -> Result<String<A>, NoMemory>
+    requires names { AreTexts names.now }
+    requires threads { length names.now ≡ length commands.now }
+    ensures { IfOk result (λ text. string_bytes text ≡ explored_text rows.now (names_kept names.now)
+        (commands_in commands.now) explored.now.places explored.now.runs.items) }
+{
+    let mut out = String::new(alloc);
+    let runs = explored.runs.as_slice();
+    let count = count_chosen(commands, runs);
+    if count == 0 {
+        out.push_str("forbidden\n")?;
+        return Ok(out);
+    }
+    write_outcomes(&mut out, rows, names, commands, count, runs)?;
+    write_counts(&mut out, count, explored.places)?;
+    write_allowed(&mut out, has_replies(commands))?;
+    Ok(out)
+}

@@ -36,13 +36,13 @@ all_shown content found runs places threads outcome lists rows names text forbid
     long same written is =
     let own : lists ≡ own_commands content.lines = fun_ext same in (
       ap (λ o. asked_text o content found places) none
-      ∙ ap (λ (t : List ℕ). Some t)
-      (sym (written ∙ ap (λ r. explored_text r names lists places found) rows_are
-      ∙ ap (λ n. explored_text content.rows n lists places found) names_are
-      ∙ ap (λ l. explored_text content.rows content.names l places found) own)),
+          ∙ ap (λ (t : List ℕ). Some t)
+          (sym (written ∙ ap (λ r. explored_text r names lists places found) rows_are
+          ∙ ap (λ n. explored_text content.rows n lists places found) names_are
+          ∙ ap (λ l. explored_text content.rows content.names l places found) own)),
       is ∙ ap (λ n. is_forbidden n lists runs) long ∙ ap (λ l. is_forbidden (length content.names) l runs) own
-      ∙ ap (λ r. is_forbidden (length content.names) (own_commands content.lines) r) runs_are
-      ∙ sym (ap (λ o. forbids o content found) none),
+          ∙ ap (λ r. is_forbidden (length content.names) (own_commands content.lines) r) runs_are
+          ∙ sym (ap (λ o. forbids o content found) none),
     )
 
 pub one_shown : (content : LitmusContent) (found : List EndedRun) (places threads number : ℕ) (outcome : Option ℕ)
@@ -54,9 +54,9 @@ pub one_shown : (content : LitmusContent) (found : List EndedRun) (places thread
 one_shown content found places threads number outcome lists rows shown text some rows_are long same written is =
     let own : lists ≡ own_commands content.lines = fun_ext same in (
       ap (λ o. asked_text o content found places) some
-      ∙ sym (written ∙ ap (λ r. outcome_replay r threads lists number found) rows_are
-      ∙ ap (λ n. outcome_replay content.rows n lists number found) long
-      ∙ ap (λ l. outcome_replay content.rows (length content.names) l number found) own)
-      ∙ is,
+          ∙ sym (written ∙ ap (λ r. outcome_replay r threads lists number found) rows_are
+          ∙ ap (λ n. outcome_replay content.rows n lists number found) long
+          ∙ ap (λ l. outcome_replay content.rows (length content.names) l number found) own)
+          ∙ is,
       sym (ap (λ o. forbids o content found) some),
     )

@@ -38,8 +38,11 @@ pub is_explored_whole : (name : List ℕ) (options : ExploreOptions)
     → AreExploreOptionsOf (name ∷ codes "explore" ∷ []) options → IsExploredWhole options
 unfolding clap_on_literals
 is_explored_whole name options are = record {
-  budget = are.budget
-      ((lit< tt, (lit< tt, (lit< tt, (lit< tt, (lit< tt, (lit< tt, (lit< tt, (lit< tt, tt)))))))), lit< tt, lit≤ tt,
-      lit≤ tt);
+  budget = are.budget (
+    (lit< tt, (lit< tt, (lit< tt, (lit< tt, (lit< tt, (lit< tt, (lit< tt, (lit< tt, tt)))))))),
+    lit< tt,
+    lit≤ tt,
+    lit≤ tt,
+  );
   outcome = are.outcome;
 }

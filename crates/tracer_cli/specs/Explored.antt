@@ -72,7 +72,7 @@ abbrev pub IsUnshown : ExploreOptions → (read : Result LitmusContent CaseError
 IsUnshown options read (Refused error) = read ≡ Err error
 IsUnshown options read TooManyPlaces =
     IsOkAnd read (λ content.
-        HasMorePlaces content.rows (own_commands content.lines) options.budget)
+    HasMorePlaces content.rows (own_commands content.lines) options.budget)
 IsUnshown options read (NoOutcome number) = IsOkAnd read (λ content. HasNoOutcome options content number)
 IsUnshown options read NoMemory = Unit {0}
 IsUnshown options read failure = ⊥

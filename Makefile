@@ -12,7 +12,7 @@ COMMA = ,
 
 .PHONY: all kit demo examples scarce-memory man-page documents one-source one-meaning refused-code check wrong-bodies \
 	wrong-bodies-changed wrong-bodies-test test bench bench-case bench-cells bench-pages bench-fold bench-run \
-	bench-threads tools install clean
+	bench-threads bench-explore tools install clean
 
 all: kit
 	@echo "make: proving the program and what it stands on, over what earlier runs kept (the first time: 45 minutes)"
@@ -134,6 +134,7 @@ bench: tools all
 	@$(MAKE) --no-print-directory bench-fold
 	@$(MAKE) --no-print-directory bench-run
 	@$(MAKE) --no-print-directory bench-threads
+	@$(MAKE) --no-print-directory bench-explore
 
 # Builds a program of bench/, which is a crate of the repository for as long as that takes: the crate's name, its source,
 # the libraries that it uses, and the words or the input that it is run with.
@@ -194,6 +195,13 @@ bench-threads: tools all
 	@mkdir -p $(OUT)
 	@$(RUSTC) -O --edition 2024 -o $(OUT)/plain_threads bench/plain_threads.rs
 	@$(PYTHON) bench/threads.py --rows 1.3 "bin/tracer run" $(OUT)/plain_threads
+
+# The program that finds all outcomes, beside a plain search for them.
+bench-explore: tools all
+	@echo "bench-explore: timing bin/tracer explore and a plain Rust program in turn on 37,440 outcomes (some minutes)"
+	@mkdir -p $(OUT)
+	@$(RUSTC) -O --edition 2024 -o $(OUT)/plain_explore bench/plain_explore.rs
+	@$(PYTHON) bench/compare.py --runs 9 "bin/tracer explore" $(OUT)/plain_explore bench/explore.litmus
 
 tools:
 	@for command in $(RUSTC) $(PYTHON); do \

@@ -1,11 +1,11 @@
-"""Times a program and the plain Rust program in turn on one file: the best of ten each, and the peak memory.
+"""Times a program and the plain Rust program in turn on one file: the best of some runs each, and the peak memory.
 
-Usage: compare.py [--time RATIO] [--memory TIMES] TRACER PLAIN FILE
+Usage: compare.py [--runs N] [--time RATIO] [--memory TIMES] TRACER PLAIN FILE
 
-TRACER and PLAIN are commands, with their arguments after spaces, which read FILE on standard input. The timed runs
-print to /dev/null, so that no reader's time counts. Then both have to answer the file, and the file cut short inside
-its last line, with the same status, output and error text. With --time the tracer's time may be at most so many times
-the plain program's, with --memory its memory at most so many times the file.
+TRACER and PLAIN are commands, with their arguments after spaces, which read FILE on standard input. There are N timed
+runs of each, by default ten. They print to /dev/null, so that no reader's time counts. Then both have to answer the
+file, and the file cut short inside its last line, with the same status, output and error text. With --time the tracer's
+time may be at most so many times the plain program's, with --memory its memory at most so many times the file.
 """
 
 import argparse
@@ -15,7 +15,8 @@ import sys
 import tempfile
 import time
 
-RUNS = 10
+# A file of as many bytes is large: what a program keeps is told as times the file.
+LARGE = 1 << 20
 
 
 def answers(words, text):
@@ -42,6 +43,7 @@ def run(words, path):
 
 def arguments():
     parser = argparse.ArgumentParser()
+    parser.add_argument("--runs", type=int, default=10)
     parser.add_argument("--time", type=float)
     parser.add_argument("--memory", type=float)
     for name in ("tracer", "plain"):
@@ -55,7 +57,7 @@ def main():
     programs = {"tracer": asked.tracer, "plain": asked.plain}
     best = {}
     peak = {}
-    for _ in range(RUNS):
+    for _ in range(asked.runs):
         for name, words in programs.items():
             seconds, memory = run(words, asked.file)
             best[name] = min(seconds, best.get(name, seconds))
@@ -67,10 +69,11 @@ def main():
             sys.exit("the two programs answer differently")
     times = {name: peak[name] * 1024 / len(whole) for name in programs}
     for name in programs:
-        time_text = f"best of {RUNS} {best[name] * 1000:.0f} ms"
-        print(f"{name}: {time_text}, peak {peak[name] / 1024:.1f} MiB, {times[name]:.2f} times the input")
+        time_text = f"best of {asked.runs} {best[name] * 1000:.0f} ms"
+        beside = f", {times[name]:.2f} times the input" if len(whole) >= LARGE else ""
+        print(f"{name}: {time_text}, peak {peak[name] / 1024:.1f} MiB{beside}")
     ratio = best["tracer"] / best["plain"]
-    print(f"ratio in time, tracer to plain: {ratio:.2f}")
+    print(f"ratio, tracer to plain: {ratio:.2f} in time, {peak['tracer'] / peak['plain']:.2f} in memory")
     if asked.time is not None and ratio > asked.time:
         sys.exit(f"the ratio in time is above {asked.time}")
     if asked.memory is not None and times["tracer"] > asked.memory:

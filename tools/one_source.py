@@ -37,7 +37,7 @@ LIMITS, WORD = "crates/stop_history/src/limits.rt", "crates/stop_history/src/wor
 CASE_FILES, LAYOUTS = "docs/formats/case-files.md", "docs/formats/layouts.md"
 WORDS = "docs/definitions/words.md"
 WIDTHS, TRACER_WIDTH = "crates/stop_history/src/word/layout.rt", "crates/stop_history/specs/Layout.antt"
-PLAIN, PLAIN_CASE = "bench/plain.rs", "bench/plain_case.rs"
+PLAIN, PLAIN_CASE, PLAIN_LITMUS = "bench/plain.rs", "bench/plain_case.rs", "bench/plain_litmus.rs"
 
 # What is said of the most rows, and where: {rows} stands for that number, {more} for one more.
 MOST_ROWS = [
@@ -48,6 +48,7 @@ MOST_ROWS = [
     (PAGE, "and {rows} tracees."),
     (PLAIN, "const MOST_ROWS: usize = {rows};"),
     (PLAIN_CASE, "const MOST_ROWS: usize = {rows};"),
+    (PLAIN_LITMUS, "const MOST_ROWS: usize = {rows};"),
 ]
 
 

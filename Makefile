@@ -198,7 +198,7 @@ bench-threads: tools all
 
 # The program that finds all outcomes, beside a plain search for them.
 bench-explore: tools all
-	@echo "bench-explore: timing bin/tracer explore and a plain Rust program in turn on 37,440 outcomes (some minutes)"
+	@echo "bench-explore: timing bin/tracer explore and a plain Rust program in turn on 37,440 outcomes (a minute)"
 	@mkdir -p $(OUT)
 	@$(RUSTC) -O --edition 2024 -o $(OUT)/plain_explore bench/plain_explore.rs
 	@$(PYTHON) bench/compare.py --runs 9 "bin/tracer explore" $(OUT)/plain_explore bench/explore.litmus

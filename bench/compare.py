@@ -15,7 +15,7 @@ import sys
 import tempfile
 import time
 
-# A file of as many bytes is large: what a program keeps is told as times the file.
+# A file is large from this many bytes on: then the memory is given as times the file too.
 LARGE = 1 << 20
 
 

@@ -4,7 +4,7 @@ use Rattle.std.specs.List.{list_all, range_with_len}
 use Rattle.stop_explorer.specs.Replies.{done_by_thread}
 use Rattle.stop_explorer.specs.Search.{commands_in}
 use Rattle.tracer_cli.specs.Chosen.{has_thread_come_true}
-use Rattle.tracer_cli.proofs.outcomes.chosen.is_chosen.Given as goal
+use Rattle.tracer_cli.proofs.outcomes.chosen.have_come_true.Given as goal
 
 abbrev pub invariant-loop-thread : goal.invariant-loop-thread
 invariant-loop-thread g l =

@@ -1,13 +1,15 @@
 """Times a run on threads beside a plain Rust program with threads, in turn in one run, and prints a table.
 
-Usage: threads.py [--stop MICROSECONDS] [--time RATIO] [--rows RATIO] TRACER PLAIN
+Usage: threads.py [--stop MICROSECONDS] [--time RATIO] [--rows RATIO] [--births RATIO] TRACER PLAIN
 
 TRACER is the program with its arguments after spaces, without the number of workers; PLAIN takes that number as its
 argument. Both read a case on standard input, and have to print the same text. First one row with 65,536 calls is run by
 one worker, and the time of each of its stops is told; then 64 rows with 1,000 calls each by 1 to 16 workers; then 256
-rows, the most, with 250 calls each beside those 64 rows, in turn by 4 workers. Each time is the best of RUNS. With
---stop a stop of the first case may take at most so long; with --time the tracer's time by 4 workers may be at most so
-many times the plain program's; with --rows the tracer may take at most so many times as long for 256 rows as for 64.
+rows, the most, with 250 calls each beside those 64 rows, in turn by 4 workers; and at last one row with 60,000 signals
+alone, as the parent of 63 children that it forks in the end, and as the first of a chain of 64, each of which forks the
+next. Each time is the best of RUNS. With --stop a stop of the first case may take at most so long; with --time the
+tracer's time by 4 workers may be at most so many times the plain program's; with --rows the tracer may take at most so
+many times as long for 256 rows as for 64; with --births at most so many times as long beside rows that are not born.
 """
 
 import argparse
@@ -20,6 +22,8 @@ import time
 RUNS = 7
 WORKERS = (1, 2, 4, 8, 16)
 MOST_STEPS = 65536
+SIGNALS = 60000
+FAMILY = 64
 
 
 def write_case(file, rows, calls):
@@ -29,6 +33,36 @@ def write_case(file, rows, calls):
         file.write("call write 1 0x10000 3 = 3\n" * calls)
         file.write("end\n")
     file.flush()
+
+
+def write_births(file, children):
+    """A case of a root with SIGNALS signals, and of the rows that it and they fork in the end.
+    `children` has the children of each row, by their places; each row is a process of its own."""
+    parents = {child: parent for parent, own in enumerate(children) for child in own}
+    for place, own in enumerate(children):
+        tid, parent = 100 + place, parents.get(place)
+        file.write(f"tracee {tid} {tid} 77 {0 if parent is None else 100 + parent}\n")
+        if place == 0:
+            file.write("signal 10\n" * SIGNALS)
+        file.writelines(f"fork {100 + child}\n" for child in own)
+        file.write("exit 0\nend\n")
+    file.flush()
+
+
+def births(words, most):
+    """Prints how long a row takes beside rows that are not born yet; whether that is too long."""
+    alone = [[]]
+    parent = [list(range(1, FAMILY))] + [[] for _ in range(1, FAMILY)]
+    chain = [[place + 1] for place in range(FAMILY - 1)] + [[]]
+    with tempfile.NamedTemporaryFile("w") as one, tempfile.NamedTemporaryFile("w") as wide, \
+            tempfile.NamedTemporaryFile("w") as long:
+        for file, children in ((one, alone), (wide, parent), (long, chain)):
+            write_births(file, children)
+        first, *others = best_of([(words + ["-f"], file.name) for file in (one, wide, long)])
+    print(f"a row with {SIGNALS} signals alone, as the parent of {FAMILY - 1}, as the first of a chain of {FAMILY}:")
+    print(f"{first * 1000:11.0f} ms {others[0] * 1000:7.0f} ms {others[1] * 1000:7.0f} ms, "
+          f"{others[0] / first:.2f} and {others[1] / first:.2f} times the row alone")
+    return is_above(max(others) / first, most)
 
 
 def seconds_of(words, path):
@@ -64,6 +98,7 @@ def arguments():
     parser.add_argument("--stop", type=float)
     parser.add_argument("--time", type=float)
     parser.add_argument("--rows", type=float)
+    parser.add_argument("--births", type=float)
     parser.add_argument("tracer", type=str.split)
     parser.add_argument("plain")
     return parser.parse_args()
@@ -107,6 +142,7 @@ def main():
             name = os.path.basename(words[0])
             print(f"{rows256 * 1000:11.0f} ms {rows64 * 1000:7.0f} ms {rows256 / rows64:6.2f}  {name}")
             too_slow = too_slow or (words[0] == asked.tracer[0] and is_above(rows256 / rows64, asked.rows))
+    too_slow = births([*asked.tracer, "-w", "4"], asked.births) or too_slow
     if too_slow:
         sys.exit("a time is above what was allowed")
 

@@ -14,6 +14,7 @@ NO_CODE = re.compile(
 CLAUSE = re.compile(r"\b(requires|ensures)\b[^{}]*$")
 FN = re.compile(r"\bfn\s+(\w+)")
 BLOCK = re.compile(r"(?m)^[ \t]*(?:pub(?:\([^)]*\))?\s+)?(?:unsafe\s+)?(impl|trait)\b([^{};]*)\{")
+TEST_MODULE = r"#\[cfg\(test\)\]\s*(?:pub\s+)?mod\s+(\w+)\s*;"
 WORD = re.compile(r"(\.\s*|\w+\s*(?:::\s*<[^<>]*>\s*)?::\s*)?\b([a-z_]\w*)\b(?!\s*!)")
 
 
@@ -139,12 +140,22 @@ def places(text, file):
 
 
 def contracts(text):
-    """What a caller of this file's functions can rest on: the text with neither comments nor bodies."""
+    """What a caller of this file's functions can rest on: the text without bodies."""
     found = places(text, "")
     outer = [it for it in found if not any(other.begin < it.begin < other.end for other in found)]
     for it in reversed(outer):
         text = text[: it.begin] + text[it.end :]
-    return re.sub(r"(?m)^[ \t]*//[^\n]*\n", "", text)
+    return text
+
+
+def deciding(text, file):
+    """What of a file decides whether a function is proved: the text with neither comments nor modules of tests."""
+    if file.endswith(".rt"):
+        text = NO_CODE.sub(lambda it: "" if it[0].startswith("//") else it[0], text)
+        text = re.sub(f"{TEST_MODULE}\n?", "", text)
+    elif file.endswith(".antt"):
+        text = re.sub(r"(?m)^[ \t]*--.*$", "", text)
+    return re.sub(r"\n(?:[ \t]*\n)+", "\n", text).strip()
 
 
 def test_modules(texts):
@@ -153,7 +164,7 @@ def test_modules(texts):
     for file, text in texts.items():
         folder = file.removeprefix("src/").removesuffix(".rt")
         folder = "" if folder in ("lib", "main") else f"{folder}/"
-        found |= {folder + it for it in re.findall(r"#\[cfg\(test\)\]\s*(?:pub\s+)?mod\s+(\w+)\s*;", text)}
+        found |= {folder + it for it in re.findall(TEST_MODULE, text)}
     return found
 
 

@@ -8,7 +8,8 @@ other edit is tried alone, and counts as `rt must-fail` would count it. The last
 status is 1 where an edit failed.
 
 tools/wrong_bodies.tried has a line for each crate whose edits were all refused: a digest of the crate's sources,
-definitions, proofs and edits, and of the contracts and definitions below it. Tests decide nothing, and are left out.
+definitions, proofs and edits, and of the contracts and definitions below it. Comments and tests decide nothing, and are
+left out; whether each edit still applies is seen to in every run.
 """
 
 import argparse
@@ -71,16 +72,28 @@ class Crate:
         sum_of = hashlib.sha256()
 
         def add(file, text):
-            sum_of.update(f"{file.relative_to(self.root)}\n{len(text)}\n".encode() + text)
+            sum_of.update(f"{file.relative_to(self.root)}\n{len(text)}\n".encode() + text.encode())
+
+        def deciding(file):
+            return rattle_source.deciding(file.read_text(encoding="utf-8"), file.name)
 
         for file in self.files_of(*PARTS, "wrong-bodies"):
-            add(file, file.read_bytes())
-        for crate in self.below:
+            add(file, deciding(file))
+        for crate in sorted(self.below, key=lambda it: it.name):
             for file in crate.files_of("src"):
-                add(file, rattle_source.contracts(crate.texts[str(file.relative_to(crate.folder))]).encode())
+                add(file, rattle_source.contracts(deciding(file)))
             for file in crate.files_of("specs"):
-                add(file, file.read_bytes())
+                add(file, deciding(file))
         return sum_of.hexdigest()[:32]
+
+    def all_apply(self):
+        """Whether each edit finds the text that it replaces."""
+        try:
+            for edit in self.edits:
+                body_edits.applied(edit, self.texts)
+        except body_edits.BadEdit:
+            return False
+        return True
 
 
 def crates_of(root):
@@ -282,7 +295,7 @@ def chosen(words):
     if not words.changed:
         return crates
     kept = tried_before(words.root)
-    changed = [it for it in crates if kept.get(it.name) != it.digest()]
+    changed = [it for it in crates if kept.get(it.name) != it.digest() or not it.all_apply()]
     same = sum(len(it.edits) for it in crates if it not in changed)
     say(f"{same} wrong bodies were refused before on what is here, and are not tried again ({TRIED})")
     return changed

@@ -143,6 +143,9 @@ class WrongBodies(unittest.TestCase):
         return [it.name for it in found]
 
     def keep_digests(self):
+        """Writes what a run writes once all edits of each crate were refused, of which none is bad."""
+        for file in self.root.glob("crates/*/wrong-bodies/stands_nowhere.edit"):
+            file.unlink()
         (self.root / "tools").mkdir()
         digests = {name: it.digest() for name, it in wrong_bodies.crates_of(self.root).items()}
         (self.root / "tools" / "wrong_bodies.tried").write_text("".join(f"{it} {digests[it]}\n" for it in digests))
@@ -153,14 +156,24 @@ class WrongBodies(unittest.TestCase):
         (self.crate / "src" / "tests.rt").write_text("//! Tests.\n")
         self.keep_digests()
         self.assertEqual(self.changed_by(source, "x;", "x;"), [])
-        for file, old in [
-            (source, "// This is"),
-            (self.crate / "specs" / "Lib.antt", ""),
-            (self.crate / "proofs" / "Lib.antt", ""),
-            (self.crate / "wrong-bodies" / "gives_zero.edit", "new"),
+        for file, old, new in [
+            (source, "let second = x;", "let second = { x };"),
+            (self.crate / "specs" / "Lib.antt", "", "mod Numbers\n"),
+            (self.crate / "proofs" / "Lib.antt", "", "mod Numbers\n"),
+            (self.crate / "wrong-bodies" / "gives_zero.edit", "= 0", "= 1"),
         ]:
-            self.assertEqual(self.changed_by(file, old, f"\n{old}"), ["sample"], file)
+            self.assertEqual(self.changed_by(file, old, new), ["sample"], file)
         self.assertEqual(self.changed_by(self.crate / "src" / "tests.rt", "Tests", "Other tests"), [])
+
+    def test_a_comment_or_a_test_makes_no_crate_be_tried_again(self):
+        source = self.crate / "src" / "lib.rt"
+        source.write_text(SOURCE.replace("// This is the number.", ""))
+        (self.crate / "wrong-bodies" / "changes_a_comment.edit").unlink()
+        self.keep_digests()
+        self.assertEqual(self.changed_by(source, "/// The number.", "/// The same number."), [])
+        self.assertEqual(self.changed_by(self.crate / "proofs" / "Lib.antt", "", "-- No proofs.\n"), [])
+        self.assertEqual(self.changed_by(source, "pub fn first", "#[cfg(test)]\nmod tests;\n\npub fn first"), [])
+        self.assertEqual(self.changed_by(source, "// A call.", "// It calls."), ["sample"], "an edit applies no more")
 
     def test_of_the_crates_below_contracts_and_definitions_count(self):
         upper = self.root / "crates" / "upper"
@@ -169,10 +182,9 @@ class WrongBodies(unittest.TestCase):
         self.keep_digests()
         source = self.crate / "src" / "lib.rt"
         self.assertEqual(self.changed_by(source, "let second = x;", "let second = { x };"), ["sample"])
-        self.assertEqual(self.changed_by(source, "/// The number.", "/// The number, again."), ["sample"])
         self.assertEqual(self.changed_by(source, "second(x: u8)", "second(x: u16)"), ["sample", "upper"])
-        self.assertEqual(self.changed_by(self.crate / "specs" / "Lib.antt", "", "\n"), ["sample", "upper"])
-        self.assertEqual(self.changed_by(self.crate / "proofs" / "Lib.antt", "", "\n"), ["sample"])
+        self.assertEqual(self.changed_by(self.crate / "specs" / "Lib.antt", "", "mod Numbers\n"), ["sample", "upper"])
+        self.assertEqual(self.changed_by(self.crate / "proofs" / "Lib.antt", "", "mod Numbers\n"), ["sample"])
 
 
 if __name__ == "__main__":

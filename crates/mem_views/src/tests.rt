@@ -1,5 +1,8 @@
 //! What the views of a stop's memory show, at the ends of pages, of strings and of the address space.
 
+mod greatest;
+mod growth;
+
 use crate::laws::{numbers_are_fixed, pieces_join_to_the_bytes};
 use crate::{Cut, End, IOV_MAX, Iovecs, Item, Views};
 use std::alloc::Global;

@@ -36,5 +36,6 @@ fn the_laws_are_there() {
 }
 
 mod folder;
+mod piece_growth;
 mod refusals;
 mod writers;

@@ -1,5 +1,7 @@
 //! `replay_text`, called by itself. What is printed of other files is in tests/cases/replay_files.cases.
 
+mod growth;
+
 use std::test::Fail;
 use tracer_cli::replay_text;
 

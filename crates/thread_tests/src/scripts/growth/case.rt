@@ -1,6 +1,6 @@
 //! Each growth of a case refused in turn.
 
-use crate::machine::FORK;
+use crate::scripts::machine::FORK;
 use refusing_allocator::RefusingAllocator;
 use trace_script::{Case, CaseError, Cause};
 

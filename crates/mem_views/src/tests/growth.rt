@@ -2,8 +2,8 @@
 
 ghost use Rattle.std.specs.Prelude.{◌≡◌, ◌%◌};
 
-use crate::memory::fill;
-use mem_views::{Cut, End, Views};
+use crate::tests::greatest::fill;
+use crate::{Cut, End, Views};
 use refusing_allocator::RefusingAllocator;
 use std::alloc::{Allocator, Global};
 use std::test::Fail;

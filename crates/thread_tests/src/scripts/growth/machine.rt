@@ -1,6 +1,6 @@
 //! Each growth of a machine refused in turn.
 
-use crate::machine::{CONT, FORK, machine_of, no_calls, stops_made};
+use crate::scripts::machine::{CONT, FORK, machine_of, no_calls, stops_made};
 use refusing_allocator::RefusingAllocator;
 use std::alloc::Allocator;
 use trace_record::{Stop, StopRecord};

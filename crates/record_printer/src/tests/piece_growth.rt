@@ -1,6 +1,6 @@
 //! Each growth of the piece of a stop refused in turn.
 
-use record_printer::{Show, piece_of};
+use crate::{Show, piece_of};
 use refusing_allocator::RefusingAllocator;
 use std::test::Fail;
 use stop_history::LAST_NUMBER;

@@ -1,8 +1,0 @@
-//! Each growth of a call refused in turn: the call answers that it is out of memory then and only then, and what it
-//! was called on is as it was.
-
-mod case;
-mod machine;
-mod memory;
-mod pieces;
-mod replay;

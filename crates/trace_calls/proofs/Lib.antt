@@ -1,4 +1,4 @@
--- Other crates cite the module that is `pub`. The others prove what this crate ensures.
+-- Other crates cite the modules that are `pub`. The others prove what this crate ensures.
 pub mod Keeping
 mod Places
 mod Points
@@ -8,3 +8,4 @@ mod Scans
 mod Settled
 mod Told
 mod Tries
+pub mod Turns

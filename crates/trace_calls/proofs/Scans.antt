@@ -1,6 +1,6 @@
 -- A scan, row by row.
-use Rattle.std.proofs.Common.{refl, ◌≡◌, ◌<◌, ◌≤◌, ◌+◌, ◌||◌, ℕ, Bool, true, false, length, ◌∙◌, sym, inl, inr, subst}
-use Rattle.std.proofs.Common.{arith}
+use Rattle.std.proofs.Common.{refl, ◌≡◌, ◌<◌, ◌≤◌, ◌+◌, ◌||◌, ℕ, Bool, true, false, List, Some, length, ◌∙◌, sym, ap, inl, inr}
+use Rattle.std.proofs.Common.{arith, eq-eqb, eqb-true, subst}
 use Rattle.std.proofs.lemmas.Bool.{cases_eq}
 use Rattle.trace_record.specs.Death.{death_status}
 use Rattle.trace_record.specs.Stop.{stop_status}
@@ -8,7 +8,9 @@ use Rattle.trace_record.specs.declared.death.Death.{Death}
 use Rattle.stop_history.specs.declared.state.State.{State}
 use Rattle.stop_history.specs.Event as event
 use Rattle.stop_history.specs.Over.{is_gone}
-use Rattle.stop_history.specs.Roster.{IsRoster}
+use Rattle.stop_history.specs.declared.roster.Row.{Row}
+use Rattle.stop_history.specs.Roster.{IsRoster, row_at, row_of}
+use Rattle.stop_history.proofs.Rosters.{row_of-tid}
 use Rattle.stop_history.specs.State.{state_after}
 use Rattle.stop_table.specs.declared.claim.Claim.{Claim}
 use Rattle.stop_table.specs.Entry.{AreLegal, Begins, bare, content_after, history_of}
@@ -17,9 +19,10 @@ use Rattle.stop_table.specs.View.{View}
 use Rattle.stop_table.proofs.Walking.{begins_of, legal_after, looked_on, stands_still}
 use Rattle.trace_calls.specs.declared.request.WaitRequest.{WaitRequest}
 use Rattle.trace_calls.specs.declared.scan.Finding.TheVariants as finding
+use Rattle.trace_calls.specs.declared.selection.Selection.TheVariants.{Tracee}
 use Rattle.trace_calls.specs.declared.scan.Try.TheVariants as tried
-use Rattle.trace_calls.specs.Scan.{IsFinding, IsTurn, Scanned}
-use Rattle.trace_calls.specs.Selection.{IsSelected}
+use Rattle.trace_calls.specs.Scan.{IsFinding, IsTried, IsTurn, Scanned}
+use Rattle.trace_calls.specs.Selection.{IsOnly, IsSelected, has_parents}
 use Rattle.trace_calls.specs.Waiting.{Found, NoChild, NothingYet}
 use Rattle.trace_calls.specs.Waiting.{Claimed, IsFirst, SawState, Took, WasPassed, is_pending, is_waitable_for}
 use Rattle.trace_calls.proofs.Points.{begins_end, claimed_from, saw_as, saw_from, saw_on, showed_from}
@@ -33,6 +36,20 @@ scan_none request v legal = record {
   gone = λ is row low selected. absurd (omega arith);
   over = λ is parents row low selected. absurd (omega arith);
 }
+
+-- before the only row that is selected, none is
+pub scan_only : (request : WaitRequest) (v : View) (row : ℕ) → AreLegal v.roster v.seen
+    → IsOnly v.roster request.selection row → Scanned request v v row false
+scan_only request v row legal only = record {
+  looked = stands_still v legal;
+  passed = λ other low selected. absurd (below other low selected);
+  pends = λ is. cc;
+  gone = λ is other low selected. absurd (below other low selected);
+  over = λ is parents other low selected. absurd (below other low selected);
+}
+  where
+    below : (other : ℕ) → other < row → IsSelected v.roster request.selection other → ⊥
+    below other low selected = let same = only.alone other selected in omega (arith, low, same)
 
 -- ---- a row that was passed
 
@@ -215,4 +232,47 @@ found_none request u v k before s long is = record {
   gone = λ row selected. let within = selected.0 in s.gone is row (omega arith) selected;
   final = λ parents. gone_for_good u.roster request.selection request.deaths v.seen
       (λ row selected. let within = selected.0 in s.over is parents row (omega arith) selected);
+}
+
+-- ---- a scan of one row
+
+module _ (A : Type 0) (request : WaitRequest) (v w : View) (row : ℕ) (roster : IsRoster v.roster)
+    (legal : AreLegal v.roster v.seen) (only : IsOnly v.roster request.selection row) where
+  one_scanned : (more : Bool) → IsTried {A = A} request v w row (tried.Passes more) → Scanned request v w (row + 1) more
+  one_scanned more told =
+      scan_on request v v w row false roster (scan_only request v row legal only) {A = A} more (inl (only.selected, told))
+
+  below_next : (other : ℕ) → IsSelected v.roster request.selection other → other < row + 1
+  below_next other selected = let same = only.alone other selected in omega (arith, same)
+
+  pub one_pending : (more : Bool) → more ≡ true → IsTried {A = A} request v w row (tried.Passes more)
+      → NothingYet request v w
+  one_pending more is told =
+      let s = one_scanned more told in
+      record {
+        looked = s.looked;
+        passed = λ other selected. s.passed other (below_next other selected) selected;
+        pends = s.pends is;
+      }
+
+  pub one_gone : (more : Bool) → more ≡ false → has_parents request.selection ≡ false
+      → IsTried {A = A} request v w row (tried.Passes more) → NoChild request v w
+  one_gone more is alone told =
+      let s = one_scanned more told in
+      record {
+        looked = s.looked;
+        gone = λ other selected. s.gone is other (below_next other selected) selected;
+        final = λ has. (let clash : true ≡ false = sym has ∙ alone in cc);
+      }
+
+-- a wait for the tracee of a row speaks of that row alone, since no other has its thread id
+pub only_row : (rows : List Row) → IsRoster rows → (row : ℕ) → row < length rows
+    → IsOnly rows (Tracee (row_at rows row).tid) row
+only_row rows roster row within = record {
+  selected = (within, eq-eqb (row_at rows row).tid (row_at rows row).tid refl);
+  alone = λ other is.
+      (let same : (row_at rows other).tid ≡ (row_at rows row).tid = eqb-true _ _ is.1 in
+      let both : Some other ≡ Some row =
+      sym (row_of-tid rows roster other is.0) ∙ ap (row_of rows) same ∙ row_of-tid rows roster row within in
+      cc);
 }

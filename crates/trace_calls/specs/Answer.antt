@@ -14,6 +14,8 @@ use Rattle.stop_table.specs.Entry.{content_after}
 use Rattle.stop_table.specs.Tracer.{is_held}
 use Rattle.stop_table.specs.View.{View}
 use Rattle.trace_calls.specs.Handle.{CallsHandle, KeepsRows}
+use Rattle.trace_calls.specs.declared.selection.Selection.{Selection}
+use Rattle.trace_calls.specs.Request.{claiming}
 use Rattle.trace_calls.specs.Waiting.{Found, NoChild, NothingYet}
 
 -- the wait status of a row with this raw status
@@ -64,6 +66,10 @@ pub record AnswersByRow (request : WaitRequest) (a b : CallsHandle) (found : Row
   pub is_status : IsStatusOf a.view.roster found.row raw found.status
   pub counts : b.counts ≡ slice_set a.counts found.row found.number
   pub records : b.records ≡ records_with b.view found.row a.records
+
+-- the same of a wait that claims, for whichever tracees
+abbrev pub HasFound : CallsHandle → CallsHandle → RowStatus → Type 0
+HasFound a b found = (selection : Selection) × AnswersByRow (claiming selection) a b found
 
 -- None: there is nothing to report yet
 abbrev pub IsRowAnswer : WaitRequest → CallsHandle → CallsHandle → Result (Option RowStatus) Errno → Type 0

@@ -1,6 +1,8 @@
 -- What a wait asks for, by its arguments (waitid(2), waitpid(2)). None is EINVAL.
-use Rattle.std.specs.Prelude.{◌==◌, ◌||◌, ℕ, ℤ, Bool, true, false, not, Option, Some, None, if◌then◌else◌}
+use Rattle.std.specs.Prelude.{◌==◌, ◌||◌, ℕ, ℤ, Bool, true, false, not, List, Option, Some, None, if◌then◌else◌}
 use Rattle.std.specs.Int.RustNames.{bit_and, bit_or}
+use Rattle.stop_history.specs.declared.roster.Row.{Row}
+use Rattle.stop_history.specs.Roster.{row_at}
 use Rattle.trace_options.specs.WaitFlags.{wait_flag_bits}
 use Rattle.trace_options.specs.declared.wait_flags.WaitFlags.{WaitFlags}
 use Rattle.trace_options.specs.declared.wait_flags.TheConstants.WaitFlags.{WALL, WCONTINUED, WEXITED, WNOHANG}
@@ -8,7 +10,7 @@ use Rattle.trace_options.specs.declared.wait_flags.TheConstants.WaitFlags.{WNOWA
 use Rattle.trace_calls.specs.declared.id.Id.{Id}
 use Rattle.trace_calls.specs.declared.request.WaitRequest.{WaitRequest}
 use Rattle.trace_calls.specs.declared.selection.Selection.{Selection}
-use Rattle.trace_calls.specs.declared.selection.Selection.TheVariants.{All}
+use Rattle.trace_calls.specs.declared.selection.Selection.TheVariants.{All, Tracee}
 use Rattle.trace_calls.specs.Selection.{selection_of_id, selection_of_pid}
 
 abbrev pub has : WaitFlags → WaitFlags → Bool
@@ -19,9 +21,17 @@ request_for None deaths keeps = None
 request_for (Some selection) deaths keeps =
     Some (record { selection = selection; deaths = deaths; keeps = keeps })
 
--- of any tracee, its stop or its death
+-- of these tracees, a stop or a death, which is claimed
+abbrev pub claiming : Selection → WaitRequest
+claiming selection = record { selection = selection; deaths = true; keeps = false }
+
+-- of any tracee
 abbrev pub anyone : WaitRequest
-anyone = record { selection = All; deaths = true; keeps = false }
+anyone = claiming All
+
+-- of the tracee of a row
+abbrev pub one_row : List Row → ℕ → WaitRequest
+one_row rows row = claiming (Tracee (row_at rows row).tid)
 
 -- waitid waits for deaths with WEXITED, and takes one of WEXITED and WSTOPPED at least, and no WCONTINUED
 abbrev pub waitid_request : Id → WaitFlags → Option WaitRequest

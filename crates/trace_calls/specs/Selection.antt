@@ -17,6 +17,11 @@ is_selected (Group pgid) row = row.pgid == pgid
 abbrev pub IsSelected : List Row → Selection → ℕ → Type 0
 IsSelected rows selection row = (row < length rows) × (is_selected selection (row_at rows row) ≡ true)
 
+-- a wait that speaks of this row alone
+pub record IsOnly (rows : List Row) (selection : Selection) (row : ℕ) : Type 0 where
+  pub selected : IsSelected rows selection row
+  pub alone : (other : ℕ) → IsSelected rows selection other → other ≡ row
+
 -- with each tracee it has that tracee's parent: not so for one tracee alone
 abbrev pub has_parents : Selection → Bool
 has_parents All = true

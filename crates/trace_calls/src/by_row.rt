@@ -1,17 +1,21 @@
 //! Waits and calls by row, which need no search of the roster. Those by pid stand on them.
 
-ghost use Rattle.std.specs.Prelude.{◌≡◌, IfNone, IfSome};
-ghost use Rattle.trace_calls.specs.Answer.{IsWaitRowAnswer, without_row};
+ghost use Rattle.std.specs.Prelude.{◌≡◌, ◌<◌, IfNone, IfSome, length};
+ghost use Rattle.stop_table.specs.Handle.{TriesOnce};
+ghost use Rattle.trace_calls.specs.Answer.{IsRowAnswer, IsWaitRowAnswer, without_row};
 ghost use Rattle.trace_calls.specs.ByRow.{HasClaimedRow, HasNotClaimedRow, IsRowRestart};
 ghost use Rattle.trace_calls.specs.Handle.{KeepsTable, claimed_record};
-ghost use Rattle.trace_calls.specs.Request.{waitid_request};
+ghost use Rattle.trace_calls.specs.Request.{one_row, waitid_request};
 ghost use Rattle.trace_calls.specs.Waiting.{IsOneTry};
 
 use crate::calls::Calls;
 use crate::handle::handle_is_legal;
 use crate::id::Id;
-use crate::request::waitid_request;
+use crate::request::{WaitRequest, waitid_request};
 use crate::row_status::RowStatus;
+use crate::scan::scan_one;
+use crate::selection::Selection;
+use crate::settle::settle;
 use std::alloc::Allocator;
 use trace_options::{Errno, LAST_SIGNAL, WaitFlags};
 use trace_record::{Resume, StopRecord};
@@ -30,8 +34,26 @@ impl<A: Allocator> Calls<A> {
         self.wait(request)
     }
 
-    /// `claimed` by row: the record of the stop that this caller has claimed of a row, with what the caller has written,
-    /// until it resumes it. None also where there is no such row.
+    /// `wait_row` for the tracee of one row, with WEXITED and WNOHANG, without a search: its stop is claimed, or its death
+    /// is reaped. None where there is nothing to report yet. ECHILD: it is unborn or reaped.
+    pub fn wait_one(&mut self, row: u32) -> Result<Option<RowStatus>, Errno>
+        requires { row < length self.old.view.roster }
+        ensures table { KeepsTable self.old self.new }
+        ensures answer { IsRowAnswer (one_row self.old.view.roster row) self.old self.new result }
+        ensures once { TriesOnce self.old.view self.new.view row }
+    {
+        handle_is_legal(&self.tracer);
+        let request = WaitRequest {
+            selection: Selection::Tracee(self.roster.row(row).tid),
+            deaths: true,
+            keeps: false,
+        };
+        let found = scan_one(&mut self.tracer, row, request);
+        settle(found, &self.roster, &mut self.held, &mut self.counts)
+    }
+
+    /// `claimed` by row: the record of the stop that this caller has claimed of a row, with what the caller has written
+    /// into it. None where the caller has not claimed the row, or has resumed it since, and where there is no such row.
     pub fn claimed_row(&self, row: u32) -> Option<&StopRecord<A>>
         ensures none { IfNone result (HasNotClaimedRow self.now row) }
         ensures some { IfSome result (λ r. HasClaimedRow self.now row × (r.now ≡ claimed_record self.now row)) }
@@ -45,8 +67,8 @@ impl<A: Allocator> Calls<A> {
         }
     }
 
-    /// `syscall` or `cont` by row: lets a claimed row run on, with its record as it is now. ESRCH: this caller has not claimed it, or there is no
-    /// such row. EIO: a signal above 64.
+    /// `syscall` or `cont` by row: lets a claimed row run on, with its record as it is now. ESRCH: this caller has not
+    /// claimed it, or there is no such row. EIO: a signal above 64.
     pub fn restart_row(&mut self, row: u32, how: Resume) -> Result<(), Errno>
         ensures table { KeepsTable self.old self.new }
         ensures answer { IsRowRestart self.old self.new row how result }

@@ -89,6 +89,13 @@ impl<A: Allocator> Calls<A> {
         self.tracer.number()
     }
 
+    /// How many rows the roster has, 0 to 256.
+    pub fn rows(&self) -> u32
+        ensures { result ≡ length self.now.view.roster }
+    {
+        self.roster.len()
+    }
+
     /// Gives the tracer's handle back, or the calls as they are while they hold a claim.
     pub fn into_tracer(self) -> Result<Tracer<A>, Calls<A>>
         ensures { MatchResult result
@@ -152,7 +159,7 @@ impl<A: Allocator> Calls<A> {
     }
 }
 
-/// No claim, for each of so many rows.
+/// No claim, for each of this many rows.
 fn nothing_held<A: Allocator>(
     alloc: A,
     count: usize,

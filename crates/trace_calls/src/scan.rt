@@ -6,7 +6,7 @@ ghost use Rattle.stop_table.specs.Claiming.{IsTaken};
 ghost use Rattle.stop_table.specs.Handle.{TriesOnce};
 ghost use Rattle.stop_table.specs.Tracer.{IsTracerHandle, KeepsHandle};
 ghost use Rattle.trace_calls.specs.Scan.{IsFinding, IsTried, IsTurn, is_pending_shown, report_in};
-ghost use Rattle.trace_calls.specs.Selection.{IsSelected};
+ghost use Rattle.trace_calls.specs.Selection.{IsOnly, IsSelected, has_parents};
 ghost use Rattle.trace_calls.specs.Waiting.{IsOneTry};
 
 use crate::handle::handle_is_legal;
@@ -68,6 +68,37 @@ pub(crate) fn scan<A: Allocator>(
         return Finding::NothingYet;
     }
     Finding::NoChild
+}
+
+/// Tries the only row that is selected.
+pub(crate) fn scan_one<A: Allocator>(
+    tracer: &mut Tracer<A>,
+    row: u32,
+    request: WaitRequest,
+) -> Finding<A>
+    requires one { IsOnly tracer.old.view.roster request.selection row }
+    requires alone { has_parents request.selection ≡ false }
+    requires claims { request.keeps ≡ false }
+    ensures handle { KeepsHandle tracer.old tracer.new }
+    ensures finding { IsFinding request tracer.old.view tracer.new.view result }
+    ensures once { TriesOnce tracer.old.view tracer.new.view row }
+{
+    handle_is_legal(tracer);
+    match take(tracer, row, request) {
+        Try::Stop(claim) => Finding::Stop(claim),
+        Try::Ended { death, number } => Finding::Ended { row, death, number },
+        Try::Shows { number, status } => Finding::Shows {
+            row,
+            number,
+            status,
+        },
+        Try::Passes { pending } => {
+            if pending {
+                return Finding::NothingYet;
+            }
+            Finding::NoChild
+        }
+    }
 }
 
 /// Tries a row, if it is selected.

@@ -1,8 +1,9 @@
 -- A worker's thread: what its waits claim, the pieces of it, and its restarts.
 use Rattle.std.proofs.Common.{refl, ◌≡◌, ◌≢◌, ◌+◌, ◌*◌, ◌<◌, ◌≤◌, ◌∷◌, ◌++◌, [], ℕ, zero, suc, Bool, true, false, List, Some}
-use Rattle.std.proofs.Common.{None, Option, Result, Ok, Err, length, inl, inr, ◌∙◌, sym, ap, subst, arith, eq-eqb, ne_eqb, filter}
+use Rattle.std.proofs.Common.{None, Option, Err, length, inl, inr, ◌∙◌, sym, ap, subst, arith, eq-eqb, ne_eqb, filter}
 use Rattle.std.proofs.Common.{cond, get_or, set}
 use Rattle.std.specs.Option.{unwrap_or}
+use Rattle.std.specs.Prelude.{MatchOption}
 use Rattle.std.specs.List.{range_with_len}
 use Rattle.std.proofs.lemmas.Bool.{cases_eq}
 use Rattle.std.proofs.lemmas.List.{append_assoc, append-nil, get_or-set_same, length-set}
@@ -30,10 +31,11 @@ use Rattle.stop_table.proofs.Entries.{cell_from, content_number, own_cell, word_
 use Rattle.stop_table.proofs.Own.{same_actors}
 use Rattle.stop_table.proofs.Walking.{itself, same_trans}
 use Rattle.trace_calls.specs.declared.row_status.RowStatus.{RowStatus}
-use Rattle.trace_calls.specs.Answer.{IsWaitRowAnswer}
+use Rattle.trace_calls.specs.Answer.{HasFound}
 use Rattle.trace_calls.specs.ByRow.{HasClaimedRow, IsRowRestart}
 use Rattle.trace_calls.specs.Handle.{CallsHandle, HasRecords, claimed_record, tracer_of}
 use Rattle.trace_calls.specs.Request.{anyone}
+use Rattle.trace_calls.specs.Waiting.{NoChild}
 use Rattle.trace_options.specs.declared.errno.Errno.{Errno}
 use Rattle.trace_options.specs.declared.errno.Errno.TheVariants as errno
 use Rattle.trace_calls.proofs.Keeping.{claim_at, free_row, keeps_beside, keeps_look}
@@ -547,23 +549,22 @@ not_refused a z row how errno.ECHILD has ranged is = is
 
 -- ---- waits
 
-pub no_child : (a b : CallsHandle) (r : Result (Option RowStatus) Errno) → ((found : Option RowStatus) → r ≡ Ok found → ⊥)
-    → IsWaitRowAnswer (Some anyone) a b r
+pub no_child : (a b : CallsHandle) → NoChild anyone a.view b.view
     → Looked a.view b.view × AreOverForGood b.view.roster b.view.seen
-no_child a b (Ok found) other is = absurd (other found refl)
-no_child a b (Err errno.ECHILD) other is = (
-  is.0.looked,
-  subst (λ rows. AreOverForGood rows b.view.seen) (sym is.0.looked.grows.same.roster)
-      (λ more legal row within. is.0.final refl more legal row (within, refl)),
+no_child a b none = (
+  none.looked,
+  subst (λ rows. AreOverForGood rows b.view.seen) (sym none.looked.grows.same.roster)
+      (λ more legal row within. none.final refl more legal row (within, refl)),
 )
-no_child a b (Err errno.EINVAL) other is = absurd is
-no_child a b (Err errno.ESRCH) other is = absurd is
-no_child a b (Err errno.EIO) other is = absurd is
 
-pub waited : (a b : CallsHandle) (r : Result (Option RowStatus) Errno) (o : Option RowStatus) (found : RowStatus)
-    → r ≡ Ok o → o ≡ Some found → IsWaitRowAnswer (Some anyone) a b r → HasWaited a.view b.view found
-waited a b r o found ok some answer =
-    let is = subst (IsWaitRowAnswer (Some anyone) a b) (ok ∙ ap Ok some) answer in
+pub none_found : (a b : CallsHandle) (r : Option RowStatus) → ((found : RowStatus) → r ≡ Some found → ⊥)
+    → MatchOption r (NoChild anyone a.view b.view) (λ found. HasFound a b found) → NoChild anyone a.view b.view
+none_found a b None other is = is
+none_found a b (Some found) other is = absurd (other found refl)
+
+pub waited : (a b : CallsHandle) (found : RowStatus) → HasFound a b found → HasWaited a.view b.view found
+waited a b found has =
+    let is = has.1 in
     record {
       raw = is.raw;
       within = is.is_found.0.selected.0;
@@ -572,11 +573,10 @@ waited a b r o found ok some answer =
     }
 
 -- the record of a stop that a wait has claimed is the one that its tracee published
-pub recorded : (a b : CallsHandle) (r : Result (Option RowStatus) Errno) (o : Option RowStatus) (found : RowStatus)
-    → r ≡ Ok o → o ≡ Some found → IsWaitRowAnswer (Some anyone) a b r → HasClaimedRow b found.row → HasRecords b
+pub recorded : (a b : CallsHandle) (found : RowStatus) → HasFound a b found → HasClaimedRow b found.row → HasRecords b
     → claimed_record b found.row ≡ content_after b.view.roster b.view.seen found.row
-recorded a b r o found ok some answer has records =
-    let is = subst (IsWaitRowAnswer (Some anyone) a b) (ok ∙ ap Ok some) answer in
+recorded a b found answer has records =
+    let is = answer.1 in
     let content = content_after b.view.roster b.view.seen found.row in
     let made : b.records ≡ set a.records found.row (Some content) =
     is.records ∙ ap (λ held. cond held (set a.records found.row (Some content)) a.records) has.1 in

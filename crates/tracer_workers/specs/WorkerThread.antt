@@ -97,7 +97,7 @@ pub record HasServed (config : Config) (v w : View) (kept : List Piece) (short :
   pub pieces : AreKept (own_pieces (show_of config) v) (own_pieces (show_of config) w) kept short
   pub restarts : RestartsByPolicy config v w
 
--- a wait for any tracee has claimed a row's stop, or its death
+-- a wait has claimed a row's stop, or its death
 pub record HasWaited (v w : View) (found : RowStatus) : Type 0 where
   pub raw : ℕ
   pub within : found.row < length v.roster

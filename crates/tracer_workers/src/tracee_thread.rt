@@ -18,11 +18,15 @@ use crate::fault::FAULT_DEATH;
 use crate::invariants;
 use std::alloc::Allocator;
 use std::sync::Wait;
-use std::time::Clock;
+use std::thread;
+use std::time::{Clock, Duration};
 use stop_table::{GroupAlive, Start, Tracee};
 use trace_calls::Patience;
 use trace_record::{Death, Resume, StopRecord};
 use trace_script::{Machine, Next};
+
+/// How long a thread sleeps, in milliseconds, before it looks again whether its row is born.
+const BIRTH_PAUSE: u64 = 1;
 
 /// Runs a tracee's row from its birth to its death: each stop that it publishes is the next one of its script for the
 /// restart and the content that it took up, and it dies as its script says, or by SIGSEGV where a store of the script
@@ -50,18 +54,18 @@ pub fn run_tracee<A: Allocator, R: Wait + Clock>(
     run_row(rt, tracee, machine);
 }
 
-/// Waits for the row's birth; false where it is never born.
+/// Waits for the row's birth; false where it is never born. A row may be born late or never, so its thread sleeps between
+/// two looks: with all rows but a few unborn, looks without sleep would have the processors.
 fn await_birth<A: Allocator, R: Wait + Clock>(rt: &R, tracee: &mut Tracee<A>) -> bool
     requires { IsTraceeHandle tracee.old }
     ensures handle { HasLooked tracee.old tracee.new }
     ensures never { result ≡ false → IsFinal tracee.old.view.roster tracee.new.view.seen tracee.old.row start.Never }
 {
-    let mut patience = Patience::new();
     for _ in rt.forever() {
         match tracee.start() {
             Start::Born => return true,
             Start::Never => return false,
-            Start::NotYet => patience.wait(rt),
+            Start::NotYet => thread::sleep(rt, Duration::from_millis(BIRTH_PAUSE)),
         }
     }
     unreachable!()

@@ -1,13 +1,17 @@
 //! A worker's thread.
 
-ghost use Rattle.std.specs.Prelude.{◌≡◌, ◌≤◌, ◌∷◌, ◌++◌, [], List, MatchOption, None, Some, false};
+ghost use Rattle.std.specs.Prelude.{◌≡◌, ◌≢◌, ◌≤◌, ◌∷◌, ◌++◌, [], List, MatchOption, None, Ok, Some, false};
 ghost use Rattle.record_printer.specs.Piece as pieces;
 ghost use Rattle.stop_history.specs.declared.limits.TheConstants.{LAST_NUMBER};
 ghost use Rattle.stop_table.specs.Entry.{content_after};
 ghost use Rattle.stop_table.specs.Handle.{IsSame};
-ghost use Rattle.stop_table.specs.Tracer.{held_rows};
+ghost use Rattle.stop_table.specs.Tracer.{IsTracerHandle, held_rows};
+ghost use Rattle.trace_calls.specs.declared.row_status.RowStatus.{RowStatus};
+ghost use Rattle.trace_calls.specs.Answer.{HasFound};
 ghost use Rattle.trace_calls.specs.ByRow.{HasClaimedRow};
-ghost use Rattle.trace_calls.specs.Handle.{KeepsTable, claimed_record};
+ghost use Rattle.trace_calls.specs.Handle.{KeepsTable, claimed_record, tracer_of};
+ghost use Rattle.trace_calls.specs.Request.{anyone};
+ghost use Rattle.trace_calls.specs.Waiting.{NoChild};
 ghost use Rattle.trace_status.specs.WaitStatus.{pid_of};
 ghost use Rattle.tracer_workers.specs.Config.{show_of};
 ghost use Rattle.tracer_workers.specs.HistoryPieces.{stop_piece};
@@ -21,8 +25,8 @@ use record_printer::{Piece, death_piece, piece_of};
 use std::alloc::{Allocator, Global};
 use std::sync::Wait;
 use std::time::Clock;
-use trace_calls::{Calls, Id};
-use trace_options::WaitFlags;
+use trace_calls::{Calls, Id, RowStatus};
+use trace_options::{Errno, WaitFlags};
 use trace_record::Death;
 use trace_status::WaitStatus;
 
@@ -62,11 +66,12 @@ pub fn run_worker<A: Allocator + Copy, R: Wait + Clock, G: Gate>(
         short: false,
     };
     invariants::of_calls(calls);
+    let mut from = 0;
     for _ in rt.forever() {
-        let Ok(waited) = calls.wait_row_blocking(rt, Id::All, WaitFlags::WEXITED) else {
+        let Some(found) = next_found(rt, calls, from) else {
             return worked;
         };
-        let Some(found) = waited else { unreachable!() };
+        from = found.row.saturating_add(1);
         match death_of(found.status) {
             Some((tid, death)) => worked.keep_death(tid, found.number, death),
             None => {
@@ -77,6 +82,37 @@ pub fn run_worker<A: Allocator + Copy, R: Wait + Clock, G: Gate>(
         }
     }
     unreachable!()
+}
+
+/// What is served next: of the rows from this one on, tried in turn, the first that has a stop or a death; where none
+/// has, what a wait for all rows answers. None: no tracee can have one any more. So rows that have ended are not looked
+/// at again for each stop of a later row.
+fn next_found<A: Allocator, R: Wait + Clock>(
+    rt: &R,
+    calls: &mut Calls<A>,
+    from: u32,
+) -> Option<RowStatus>
+    requires { IsTracerHandle (tracer_of calls.old) }
+    ensures table { KeepsTable calls.old calls.new }
+    ensures answer { MatchOption result (NoChild anyone calls.old.view calls.new.view)
+        (λ found. HasFound calls.old calls.new found) }
+{
+    for row in from..calls.rows() {
+        if let Some(found) = status_in(calls.wait_one(row)) {
+            return Some(found);
+        }
+    }
+    status_in(calls.wait_row_blocking(rt, Id::All, WaitFlags::WEXITED))
+}
+
+/// The status that a wait answered, if it answered one.
+fn status_in(answer: Result<Option<RowStatus>, Errno>) -> Option<RowStatus>
+    ensures { MatchOption result ((found : RowStatus) → answer ≢ Ok (Some found)) (λ found. answer ≡ Ok (Some found)) }
+{
+    match answer {
+        Ok(found) => found,
+        Err(_) => None,
+    }
 }
 
 /// The death that a status reports, with the thread id, if it reports one.

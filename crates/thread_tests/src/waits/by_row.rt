@@ -63,6 +63,46 @@ fn a_wait_by_row_reports_the_row_and_claims_it(rt: HostRuntime) -> Result<(), Fa
     Ok(())
 }
 
+/// What a wait for one row answers; None where there is no such row.
+fn waited_for<A: Allocator>(
+    calls: &mut Calls<A>,
+    row: u32,
+) -> Option<Result<Option<RowStatus>, Errno>> {
+    if row >= calls.rows() {
+        return None;
+    }
+    Some(calls.wait_one(row))
+}
+
+#[test]
+fn a_wait_for_one_row_claims_that_row_alone(rt: HostRuntime) -> Result<(), Fail> {
+    // Row 0 is the parent, 100, at its fork; row 1 its child, 101, at its start.
+    let mut calls = over_a_fork(rt.alloc())?;
+    assert_eq!(rt; calls.rows(), 2);
+    assert_eq!(rt; waited_for(&mut calls, 1), Some(start_of(1, 101)));
+    let held = claims(&calls);
+    assert_eq!(rt; held, [None, Some((101, 1)), None]);
+    assert_eq!(rt; waited_for(&mut calls, 1), Some(Ok(None)), "it is claimed");
+    assert_eq!(rt; waited_for(&mut calls, 2), None, "there are two rows");
+    let _tracer = end(&rt, calls, &[101]);
+    Ok(())
+}
+
+#[test]
+fn a_wait_for_one_row_reaps_its_death(rt: HostRuntime) -> Result<(), Fail> {
+    let mut calls = over_a_death(rt.alloc())?;
+    // The root has made no stop.
+    let died = Ok(Some(RowStatus {
+        row: 0,
+        number: 0,
+        status: WaitStatus::Exited(100, 3),
+    }));
+    assert_eq!(rt; waited_for(&mut calls, 0), Some(died));
+    assert_eq!(rt; waited_for(&mut calls, 0), Some(Err(Errno::ECHILD)));
+    let _tracer = end(&rt, calls, &[]);
+    Ok(())
+}
+
 #[test]
 fn a_row_that_is_not_claimed_is_not_restarted(rt: HostRuntime) -> Result<(), Fail> {
     let mut calls = over_a_fork(rt.alloc())?;

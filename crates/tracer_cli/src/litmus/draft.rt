@@ -147,7 +147,7 @@ fn open_repeat<A: Allocator>(draft: &mut LitmusDraft<'_, A>, times: u32)
     draft.body.clear();
 }
 
-/// Ends the repeat that is open: its commands are done so many times.
+/// Ends the repeat that is open: its commands are done as often as it says.
 fn end_repeat<A: Allocator>(draft: &mut LitmusDraft<'_, A>) -> Result<(), Cause>
     requires { IsLitmusReading (litmus_reading_of draft.old) }
     ensures { TakesLine result (litmus_reading_of draft.new)
@@ -216,7 +216,7 @@ fn current_thread<A: Allocator>(draft: &LitmusDraft<'_, A>) -> Result<u32, Cause
     Ok((draft.names.len() - 1) as u32)
 }
 
-/// The place past so many more commands of the last thread, each of them so many times; or that they are too many.
+/// The place after this many more commands of the last thread, each of them repeated; or that they are too many.
 fn place_past<A: Allocator>(
     draft: &LitmusDraft<'_, A>,
     times: u32,

@@ -3,7 +3,6 @@ pub mod CameTrue
 pub mod Commands
 pub mod DoneTurns
 pub mod ExploredFiles
-pub mod FirstOf
 pub mod Guesses
 pub mod LinesBack
 pub mod LitmusCopies
@@ -22,7 +21,6 @@ pub mod Runs
 pub mod SixWords
 pub mod Tables
 pub mod TextOfParts
-pub mod Unmet
 pub mod WaitingFor
 pub mod WordsWritten
 pub mod Written

@@ -1,5 +1,5 @@
 -- A command is one of the repeat that is open, or else is done once.
-use Rattle.std.proofs.Common.{◌∙◌, Result, ap, subst, sym}
+use Rattle.std.proofs.Common.{Result, ap, refl, subst, sym}
 use Rattle.trace_script.specs.Reading.{TakesLine}
 use Rattle.trace_script.specs.declared.cause.Cause.{Cause}
 use Rattle.tracer_cli.specs.LitmusDraft.{litmus_reading_of, repeat_kept}
@@ -13,18 +13,12 @@ returns-in-None g c =
     let Takes : Result LitmusReading Cause → Type 0 = λ read.
     TakesLine c.take_once.result (litmus_reading_of c.take_once.new.draft) read in
     subst Takes
-    (sym (taken_once c.args.number old (litmus_reading_of c.require_reply.new.draft) c.args.command
-    c.in_ok-command.command c.in_ok-command-2.command c.in_ok-command.ensures
-    (sym (ap (λ (r : LitmusReading). r.repeat) c.in_ok-command-2.ensures.ok.1)
-    ∙ ap (λ t. repeat_kept t c.require_reply.new.draft.body.items) c.in-None.is) c.in_ok-command-2.ensures.ok.1
-    c.in_ok-command-2.ensures.ok.0)) c.take_once.ensures
+    (sym (taken_once old c.args.command c.in_ok-command.command c.in_ok-command.ensures
+    (ap (λ t. repeat_kept t c.args.draft.now.body.items) c.in-None.is))) c.take_once.ensures
 
 pub returns-else-is_err : goal.returns-else-is_err
 returns-else-is_err g c =
     let old = litmus_reading_of c.args.draft.now in
     let pushed = rw c.if-is_err.ensures.negation at c.push.ensures.items in
-    taken_in_repeat c.args.number old (litmus_reading_of c.require_reply.new.draft) c.args.command
-    c.in_ok-command.command c.in_ok-command-2.command c.require_reply.new.draft.times c.in-Some.field-0
-    c.require_reply.new.draft.body.items c.push.new.self.items c.in_ok-command.ensures c.in-Some.is
-    (sym (ap (λ (r : LitmusReading). r.repeat) c.in_ok-command-2.ensures.ok.1))
-    c.in_ok-command-2.ensures.ok.1 c.in_ok-command-2.ensures.ok.0 pushed
+    taken_in_repeat old c.args.command c.in_ok-command.command c.args.draft.now.times c.in-Some.field-0
+    c.args.draft.now.body.items c.push.new.self.items c.in_ok-command.ensures c.in-Some.is refl pushed

@@ -74,7 +74,8 @@ refused-code:
 	@RT=$(RT) tools/must_not_compile/check.sh $(OUT)/refused_code
 	@echo "refused-code: each was refused by the error that it names"
 
-# How many checks of wrong bodies run side by side: one a processor, where memory allows it. (`rt ci` sees to that itself.)
+# How many checks run side by side: one a processor, where memory allows it. By its own estimate of memory rt ci would run
+# two or three on 4 processors with 24 GB, and let the longest chain of proofs wait; RT_JOBS in the environment overrules.
 CHECKS = $(shell $(PYTHON) tools/checks_at_once.py 2> /dev/null || echo 1)
 
 # Says when a part of the gate begins, so that its output shows where the time goes.
@@ -88,7 +89,7 @@ check: kit
 	@$(MAKE) --no-print-directory one-meaning
 	@$(MAKE) --no-print-directory documents
 	$(call part,proofs from nothing$(COMMA) must-fail edits$(COMMA) tests and programs)
-	@$(RT) ci
+	@RT_JOBS=$${RT_JOBS:-$(CHECKS)} $(RT) ci
 	$(call part,wrong bodies)
 	@$(MAKE) --no-print-directory wrong-bodies-test
 	@$(MAKE) --no-print-directory wrong-bodies-changed

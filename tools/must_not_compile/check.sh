@@ -10,8 +10,8 @@ rt=${RT:-rt}
 program=$copy/crates/refused_code
 rm -rf "$copy"
 mkdir -p "$program/src" "$program/specs" "$program/proofs"
-for crate in trace_status trace_regs trace_options trace_pages trace_record mem_views stop_history stop_table \
-    trace_calls; do
+for crate in trace_status trace_regs trace_options trace_pages trace_record refusing_allocator mem_views stop_history \
+    stop_table trace_calls; do
   mkdir -p "$copy/crates/$crate"
   for part in src specs proofs; do cp -R "$top/crates/$crate/$part" "$copy/crates/$crate/"; done
   grep "^$crate:" "$top/crates.txt" >> "$copy/crates.txt"

@@ -17,8 +17,8 @@ use trace_record::{Kind, Resume, StopRecord};
 use trace_regs::Regs;
 
 impl<A: Allocator> Calls<A> {
-    /// The record of the stop that this caller has claimed of a tracee, with what the caller has written into it. None
-    /// where the caller has not claimed the tracee, or has resumed it since.
+    /// The record of the stop that this caller has claimed of a tracee, with what the caller has written into it. None if
+    /// this caller does not hold a stop of the tracee.
     pub fn claimed(&self, pid: i32) -> Option<&StopRecord<A>>
         ensures none { IfNone result (HasNotClaimed self.now pid) }
         ensures some { IfSome result (λ r. (row : _) × HasClaimed self.now pid row

@@ -53,7 +53,7 @@ impl<A: Allocator> Calls<A> {
     }
 
     /// `claimed` by row: the record of the stop that this caller has claimed of a row, with what the caller has written
-    /// into it. None where the caller has not claimed the row, or has resumed it since, and where there is no such row.
+    /// into it. None if this caller does not hold the row's stop, or if the roster has no such row.
     pub fn claimed_row(&self, row: u32) -> Option<&StopRecord<A>>
         ensures none { IfNone result (HasNotClaimedRow self.now row) }
         ensures some { IfSome result (λ r. HasClaimedRow self.now row × (r.now ≡ claimed_record self.now row)) }
@@ -67,8 +67,8 @@ impl<A: Allocator> Calls<A> {
         }
     }
 
-    /// `syscall` or `cont` by row: lets a claimed row run on, with its record as it is now. ESRCH: this caller has not
-    /// claimed it, or there is no such row. EIO: a signal above 64.
+    /// `syscall` or `cont` by row: resumes a claimed row with its record as it is now. Fails with ESRCH if this caller does
+    /// not hold the row's stop or the roster has no such row, and with EIO if the signal is above 64.
     pub fn restart_row(&mut self, row: u32, how: Resume) -> Result<(), Errno>
         ensures table { KeepsTable self.old self.new }
         ensures answer { IsRowRestart self.old self.new row how result }

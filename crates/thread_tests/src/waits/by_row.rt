@@ -63,7 +63,7 @@ fn a_wait_by_row_reports_the_row_and_claims_it(rt: HostRuntime) -> Result<(), Fa
     Ok(())
 }
 
-/// What a wait for one row answers; None where there is no such row.
+/// The answer of a wait for one row, or None if the roster has no such row.
 fn waited_for<A: Allocator>(
     calls: &mut Calls<A>,
     row: u32,

@@ -11,7 +11,7 @@ calls the program `program`, so a usage begins with `Usage: program`. A program 
 
 An example NAME has NAME.args, its words after the name of its folder, one a line; NAME.stdout, NAME.stderr and
 NAME.status are what it prints and its exit status. One that is not there stands for nothing, and for 0. Of an example
-of examples/explore outcomes.py says what else is run.
+of examples/explore outcomes.py says what else is run. Of random litmus files litmus.py says what is printed.
 
 A file of cases has lines of these kinds. Spaces before them do not matter.
 
@@ -48,6 +48,7 @@ import sys
 import tempfile
 import time
 
+import litmus
 import outcomes
 
 TOP = pathlib.Path(__file__).resolve().parent.parent
@@ -58,6 +59,8 @@ COUNT = re.compile(r"\{n(?:\*(\d+))?\}")
 ENDED = re.compile(rb"case=(\S+) run=(\S+)(?: status=(\d+))? .*proved=no\n")
 BESIDE = (".args", ".stdout", ".stderr", ".status")
 SHOWN = 2000
+# How many random litmus files are run.
+RANDOM_FILES = 200
 # The most that a run of a built program may take.
 SECONDS = 120
 
@@ -214,10 +217,21 @@ def example(path):
 
 def followed(run):
     """What else is run of an example of examples/explore."""
-    for words, given, stdout, stderr, status in outcomes.follow(run.given, run.wanted["stdout"]):
-        more = Run(f"{run.where}, tracer {' '.join(words)}", [word.encode() for word in words], given)
-        more.wanted, more.status = {"stdout": stdout, "stderr": stderr}, status
-        yield more
+    options = [word.decode() for word in run.words[1:]]
+    for found in outcomes.follow(options, run.given, run.wanted["stdout"]):
+        yield wanted_run(f"{run.where}, tracer {' '.join(found[0])}", *found)
+
+
+def wanted_run(where, words, given, stdout, stderr, status):
+    run = Run(where, [word.encode() for word in words], given)
+    run.wanted, run.status = {"stdout": stdout, "stderr": stderr}, status
+    return run
+
+
+def random_runs():
+    """The runs of random litmus files, with what litmus.py makes of them."""
+    for number, found in enumerate(litmus.random_runs(RANDOM_FILES), 1):
+        yield wanted_run(f"random litmus file {number}:\n{found[1].decode()}", *found)
 
 
 def report_of(runs):
@@ -317,6 +331,9 @@ def all_runs():
             more = [it for run in found for it in followed(run)]
             runs += more
             print(f"  {len(more):4} more runs of these, with options and as replays")
+    more = [*random_runs()]
+    runs += more
+    print(f"  {len(more):4} random litmus files")
     paths = sorted((TOP / "tests/cases").glob("*.cases"))
     for path in paths:
         found = runs_of_file(path)

@@ -7,7 +7,8 @@ use Rattle.std.proofs.lemmas.Option.{none-some, same_Some, slice_get_within}
 use Rattle.stop_explorer.specs.declared.command.ThreadCommand.{ThreadCommand}
 use Rattle.stop_explorer.specs.Program.{Log}
 use Rattle.stop_explorer.specs.Replies.{DoneCommand, HaveComeTrue, WasDone, done_by_thread}
-use Rattle.tracer_cli.specs.Chosen.{has_come_true, has_reply, has_thread_come_true, have_come_true, was_done}
+use Rattle.stop_explorer.specs.Progress.{has_reply}
+use Rattle.tracer_cli.specs.Chosen.{has_come_true, has_thread_come_true, have_come_true, was_done}
 use Rattle.tracer_cli.proofs.AllOf.{all_pass, passes_at}
 
 -- ---- a command that was done

@@ -10,7 +10,7 @@ use Rattle.tracer_cli.specs.declared.arguments.Request.{Request}
 use Rattle.tracer_cli.specs.declared.arguments.Request.TheVariants.{Replay, Run, Explore, Help}
 use Rattle.tracer_cli.specs.declared.failure.Failure.{Failure}
 use Rattle.tracer_cli.specs.declared.failure.Failure.TheVariants.{Usage, NoMemory}
-use Rattle.tracer_cli.specs.Arguments.{FoundSubcommand, IsAskedBy, IsFailureBy, IsHelp, IsNamed, IsTakenRequest}
+use Rattle.tracer_cli.specs.Arguments.{IsAskedBy, IsFailureBy, IsHelp, IsNamedBy, IsTakenBy}
 use Rattle.tracer_cli.specs.Arguments.{shows_text, tracer_app}
 
 pub is_known : is_simple tracer_app ≡ true
@@ -33,20 +33,27 @@ failed words e (Ok (Explore options file)) has memory help usage = absurd help.0
 failed words e (Ok (Help text)) (inl none) memory help usage = absurd (let clash = memory none in cc)
 failed words e (Ok (Help text)) (inr among) memory help usage = (kind_of e, among, help.1)
 failed words e (Err (Usage text)) (inl none) memory help usage = absurd (usage.0 none)
-failed words e (Err (Usage text)) (inr among) memory help usage = (kind_of e, among, usage.1)
+failed words e (Err (Usage text)) (inr among) memory help usage = inl (kind_of e, among, usage.1)
 failed words e (Err NoMemory) has memory help usage = tt
 failed words e (Err failure) has memory help usage = absurd usage
 
 -- what is asked for by words that do not fail
-pub named : (words : List (List ℕ)) (request : Request) → fault_of tracer_app words ≡ []
-    → IsNamed (subcommand_of tracer_app words) request → IsAskedBy words (Ok request)
-named words (Replay file) fits is_named = (fits, is_named)
-named words (Run options file) fits is_named = (fits, is_named)
-named words (Explore options file) fits is_named = (fits, is_named)
-named words (Help text) fits is_named = absurd is_named
+pub named : (words : List (List ℕ)) (asked : Result Request Failure) → fault_of tracer_app words ≡ []
+    → IsNamedBy (subcommand_of tracer_app words) asked → IsAskedBy words asked
+named words (Ok (Replay file)) fits is_named = (fits, is_named)
+named words (Ok (Run options file)) fits is_named = (fits, is_named)
+named words (Ok (Explore options file)) fits is_named = (fits, is_named)
+named words (Ok (Help text)) fits is_named = absurd is_named
+named words (Err (Usage text)) fits is_named = inr (fits, is_named)
+named words (Err NoMemory) fits is_named = tt
+named words (Err failure) fits is_named = absurd is_named
 
-pub named_is_taken : (found : FoundSubcommand) (request : Request) → IsNamed found request → IsTakenRequest (Ok request)
-named_is_taken found (Replay file) is_named = tt
-named_is_taken found (Run options file) is_named = tt
-named_is_taken found (Explore options file) is_named = tt
-named_is_taken found (Help text) is_named = absurd is_named
+pub named_is_taken : (words : List (List ℕ)) (asked : Result Request Failure)
+    → IsNamedBy (subcommand_of tracer_app words) asked → IsTakenBy words asked
+named_is_taken words (Ok (Replay file)) is_named = tt
+named_is_taken words (Ok (Run options file)) is_named = tt
+named_is_taken words (Ok (Explore options file)) is_named = tt
+named_is_taken words (Ok (Help text)) is_named = absurd is_named
+named_is_taken words (Err (Usage text)) is_named = is_named
+named_is_taken words (Err NoMemory) is_named = tt
+named_is_taken words (Err failure) is_named = absurd is_named

@@ -1,19 +1,138 @@
--- What is shown of the program of a litmus file: by its own commands, as the lists of each thread have them.
-use Rattle.std.proofs.Common.{refl, ◌≡◌, ◌∙◌, ℕ, Bool, false, List, Option, Some, None, ap, length, sym}
+-- What is found of the program of a litmus file, by its own commands, as the lists of each thread have them.
+use Rattle.std.proofs.Common.{refl, ◌≡◌, ◌∙◌, ◌<◌, ◌≤◌, ◌-◌, ◌==◌, ◌⊎◌, ℕ, Bool, true, false, not, List, Option, Some, None}
+use Rattle.std.proofs.Common.{ap, inl, inr, length, slice_get, subst, sym}
 use Rattle.std.proofs.Math.Path.{fun_ext}
+use Rattle.std.proofs.lemmas.Option.{same_Some}
 use Rattle.std.proofs.lemmas.List.Elements.{All-filter, All-map, All-same, All-weaker}
-use Rattle.std.specs.List.{All}
-use Rattle.std.specs.Prelude.{filter, map}
+use Rattle.std.specs.List.{All, list_any}
+use Rattle.std.specs.Prelude.{cond, filter, map}
+use Rattle.std.specs.Prelude.{Ok}
+use Rattle.stop_history.specs.Event.{History}
 use Rattle.stop_history.specs.declared.roster.Row.{Row}
 use Rattle.stop_explorer.specs.declared.command.ProgramLine.{ProgramLine}
 use Rattle.stop_explorer.specs.declared.command.ThreadCommand.{ThreadCommand}
-use Rattle.stop_explorer.specs.Program.{is_line_of, own_commands}
-use Rattle.stop_explorer.specs.Run.{EndedRun}
-use Rattle.tracer_cli.specs.Explored.{asked_text, forbids}
+use Rattle.stop_explorer.specs.declared.voice.Voice.{Voice}
+use Rattle.stop_explorer.specs.Places.{HasMorePlaces, HasPlaces}
+use Rattle.stop_explorer.specs.Program.{Log, Program, is_line_of, own_commands}
+use Rattle.stop_explorer.specs.Progress.{is_quiet}
+use Rattle.stop_explorer.specs.Run.{AreDistinct, AreEndings, EndedRun, HasOutcome, IsRun, ended_run}
+use Rattle.tracer_cli.specs.declared.litmus.required.Condition.{Condition}
+use Rattle.tracer_cli.specs.Chosen.{chosen_of, is_chosen}
+use Rattle.tracer_cli.specs.Explored.{AreOutcomes, HasMorePlacesWith, chosen_with, commands_with, have_numbers_to}
+use Rattle.tracer_cli.specs.Explored.{CanMeet, IsForbiddenText, IsListed, IsSearched, IsShown, IsUnshown, all_required, all_text}
+use Rattle.tracer_cli.specs.Explored.{asked_text, forbids, is_chosen_with, number_asked, shows_ends}
+use Rattle.tracer_cli.specs.declared.arguments.ExploreOptions.{ExploreOptions}
+use Rattle.tracer_cli.specs.declared.arguments.Listing.{Listing}
+use Rattle.tracer_cli.specs.declared.arguments.Listing.TheVariants as listing
+use Rattle.tracer_cli.specs.declared.explored.Searched.{Searched}
+use Rattle.tracer_cli.specs.declared.failure.Failure.TheVariants.{NoOutcome}
 use Rattle.tracer_cli.specs.LitmusFile.{LitmusContent}
 use Rattle.tracer_cli.specs.LitmusGrammar.{HasTracer, IsLitmusCall}
+use Rattle.tracer_cli.specs.OutcomeEnds.{ends_text}
 use Rattle.tracer_cli.specs.OutcomeOrder.{HaveTracers, outcome_replay}
-use Rattle.tracer_cli.specs.OutcomeText.{explored_text, is_forbidden}
+use Rattle.tracer_cli.specs.OutcomeText.{chosen_text}
+use Rattle.tracer_cli.specs.Required.{conditions_with, program_with}
+use Rattle.tracer_cli.specs.declared.litmus.file.LitmusFile.{LitmusFile}
+use Rattle.tracer_cli.specs.declared.litmus.required.NumberedLine.{NumberedLine}
+use Rattle.tracer_cli.specs.LitmusDraft.{IsLitmusFile, content_in}
+use Rattle.tracer_cli.proofs.LitmusFiles.{length_kept}
+use Rattle.tracer_cli.proofs.Unmet.{AreKnown, program_within}
+
+-- ---- what a search finds, by its program
+
+pub record AreFound (rows : List Row) (voices : List Voice) (threads : ℕ) (program : Program) (found : List EndedRun)
+    (places : ℕ) : Type 0 where
+  pub complete : (run : Log) (last : History) → IsRun rows (own_commands program) run last
+      → HasOutcome (is_quiet voices) (own_commands program) found (ended_run rows run last)
+  pub sound : AreEndings rows threads (own_commands program) found
+  pub distinct : AreDistinct (is_quiet voices) (own_commands program) found
+  pub counted : HasPlaces rows (is_quiet voices) (own_commands program) places
+
+abbrev AreFoundBy : LitmusContent → Program → List EndedRun → (places : ℕ) → Type 0
+AreFoundBy content program found places =
+    AreFound content.rows content.voices (length content.names) program found places
+
+outcomes_of : (content : LitmusContent) (count places : ℕ) (found : List EndedRun)
+    → AreFoundBy content (program_with count content.lines) found places → AreOutcomes content count found places
+outcomes_of content count places found all =
+    record { complete = all.complete; sound = all.sound; distinct = all.distinct; counted = all.counted }
+
+found_of_outcomes : (content : LitmusContent) (count places : ℕ) (found : List EndedRun)
+    → AreOutcomes content count found places → AreFoundBy content (program_with count content.lines) found places
+found_of_outcomes content count places found all =
+    record { complete = all.complete; sound = all.sound; distinct = all.distinct; counted = all.counted }
+
+pub outcomes_with : (content : LitmusContent) (count places : ℕ) (voices : List Voice) (program : Program)
+    (found : List EndedRun) → program ≡ program_with count content.lines → voices ≡ content.voices
+    → length content.voices ≡ length content.names → AreFound content.rows voices (length voices) program found places
+    → AreOutcomes content count found places
+outcomes_with content count places voices program found program_is voices_are long all =
+    let with_program = subst (λ p. AreFound content.rows voices (length voices) p found places) program_is all in
+    let with_voices = subst
+    (λ v. AreFound content.rows v (length v) (program_with count content.lines) found places) voices_are with_program in
+    outcomes_of content count places found
+    (subst (λ n. AreFound content.rows content.voices n (program_with count content.lines) found places) long
+    with_voices)
+
+pub more_with : (content : LitmusContent) (count budget : ℕ) (voices : List Voice) (program : Program)
+    → program ≡ program_with count content.lines → voices ≡ content.voices
+    → HasMorePlaces content.rows (is_quiet voices) (own_commands program) budget
+    → HasMorePlacesWith content count budget
+more_with content count budget voices program program_is voices_are more =
+    subst (λ v. HasMorePlaces content.rows (is_quiet v) (commands_with content count) budget) voices_are
+    (subst (λ p. HasMorePlaces content.rows (is_quiet voices) (own_commands p) budget) program_is more)
+
+-- a search with more requirements tells of fewer, where these have all replies
+pub outcomes_within : (content : LitmusContent) (count more places : ℕ) (found : List EndedRun) → count ≤ more
+    → have_numbers_to count content.lines ≡ true → AreOutcomes content more found places
+    → AreOutcomes content count found places
+outcomes_within content count more places found few within all =
+    outcomes_of content count places found
+    (subst (λ p. AreFoundBy content p found places) (sym (program_within count more content.lines few within))
+    (found_of_outcomes content more places found all))
+
+-- what is known of the lines of a file that was read
+pub known_of : {Z : Type 0} (file : LitmusFile Z) → IsLitmusFile file → AreKnown (content_in file)
+known_of file known = record {
+  threads = subst (λ n. All (λ (l : NumberedLine). l.line.thread < n) file.lines.items)
+      (sym (length_kept file.names.items)) known.threads;
+  forward = known.forward;
+}
+
+-- ---- which outcomes are chosen
+
+test_is : (content : LitmusContent) (count threads : ℕ) (lists : ℕ → List ThreadCommand) (conditions : List Condition)
+    → threads ≡ length content.names → ((thread : ℕ) → lists thread ≡ commands_with content count thread)
+    → conditions ≡ conditions_with count content.conditions
+    → is_chosen threads lists conditions ≡ is_chosen_with content count
+test_is content count threads lists conditions long own conditions_are =
+    ap (λ n. is_chosen n lists conditions) long
+    ∙ ap (λ l. is_chosen (length content.names) l conditions) (fun_ext own)
+    ∙ ap (λ c. is_chosen (length content.names) (commands_with content count) c) conditions_are
+
+pub some_chosen_is : (content : LitmusContent) (count threads : ℕ) (lists : ℕ → List ThreadCommand)
+    (conditions : List Condition) (found : List EndedRun) → threads ≡ length content.names
+    → ((thread : ℕ) → lists thread ≡ commands_with content count thread)
+    → conditions ≡ conditions_with count content.conditions
+    → list_any (is_chosen threads lists conditions) found ≡ list_any (is_chosen_with content count) found
+some_chosen_is content count threads lists conditions found long own conditions_are =
+    ap (λ test. list_any test found) (test_is content count threads lists conditions long own conditions_are)
+
+pub chosen_is : (content : LitmusContent) (count threads : ℕ) (lists : ℕ → List ThreadCommand)
+    (conditions : List Condition) (found : List EndedRun) → threads ≡ length content.names
+    → ((thread : ℕ) → lists thread ≡ commands_with content count thread)
+    → conditions ≡ conditions_with count content.conditions
+    → chosen_of threads lists conditions found ≡ chosen_with content count found
+chosen_is content count threads lists conditions found long own conditions_are =
+    ap (λ test. filter test found) (test_is content count threads lists conditions long own conditions_are)
+
+-- the same commands with fewer requirements, where these have all replies
+pub commands_within : (content : LitmusContent) (count more : ℕ) (lists : ℕ → List ThreadCommand) → count ≤ more
+    → have_numbers_to count content.lines ≡ true
+    → ((thread : ℕ) → lists thread ≡ commands_with content more thread) → (thread : ℕ)
+    → lists thread ≡ commands_with content count thread
+commands_within content count more lists few within own thread =
+    own thread ∙ sym (ap (λ p. own_commands p thread) (program_within count more content.lines few within))
 
 pub have_tracers : (lists : ℕ → List ThreadCommand) (lines : List ProgramLine)
     → ((thread : ℕ) → lists thread ≡ own_commands lines thread) → All (λ line. IsLitmusCall line.command.call) lines
@@ -26,37 +145,129 @@ have_tracers lists lines same calls thread =
     (All-map Has (λ (line : ProgramLine). line.command) (filter (is_line_of thread) lines)
     (All-filter (is_line_of thread) LineHas lines (All-weaker Calls LineHas (λ line known. known.1) lines calls)))
 
-pub all_shown : (content : LitmusContent) (found runs : List EndedRun) (places threads : ℕ) (outcome : Option ℕ)
-    (lists : ℕ → List ThreadCommand) (rows : List Row) (names : List (Option (List ℕ))) (text : List ℕ) (forbidden : Bool)
-    → outcome ≡ None → rows ≡ content.rows → names ≡ content.names → runs ≡ found → threads ≡ length content.names
-    → ((thread : ℕ) → lists thread ≡ own_commands content.lines thread)
-    → text ≡ explored_text rows names lists places found → forbidden ≡ is_forbidden threads lists runs
-    → (asked_text outcome content found places ≡ Some text) × (forbidden ≡ forbids outcome content found)
-all_shown content found runs places threads outcome lists rows names text forbidden none rows_are names_are runs_are
-    long same written is =
-    let own : lists ≡ own_commands content.lines = fun_ext same in (
-      ap (λ o. asked_text o content found places) none
-          ∙ ap (λ (t : List ℕ). Some t)
-          (sym (written ∙ ap (λ r. explored_text r names lists places found) rows_are
-          ∙ ap (λ n. explored_text content.rows n lists places found) names_are
-          ∙ ap (λ l. explored_text content.rows content.names l places found) own)),
-      is ∙ ap (λ n. is_forbidden n lists runs) long ∙ ap (λ l. is_forbidden (length content.names) l runs) own
-          ∙ ap (λ r. is_forbidden (length content.names) (own_commands content.lines) r) runs_are
-          ∙ sym (ap (λ o. forbids o content found) none),
-    )
+-- ---- one outcome
 
-pub one_shown : (content : LitmusContent) (found : List EndedRun) (places threads number : ℕ) (outcome : Option ℕ)
-    (lists : ℕ → List ThreadCommand) (rows : List Row) (shown : Option (List ℕ)) (text : List ℕ)
-    → outcome ≡ Some number → rows ≡ content.rows → threads ≡ length content.names
-    → ((thread : ℕ) → lists thread ≡ own_commands content.lines thread)
-    → shown ≡ outcome_replay rows threads lists number found → shown ≡ Some text
-    → (asked_text outcome content found places ≡ Some text) × (false ≡ forbids outcome content found)
-one_shown content found places threads number outcome lists rows shown text some rows_are long same written is =
-    let own : lists ≡ own_commands content.lines = fun_ext same in (
-      ap (λ o. asked_text o content found places) some
-          ∙ sym (written ∙ ap (λ r. outcome_replay r threads lists number found) rows_are
-          ∙ ap (λ n. outcome_replay content.rows n lists number found) long
-          ∙ ap (λ l. outcome_replay content.rows (length content.names) l number found) own)
-          ∙ is,
-      sym (ap (λ o. forbids o content found) some),
-    )
+asked_is : (asked : Listing) (number : ℕ) → number_asked asked ≡ Some number → asked ≡ listing.Replay number
+asked_is (listing.Replay other) number is = ap listing.Replay (same_Some other number is)
+asked_is listing.Outcomes number is = absurd (let clash : None ≡ Some number = is in cc)
+asked_is listing.Ends number is = absurd (let clash : None ≡ Some number = is in cc)
+
+pub order_is : (content : LitmusContent) (number threads places : ℕ) (lists : ℕ → List ThreadCommand)
+    (conditions : List Condition) (rows : List Row) (found : List EndedRun) (shown : Option (List ℕ))
+    → rows ≡ content.rows → threads ≡ length content.names
+    → ((thread : ℕ) → lists thread ≡ commands_with content (all_required content) thread)
+    → conditions ≡ conditions_with (all_required content) content.conditions
+    → shown ≡ outcome_replay rows lists number (chosen_of threads lists conditions found)
+    → shown ≡ asked_text (listing.Replay number) content found places
+order_is content number threads places lists conditions rows found shown rows_are long own conditions_are is =
+    is ∙ ap (λ r. outcome_replay r lists number (chosen_of threads lists conditions found)) rows_are
+    ∙ ap (λ l. outcome_replay content.rows l number (chosen_of threads lists conditions found)) (fun_ext own)
+    ∙ ap (outcome_replay content.rows (commands_with content (all_required content)) number)
+    (chosen_is content (all_required content) threads lists conditions found long own conditions_are)
+
+pub order_shown : (options : ExploreOptions) (content : LitmusContent) (searched : Searched) (number : ℕ)
+    (shown : Option (List ℕ)) (text : List ℕ) → IsSearched content options.budget (all_required content) searched
+    → number_asked options.listing ≡ Some number
+    → shown ≡ asked_text (listing.Replay number) content searched.explored.runs.items searched.explored.places
+    → shown ≡ Some text → IsShown options content text false
+order_shown options content searched number shown text known asked is some = record {
+  found = searched.explored.runs.items;
+  places = searched.explored.places;
+  all = known.all;
+  few = known.few;
+  shows = ap (λ l. asked_text l content searched.explored.runs.items searched.explored.places)
+      (asked_is options.listing number asked) ∙ sym is ∙ some;
+}
+
+pub no_order : (options : ExploreOptions) (content : LitmusContent) (searched : Searched) (number : ℕ)
+    (shown : Option (List ℕ)) → IsSearched content options.budget (all_required content) searched
+    → number_asked options.listing ≡ Some number
+    → shown ≡ asked_text (listing.Replay number) content searched.explored.runs.items searched.explored.places
+    → shown ≡ None → IsUnshown options (Ok content) (NoOutcome number)
+no_order options content searched number shown known asked is none = record {
+  found = searched.explored.runs.items;
+  places = searched.explored.places;
+  all = known.all;
+  few = known.few;
+  asked = asked_is options.listing number asked;
+  none = ap (λ l. asked_text l content searched.explored.runs.items searched.explored.places)
+      (asked_is options.listing number asked) ∙ sym is ∙ none;
+}
+
+-- ---- all outcomes
+
+pub ends_are : (content : LitmusContent) (threads places : ℕ) (lists : ℕ → List ThreadCommand)
+    (conditions : List Condition) (rows : List Row) (names : List (Option (List ℕ))) (required : Bool)
+    (found : List EndedRun) (text : List ℕ) → rows ≡ content.rows → names ≡ content.names
+    → threads ≡ length content.names
+    → ((thread : ℕ) → lists thread ≡ commands_with content (all_required content) thread)
+    → conditions ≡ conditions_with (all_required content) content.conditions
+    → required ≡ not (all_required content == 0)
+    → text ≡ ends_text rows names lists required places (chosen_of threads lists conditions found)
+    → text ≡ all_text true content places (chosen_with content (all_required content) found)
+ends_are content threads places lists conditions rows names required found text rows_are names_are long own
+    conditions_are required_is is =
+    let chosen : List EndedRun = chosen_of threads lists conditions found in
+    is ∙ ap (λ r. ends_text r names lists required places chosen) rows_are
+    ∙ ap (λ n. ends_text content.rows n lists required places chosen) names_are
+    ∙ ap (λ l. ends_text content.rows content.names l required places chosen) (fun_ext own)
+    ∙ ap (λ q. ends_text content.rows content.names (commands_with content (all_required content)) q places chosen)
+    required_is
+    ∙ ap (all_text true content places)
+    (chosen_is content (all_required content) threads lists conditions found long own conditions_are)
+
+pub texts_are : (content : LitmusContent) (threads places : ℕ) (lists : ℕ → List ThreadCommand)
+    (conditions : List Condition) (rows : List Row) (names : List (Option (List ℕ))) (voices : List Voice)
+    (required : Bool) (found : List EndedRun) (text : List ℕ) → rows ≡ content.rows → names ≡ content.names
+    → voices ≡ content.voices → threads ≡ length content.names
+    → ((thread : ℕ) → lists thread ≡ commands_with content (all_required content) thread)
+    → conditions ≡ conditions_with (all_required content) content.conditions
+    → required ≡ not (all_required content == 0)
+    → text ≡ chosen_text rows names voices lists required places (chosen_of threads lists conditions found)
+    → text ≡ all_text false content places (chosen_with content (all_required content) found)
+texts_are content threads places lists conditions rows names voices required found text rows_are names_are voices_are
+    long own conditions_are required_is is =
+    let chosen : List EndedRun = chosen_of threads lists conditions found in
+    is ∙ ap (λ r. chosen_text r names voices lists required places chosen) rows_are
+    ∙ ap (λ n. chosen_text content.rows n voices lists required places chosen) names_are
+    ∙ ap (λ v. chosen_text content.rows content.names v lists required places chosen) voices_are
+    ∙ ap (λ l. chosen_text content.rows content.names content.voices l required places chosen) (fun_ext own)
+    ∙ ap (λ q. chosen_text content.rows content.names content.voices
+    (commands_with content (all_required content)) q places chosen) required_is
+    ∙ ap (all_text false content places)
+    (chosen_is content (all_required content) threads lists conditions found long own conditions_are)
+
+all_listed : (asked : Listing) (content : LitmusContent) (found : List EndedRun) (places : ℕ) (text : List ℕ)
+    → number_asked asked ≡ None
+    → forbids content.requirements (chosen_with content (all_required content) found) ≡ false
+    → text ≡ all_text (shows_ends asked) content places (chosen_with content (all_required content) found)
+    → asked_text asked content found places ≡ Some text
+all_listed (listing.Replay number) content found places text none allowed is =
+    absurd (let clash : Some number ≡ None = none in cc)
+all_listed listing.Outcomes content found places text none allowed is =
+    ap (λ (b : Bool). cond b None (Some (all_text false content places (chosen_with content (all_required content) found))))
+    allowed ∙ ap Some (sym is)
+all_listed listing.Ends content found places text none allowed is =
+    ap (λ (b : Bool). cond b None (Some (all_text true content places (chosen_with content (all_required content) found))))
+    allowed ∙ ap Some (sym is)
+
+pub all_shown : (options : ExploreOptions) (content : LitmusContent) (searched : Searched) (text : List ℕ)
+    → IsSearched content options.budget (all_required content) searched → number_asked options.listing ≡ None
+    → forbids content.requirements (chosen_with content (all_required content) searched.explored.runs.items) ≡ false
+    → text ≡ all_text (shows_ends options.listing) content searched.explored.places
+    (chosen_with content (all_required content) searched.explored.runs.items)
+    → IsShown options content text false
+all_shown options content searched text known none allowed is = record {
+  found = searched.explored.runs.items;
+  places = searched.explored.places;
+  all = known.all;
+  few = known.few;
+  shows = all_listed options.listing content searched.explored.runs.items searched.explored.places text none allowed is;
+}
+
+-- ---- that nothing has all that the file requires
+
+pub forbidden_shown : (options : ExploreOptions) (content : LitmusContent) (text : List ℕ)
+    → number_asked options.listing ≡ None → (CanMeet content (all_required content) → ⊥)
+    → IsForbiddenText options.budget content text → IsShown options content text true
+forbidden_shown options content text none unmet says = record { lists = none; unmet = unmet; says = says }

@@ -3,10 +3,12 @@ pub mod CameTrue
 pub mod Commands
 pub mod DoneTurns
 pub mod ExploredFiles
+pub mod FirstOf
 pub mod Guesses
 pub mod LinesBack
 pub mod LitmusCopies
 pub mod LitmusFiles
+pub mod LitmusForward
 pub mod LitmusNames
 pub mod LitmusRanges
 pub mod LitmusSteps
@@ -20,7 +22,9 @@ pub mod ReadBack
 pub mod Runs
 pub mod SixWords
 pub mod Tables
+pub mod Tallies
 pub mod TextOfParts
+pub mod Unmet
 pub mod WaitingFor
 pub mod WordsWritten
 pub mod Written

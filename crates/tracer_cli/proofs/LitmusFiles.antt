@@ -6,15 +6,15 @@ use Rattle.std.proofs.lemmas.List.{length-map}
 use Rattle.std.proofs.lemmas.List.Elements.{All-cons, All-head, All-nil, All-tail}
 use Rattle.std.specs.Option.{option_map}
 use Rattle.std.proofs.lemmas.Bool.Decides.{nat_tests}
-use Rattle.stop_explorer.specs.declared.command.ThreadCommand.{ThreadCommand}
 use Rattle.text_lines.specs.Lines.{last_line, lines_of}
 use Rattle.text_lines.specs.Ranges.{◌>>=◌}
 use Rattle.trace_script.specs.Reading.{Refuses, most_bytes}
 use Rattle.trace_script.specs.declared.cause.CaseError.{CaseError}
 use Rattle.trace_script.specs.declared.cause.Cause.{Cause}
 use Rattle.trace_script.specs.declared.cause.Cause.TheVariants.{NoEnd, NoMemory}
+use Rattle.tracer_cli.specs.declared.litmus.required.NumberedCommand.{NumberedCommand}
 use Rattle.tracer_cli.specs.LitmusDraft.{AreTexts, names_kept, repeat_kept}
-use Rattle.tracer_cli.specs.LitmusFile.{AreNames, LitmusReading, OpenRepeat, content_unless_open, litmus_content_of}
+use Rattle.tracer_cli.specs.LitmusFile.{AreNames, LitmusContent, LitmusReading, OpenRepeat, content_unless_open, litmus_content_of}
 use Rattle.tracer_cli.specs.LitmusFile.{litmus_lines_after, litmus_lines_read, no_lines}
 
 few_by : {A : Type 0} (n most : ℕ) (x y : A) → n ≤ most → cond (nat_le n most) x y ≡ x
@@ -41,9 +41,19 @@ refused_by_line text cause line few is =
 
 -- ---- after the last line
 
-pub is_open : (times : Option ℕ) (body : List ThreadCommand) → is_some (repeat_kept times body) ≡ is_some times
+pub is_open : (times : Option ℕ) (body : List NumberedCommand) → is_some (repeat_kept times body) ≡ is_some times
 is_open None body = refl
 is_open (Some times) body = refl
+
+abbrev content_read : LitmusReading → LitmusContent
+content_read all = record {
+  rows = all.rows;
+  names = all.names;
+  voices = all.voices;
+  lines = all.lines;
+  requirements = all.requirements;
+  conditions = all.conditions;
+}
 
 open_refused : (last : ℕ) (all : LitmusReading) (repeat : Option OpenRepeat) → is_some repeat ≡ true
     → content_unless_open last all repeat ≡ Err (record { line = last; cause = NoEnd })
@@ -51,7 +61,7 @@ open_refused last all None is = absurd (let clash : false ≡ true = is in cc)
 open_refused last all (Some repeat) is = refl
 
 closed_read : (last : ℕ) (all : LitmusReading) (repeat : Option OpenRepeat) → is_some repeat ≡ false
-    → content_unless_open last all repeat ≡ Ok (record { rows = all.rows; names = all.names; lines = all.lines })
+    → content_unless_open last all repeat ≡ Ok (content_read all)
 closed_read last all None is = refl
 closed_read last all (Some repeat) is = absurd (let clash : true ≡ false = is in cc)
 
@@ -62,7 +72,7 @@ refused_at_end text all read is =
     ∙ open_refused (last_line text) all all.repeat is
 
 pub content_is : (text : List ℕ) (all : LitmusReading) → litmus_lines_read text ≡ Ok all → is_some all.repeat ≡ false
-    → litmus_content_of text ≡ Ok (record { rows = all.rows; names = all.names; lines = all.lines })
+    → litmus_content_of text ≡ Ok (content_read all)
 content_is text all read is =
     ap (λ r. r >>= λ all. content_unless_open (last_line text) all all.repeat) read
     ∙ closed_read (last_line text) all all.repeat is

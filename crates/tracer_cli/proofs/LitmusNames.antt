@@ -6,12 +6,14 @@ use Rattle.std.proofs.lemmas.Str.{IsUtf8-from_ascii}
 use Rattle.std.specs.List.{list_all}
 use Rattle.std.specs.Prelude.{IsUtf8}
 use Rattle.std.specs.Str.{IsAscii}
+use Rattle.stop_explorer.specs.declared.voice.Voice.{Voice}
 use Rattle.stop_history.specs.declared.roster.Row.{Row}
 use Rattle.text_lines.specs.declared.fault.LineFault.{LineFault}
 use Rattle.text_lines.specs.declared.fault.LineFault.TheVariants.{UnknownWord}
 use Rattle.text_lines.specs.Lines.{nth_word}
 use Rattle.text_lines.specs.Ranges.{◌>>=◌, number_between}
 use Rattle.trace_script.specs.RowWords.{row_of_words}
+use Rattle.tracer_cli.specs.declared.litmus.condition.LitmusCondition.{LitmusCondition}
 use Rattle.tracer_cli.specs.declared.litmus.grammar.TheConstants.{MOST_REPEATS}
 use Rattle.tracer_cli.specs.declared.litmus.keyword.LitmusKeyword.{LitmusKeyword}
 use Rattle.tracer_cli.specs.declared.litmus.keyword.LitmusKeyword.TheVariants as keyword
@@ -19,6 +21,7 @@ use Rattle.tracer_cli.specs.declared.litmus.line.LitmusCommand.{LitmusCommand}
 use Rattle.tracer_cli.specs.declared.litmus.line.LitmusLine.{LitmusLine}
 use Rattle.tracer_cli.specs.declared.litmus.line.LitmusLine.TheVariants as line
 use Rattle.tracer_cli.specs.declared.litmus.line.Within.{Within}
+use Rattle.tracer_cli.specs.LitmusCondition.{condition_of_words}
 use Rattle.tracer_cli.specs.LitmusGrammar.{IsNamedLine, command_of_words, is_name_byte, is_thread_name}
 use Rattle.tracer_cli.specs.LitmusGrammar.{litmus_keyword_in, litmus_line_of, litmus_rest_of, thread_line}
 
@@ -39,9 +42,10 @@ are_ascii (c ∷ more) all zero = byte_is_ascii c (and_left (is_name_byte c) (li
 are_ascii (c ∷ more) all (suc i) =
     are_ascii more (and_right (is_name_byte c) (list_all is_name_byte more) all) i
 
-thread_if : (b : Bool) → cond b (Ok line.Thread) (Err UnknownWord) ≡ Ok line.Thread → b ≡ true
-thread_if true is = refl
-thread_if false is = absurd (let clash : Err UnknownWord ≡ Ok line.Thread = is in cc)
+thread_if : (b : Bool) (voice said : Voice) → cond b (Ok (line.Thread voice)) (Err UnknownWord) ≡ Ok (line.Thread said)
+    → b ≡ true
+thread_if true voice said is = refl
+thread_if false voice said is = absurd (let clash : Err UnknownWord ≡ Ok (line.Thread said) = is in cc)
 
 not_none : (n : ℕ) → 2 ≤ n → eqb n 0 ≡ false
 not_none n two = grind (arith, nat_tests)
@@ -49,69 +53,78 @@ not_none n two = grind (arith, nat_tests)
 not_one : (n : ℕ) → 2 ≤ n → eqb n 1 ≡ false
 not_one n two = grind (arith, nat_tests)
 
-two_said : (none one named : Bool) → none ≡ false → one ≡ false
-    → cond none (Ok line.Thread) (cond (one && named) (Ok line.Thread) (Err UnknownWord)) ≡ Ok line.Thread → ⊥
-two_said true one named some others said = cc
-two_said false true named some others said = cc
-two_said false false named some others said = let clash : Err UnknownWord ≡ Ok line.Thread = said in cc
+two_said : (none one named : Bool) (voice said_as : Voice) → none ≡ false → one ≡ false
+    → cond none (Ok (line.Thread voice)) (cond (one && named) (Ok (line.Thread voice)) (Err UnknownWord))
+    ≡ Ok (line.Thread said_as) → ⊥
+two_said true one named voice said_as some others said = cc
+two_said false true named voice said_as some others said = cc
+two_said false false named voice said_as some others said = let clash : Err UnknownWord ≡ Ok (line.Thread said_as) = said in cc
 
-thread_said : (words : List (List ℕ)) → thread_line words ≡ Ok line.Thread → IfSome (slice_get words 0) IsUtf8
-thread_said [] said = tt
-thread_said (name ∷ []) said =
-    let named : is_thread_name name ≡ true = thread_if (is_thread_name name) said in
+thread_said : (voice said_as : Voice) (words : List (List ℕ)) → thread_line voice words ≡ Ok (line.Thread said_as)
+    → IfSome (slice_get words 0) IsUtf8
+thread_said voice said_as [] said = tt
+thread_said voice said_as (name ∷ []) said =
+    let named : is_thread_name name ≡ true = thread_if (is_thread_name name) voice said_as said in
     IsUtf8-from_ascii name (are_ascii name (and_right _ _ (and_right _ _ named)))
-thread_said (name ∷ other ∷ more) said =
+thread_said voice said_as (name ∷ other ∷ more) said =
     let words = name ∷ other ∷ more in
     let two : 2 ≤ length words = omega arith in
-    absurd (two_said (eqb (length words) 0) (eqb (length words) 1) (is_thread_name (nth_word words 0))
+    absurd (two_said (eqb (length words) 0) (eqb (length words) 1) (is_thread_name (nth_word words 0)) voice said_as
     (not_none (length words) two) (not_one (length words) two) said)
 
-row_said : (b : Bool) (read : Result Row LineFault)
-    → cond b (read >>= λ row. Ok (line.Row row)) (Err UnknownWord) ≡ Ok line.Thread → ⊥
-row_said true (Ok row) is = let clash : Ok (line.Row row) ≡ Ok line.Thread = is in cc
-row_said true (Err fault) is = let clash : Err fault ≡ Ok line.Thread = is in cc
-row_said false read is = let clash : Err UnknownWord ≡ Ok line.Thread = is in cc
+row_said : (voice : Voice) (b : Bool) (read : Result Row LineFault)
+    → cond b (read >>= λ row. Ok (line.Row row)) (Err UnknownWord) ≡ Ok (line.Thread voice) → ⊥
+row_said voice true (Ok row) is = let clash : Ok (line.Row row) ≡ Ok (line.Thread voice) = is in cc
+row_said voice true (Err fault) is = let clash : Err fault ≡ Ok (line.Thread voice) = is in cc
+row_said voice false read is = let clash : Err UnknownWord ≡ Ok (line.Thread voice) = is in cc
 
-repeat_said : (b : Bool) (read : Result ℕ LineFault)
-    → cond b (read >>= λ n. Ok (line.Repeat n)) (Err UnknownWord) ≡ Ok line.Thread → ⊥
-repeat_said true (Ok n) is = let clash : Ok (line.Repeat n) ≡ Ok line.Thread = is in cc
-repeat_said true (Err fault) is = let clash : Err fault ≡ Ok line.Thread = is in cc
-repeat_said false read is = let clash : Err UnknownWord ≡ Ok line.Thread = is in cc
+repeat_said : (voice : Voice) (b : Bool) (read : Result ℕ LineFault)
+    → cond b (read >>= λ n. Ok (line.Repeat n)) (Err UnknownWord) ≡ Ok (line.Thread voice) → ⊥
+repeat_said voice true (Ok n) is = let clash : Ok (line.Repeat n) ≡ Ok (line.Thread voice) = is in cc
+repeat_said voice true (Err fault) is = let clash : Err fault ≡ Ok (line.Thread voice) = is in cc
+repeat_said voice false read is = let clash : Err UnknownWord ≡ Ok (line.Thread voice) = is in cc
 
-end_said : (b : Bool) → cond b (Ok line.End) (Err UnknownWord) ≡ Ok line.Thread → ⊥
-end_said true is = let clash : Ok line.End ≡ Ok line.Thread = is in cc
-end_said false is = let clash : Err UnknownWord ≡ Ok line.Thread = is in cc
+end_said : (voice : Voice) (b : Bool) → cond b (Ok line.End) (Err UnknownWord) ≡ Ok (line.Thread voice) → ⊥
+end_said voice true is = let clash : Ok line.End ≡ Ok (line.Thread voice) = is in cc
+end_said voice false is = let clash : Err UnknownWord ≡ Ok (line.Thread voice) = is in cc
 
-command_said : (read : Result LitmusCommand LineFault) → (read >>= λ command. Ok (line.Command command)) ≡ Ok line.Thread
-    → ⊥
-command_said (Ok command) is = let clash : Ok (line.Command command) ≡ Ok line.Thread = is in cc
-command_said (Err fault) is = let clash : Err fault ≡ Ok line.Thread = is in cc
+command_said : (voice : Voice) (read : Result LitmusCommand LineFault)
+    → (read >>= λ command. Ok (line.Command command)) ≡ Ok (line.Thread voice) → ⊥
+command_said voice (Ok command) is = let clash : Ok (line.Command command) ≡ Ok (line.Thread voice) = is in cc
+command_said voice (Err fault) is = let clash : Err fault ≡ Ok (line.Thread voice) = is in cc
 
-rest_said : (word : LitmusKeyword) (words : List (List ℕ)) → litmus_rest_of word words ≡ Ok line.Thread
+only_said : (voice : Voice) (read : Result LitmusCondition LineFault)
+    → (read >>= λ condition. Ok (line.Only condition)) ≡ Ok (line.Thread voice) → ⊥
+only_said voice (Ok condition) is = let clash : Ok (line.Only condition) ≡ Ok (line.Thread voice) = is in cc
+only_said voice (Err fault) is = let clash : Err fault ≡ Ok (line.Thread voice) = is in cc
+
+rest_said : (voice : Voice) (word : LitmusKeyword) (words : List (List ℕ))
+    → litmus_rest_of word words ≡ Ok (line.Thread voice)
     → IfSome (slice_get words 0) IsUtf8
-rest_said keyword.Row words said =
-    absurd (row_said (eqb (length words) 4)
+rest_said voice keyword.Row words said =
+    absurd (row_said voice (eqb (length words) 4)
     (row_of_words (nth_word words 0) (nth_word words 1) (nth_word words 2) (nth_word words 3)) said)
-rest_said keyword.Thread words said = thread_said words said
-rest_said keyword.Repeat words said =
-    absurd (repeat_said (eqb (length words) 1) (number_between 1 MOST_REPEATS (nth_word words 0)) said)
-rest_said keyword.End words said = absurd (end_said (eqb (length words) 0) said)
-rest_said (keyword.Command word) words said = absurd (command_said (command_of_words word words) said)
+rest_said voice (keyword.Thread of) words said = thread_said of voice words said
+rest_said voice keyword.Repeat words said =
+    absurd (repeat_said voice (eqb (length words) 1) (number_between 1 MOST_REPEATS (nth_word words 0)) said)
+rest_said voice keyword.End words said = absurd (end_said voice (eqb (length words) 0) said)
+rest_said voice keyword.Only words said = absurd (only_said voice (condition_of_words words) said)
+rest_said voice (keyword.Command word) words said = absurd (command_said voice (command_of_words word words) said)
 
-said_by : (comment : Bool) (word : Result LitmusKeyword LineFault) (words : List (List ℕ))
-    → cond comment (Ok line.Nothing) (word >>= λ k. litmus_rest_of k words) ≡ Ok line.Thread
+said_by : (voice : Voice) (comment : Bool) (word : Result LitmusKeyword LineFault) (words : List (List ℕ))
+    → cond comment (Ok line.Nothing) (word >>= λ k. litmus_rest_of k words) ≡ Ok (line.Thread voice)
     → IfSome (slice_get words 0) IsUtf8
-said_by true word words said = absurd (let clash : Ok line.Nothing ≡ Ok line.Thread = said in cc)
-said_by false (Ok word) words said = rest_said word words said
-said_by false (Err fault) words said = absurd (let clash : Err fault ≡ Ok line.Thread = said in cc)
+said_by voice true word words said = absurd (let clash : Ok line.Nothing ≡ Ok (line.Thread voice) = said in cc)
+said_by voice false (Ok word) words said = rest_said voice word words said
+said_by voice false (Err fault) words said = absurd (let clash : Err fault ≡ Ok (line.Thread voice) = said in cc)
 
-thread_named : (within : Within) (words : List (List ℕ)) → litmus_line_of within words ≡ Ok line.Thread
+thread_named : (voice : Voice) (within : Within) (words : List (List ℕ)) → litmus_line_of within words ≡ Ok (line.Thread voice)
     → IfSome (slice_get words 1) IsUtf8
-thread_named within [] said = absurd (let clash : Ok line.Nothing ≡ Ok line.Thread = said in cc)
-thread_named within (first ∷ words) said =
-    said_by (eqb (slice_index first 0) 35) (litmus_keyword_in within first) words said
+thread_named voice within [] said = absurd (let clash : Ok line.Nothing ≡ Ok (line.Thread voice) = said in cc)
+thread_named voice within (first ∷ words) said =
+    said_by voice (eqb (slice_index first 0) 35) (litmus_keyword_in within first) words said
 
 pub line_named : (within : Within) (words : List (List ℕ)) (said : LitmusLine)
     → litmus_line_of within words ≡ Ok said → IsNamedLine words said
-line_named within words line.Thread is = thread_named within words is
+line_named within words (line.Thread voice) is = thread_named voice within words is
 line_named within words other is = tt

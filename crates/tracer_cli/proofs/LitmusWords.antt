@@ -5,7 +5,7 @@ use Rattle.std.proofs.Common.{if◌then◌else◌, position, slice_index}
 use Rattle.std.proofs.lemmas.Bool.Decides.{nat_tests}
 use Rattle.std.proofs.lemmas.List.{length-drop, take_all}
 use Rattle.stop_history.specs.declared.refused.Refused.{Refused}
-use Rattle.stop_explorer.specs.declared.answer.Answer.TheVariants as answer
+use Rattle.stop_explorer.specs.declared.reply.WantedAnswer.TheVariants as answer
 use Rattle.text_lines.specs.declared.fault.LineFault.{LineFault}
 use Rattle.text_lines.specs.declared.fault.LineFault.TheVariants.{BadHex, BadNumber, UnknownWord}
 use Rattle.text_lines.specs.Lines.{nth_word}
@@ -22,12 +22,14 @@ use Rattle.tracer_cli.specs.declared.litmus.line.LitmusLine.TheVariants as line
 use Rattle.tracer_cli.specs.declared.litmus.line.LitmusReply.{LitmusReply}
 use Rattle.tracer_cli.specs.declared.litmus.line.Within.{Within}
 use Rattle.tracer_cli.specs.Grammar.{publish_line}
-use Rattle.tracer_cli.specs.LitmusGrammar.{as_in_replay, bare_command_of, command_parted, litmus_keyword_in}
+use Rattle.tracer_cli.specs.LitmusGrammar.{as_in_replay, bare_command_of, claim_of_words, command_parted, litmus_keyword_in}
 use Rattle.tracer_cli.specs.LitmusGrammar.{litmus_line_of, litmus_rest_of, so_answered}
-use Rattle.tracer_cli.specs.LitmusReply.{claim_any_reply, claim_tid_reply, is_any_word, is_it_word, no_child_reply}
-use Rattle.tracer_cli.specs.LitmusReply.{publish_refusals, claim_refusals, refused_reply, reply_of_words}
-use Rattle.tracer_cli.specs.LitmusReply.{resume_it_reply, resume_refusals, resume_tid_reply, state_of_words}
-use Rattle.tracer_cli.specs.LitmusReply.{wait_any_reply, wait_reply, wait_tid_reply, without_tid}
+use Rattle.tracer_cli.specs.declared.litmus.condition.LitmusCondition.{LitmusCondition}
+use Rattle.tracer_cli.specs.LitmusCondition.{condition_of_words, is_thread_word}
+use Rattle.tracer_cli.specs.LitmusReply.{bare_reply, claim_refusals, claim_row_reply, got_reply, is_it_word}
+use Rattle.tracer_cli.specs.LitmusReply.{names_several, no_child_reply, none_reply, nothing_reply, or_else}
+use Rattle.tracer_cli.specs.LitmusReply.{publish_refusals, refused_reply, reply_of_words, resume_refusals, row_reply}
+use Rattle.tracer_cli.specs.LitmusReply.{scan_reply, state_of_words, tid_before, tid_reply, without_tid}
 
 not_so_many : (words : List (List ℕ)) (k : ℕ) → k < length words → eqb (length words) k ≡ false
 not_so_many words k more = grind (arith, nat_tests)
@@ -46,62 +48,85 @@ module _ {A : Type 0} where
   either true x y r first second = first
   either false x y r first second = second
 
--- ---- replies have at most four words
+-- ---- replies have at most four words, and without a thread id three
 
-long_refused : (refusals : List (List ℕ × Refused)) (words : List (List ℕ)) → 4 < length words
+long_refused : (refusals : List (List ℕ × Refused)) (words : List (List ℕ)) → 3 < length words
     → refused_reply refusals words ≡ Err UnknownWord
 long_refused refusals words more = not_read_and words 2 _ _ _ (omega arith)
 
-long_no_child : (words : List (List ℕ)) → 4 < length words → no_child_reply words ≡ Err UnknownWord
-long_no_child words more = not_read_and words 2 _ _ _ (omega arith)
-
-long_state : (words : List (List ℕ)) → 4 < length words → state_of_words words ≡ Err UnknownWord
+long_state : (words : List (List ℕ)) → 3 < length words → state_of_words words ≡ Err UnknownWord
 long_state words more = not_read words 1 _ _ (omega arith) ∙ not_read words 3 _ _ (omega arith)
 
-long_wait_tid : (word : CommandKeyword) (words : List (List ℕ)) → 4 < length words
-    → wait_tid_reply word words ≡ Err UnknownWord
-long_wait_tid word words more = not_read words 3 _ _ (omega arith) ∙ long_no_child words more
+long_got : (word : CommandKeyword) (words : List (List ℕ)) → 3 < length words → got_reply word words ≡ Err UnknownWord
+long_got word words more = not_read words 3 _ _ (omega arith)
 
-long_wait_any : (word : CommandKeyword) (words : List (List ℕ)) → 4 < length words
-    → wait_any_reply word words ≡ Err UnknownWord
-long_wait_any word words more = not_read words 4 _ _ more ∙ ap without_tid (long_no_child words more)
+long_claim : (word : CommandKeyword) (named : List ℕ) (words : List (List ℕ)) → 3 < length words
+    → claim_row_reply word named words ≡ Err UnknownWord
+long_claim word named words more =
+    not_read words 3 _ _ (omega arith)
+    ∙ either (names_several word named) _ _ _ refl (long_refused claim_refusals words more)
 
-long_wait : (word : CommandKeyword) (named : List ℕ) (words : List (List ℕ)) → 4 < length words
-    → wait_reply word named words ≡ Err UnknownWord
-long_wait word named words more =
-    either (is_any_word named) _ _ _ (long_wait_any word words more) (ap without_tid (long_wait_tid word words more))
+long_row : (word : CommandKeyword) (named : List ℕ) (words : List (List ℕ)) → 3 < length words
+    → row_reply word named words ≡ Err UnknownWord
+long_row command.Publish named words more =
+    not_read_and words 2 _ _ _ (omega arith) ∙ long_refused publish_refusals words more
+long_row command.Exit named words more = not_read_and words 1 _ _ _ (omega arith)
+long_row command.State named words more = ap (λ read. read >>= λ s. Ok (answer.State s)) (long_state words more)
+long_row command.Claim named words more = long_claim command.Claim named words more
+long_row command.Wait named words more = long_got command.Wait words more
+long_row command.Look named words more = long_got command.Look words more
+long_row command.Peek named words more = long_claim command.Peek named words more
+long_row command.Resume named words more =
+    not_read_and words 1 _ _ _ (omega arith) ∙ long_refused resume_refusals words more
 
-long_claim_tid : (words : List (List ℕ)) → 4 < length words → claim_tid_reply words ≡ Err UnknownWord
-long_claim_tid words more = not_read words 3 _ _ (omega arith) ∙ long_refused claim_refusals words more
+long_no_child : (words : List (List ℕ)) → 3 < length words → no_child_reply words ≡ Err UnknownWord
+long_no_child words more = not_read_and words 2 _ _ _ (omega arith)
 
-long_claim_any : (words : List (List ℕ)) → 4 < length words → claim_any_reply words ≡ Err UnknownWord
-long_claim_any words more = not_read_and words 1 _ _ _ (omega arith) ∙ long_wait_any command.Claim words more
+long_nothing : (words : List (List ℕ)) → 3 < length words → nothing_reply words ≡ Err UnknownWord
+long_nothing words more = not_read_and words 1 _ _ _ (omega arith)
 
-long_resume_tid : (words : List (List ℕ)) → 4 < length words → resume_tid_reply words ≡ Err UnknownWord
-long_resume_tid words more = not_read_and words 1 _ _ _ (omega arith) ∙ long_refused resume_refusals words more
+long_scan : (word : CommandKeyword) (named : List ℕ) (words : List (List ℕ)) → 3 < length words
+    → scan_reply word named words ≡ Err UnknownWord
+long_scan word named words more =
+    either (names_several word named) _ _ _ (not_read words 1 _ _ (omega arith) ∙ long_no_child words more) refl
 
-long_resume_it : (words : List (List ℕ)) → 4 < length words → resume_it_reply words ≡ Err UnknownWord
-long_resume_it words more = not_read_and words 1 _ _ _ (omega arith) ∙ long_resume_tid words more
+long_none : (word : CommandKeyword) (named : List ℕ) (words : List (List ℕ)) → 3 < length words
+    → none_reply word named words ≡ Err UnknownWord
+long_none command.Publish named words more = refl
+long_none command.Exit named words more = refl
+long_none command.State named words more = refl
+long_none command.Claim named words more = long_scan command.Claim named words more
+long_none command.Wait named words more = long_no_child words more
+long_none command.Look named words more = long_no_child words more
+long_none command.Peek named words more = long_scan command.Peek named words more
+long_none command.Resume named words more = either (is_it_word named) _ _ _ (long_nothing words more) refl
+
+long_bare_reply : (word : CommandKeyword) (named : List ℕ) (words : List (List ℕ)) → 3 < length words
+    → bare_reply word named words ≡ Err UnknownWord
+long_bare_reply word named words more = either (names_several word named) _ _ _ refl (long_row word named words more)
+
+long_tid : (word : CommandKeyword) (named : List ℕ) (words : List (List ℕ)) → 4 < length words
+    → tid_reply word named words ≡ Err UnknownWord
+long_tid word named [] more = refl
+long_tid word named (tid ∷ words) more = ap (tid_before tid) (long_row word named words (omega arith))
 
 long_reply : (word : CommandKeyword) (named : List ℕ) (words : List (List ℕ)) → 4 < length words
     → reply_of_words word named words ≡ Err UnknownWord
-long_reply command.Publish named words more =
-    ap without_tid (not_read_and words 2 _ _ _ (omega arith) ∙ long_refused publish_refusals words more)
-long_reply command.Exit named words more = ap without_tid (not_read_and words 1 _ _ _ (omega arith))
-long_reply command.State named words more =
-    ap (λ read. without_tid (read >>= λ s. Ok (answer.State s))) (long_state words more)
-long_reply command.Claim named words more =
-    either (is_any_word named) _ _ _ (long_claim_any words more) (ap without_tid (long_claim_tid words more))
-long_reply command.Wait named words more = long_wait command.Wait named words more
-long_reply command.Look named words more = long_wait command.Look named words more
-long_reply command.Resume named words more =
-    ap without_tid (either (is_it_word named) _ _ _ (long_resume_it words more) (long_resume_tid words more))
+long_reply word named words more =
+    ap (λ none. or_else (without_tid none) (or_else (without_tid (bare_reply word named words)) (tid_reply word named words)))
+    (long_none word named words (omega arith))
+    ∙ ap (λ bare. or_else (without_tid bare) (tid_reply word named words)) (long_bare_reply word named words (omega arith))
+    ∙ long_tid word named words more
 
 -- ---- commands have at most four words after their first one
 
 long_publish : (words : List (List ℕ)) → 4 < length words → publish_line words ≡ Err UnknownWord
 long_publish words more =
     not_read words 2 _ _ (omega arith) ∙ not_read words 3 _ _ (omega arith) ∙ not_read words 4 _ _ more
+
+long_claim_words : (word : CommandKeyword) (words : List (List ℕ)) → 4 < length words
+    → claim_of_words word words ≡ Err UnknownWord
+long_claim_words word words more = not_read words 2 _ _ (omega arith) ∙ not_read_and words 3 _ _ _ (omega arith)
 
 long_bare : (word : CommandKeyword) (words : List (List ℕ)) → 4 < length words
     → bare_command_of word words ≡ Err UnknownWord
@@ -110,9 +135,10 @@ long_bare command.Exit words more =
     ap (λ (read : Result Line LineFault). read >>= as_in_replay command.Exit) (not_read words 3 _ _ (omega arith))
 long_bare command.State words more =
     ap (λ (read : Result Line LineFault). read >>= as_in_replay command.State) (not_read words 1 _ _ (omega arith))
-long_bare command.Claim words more = not_read words 2 _ _ (omega arith)
-long_bare command.Wait words more = not_read words 2 _ _ (omega arith)
-long_bare command.Look words more = not_read words 2 _ _ (omega arith)
+long_bare command.Claim words more = long_claim_words command.Claim words more
+long_bare command.Wait words more = long_claim_words command.Wait words more
+long_bare command.Look words more = long_claim_words command.Look words more
+long_bare command.Peek words more = long_claim_words command.Peek words more
 long_bare command.Resume words more = not_read words 4 _ _ more
 
 -- ---- so a command with its reply has at most nine
@@ -141,14 +167,25 @@ long_parted : (word : CommandKeyword) (words : List (List ℕ)) (place : Option 
 long_parted word words None more = long_bare word words (omega arith)
 long_parted word words (Some place) more = long_replied word words place (nat_le place 4) refl more
 
+-- ---- conditions
+
+long_condition : (words : List (List ℕ)) → 4 < length words → condition_of_words words ≡ Err UnknownWord
+long_condition words more =
+    either (is_thread_word (nth_word words 0)) _ _ _
+    (not_read_and words 3 _ _ _ (omega arith) ∙ not_read_and words 4 _ _ _ more)
+    (not_read words 2 _ _ (omega arith) ∙ not_read_and words 3 _ _ _ (omega arith))
+
 -- ---- lines
 
 long_line : (word : LitmusKeyword) (words : List (List ℕ)) → 9 < length words
     → litmus_rest_of word words ≡ Err UnknownWord
 long_line keyword.Row words more = not_read words 4 _ _ (omega arith)
-long_line keyword.Thread words more = not_read words 0 _ _ (omega arith) ∙ not_read_and words 1 _ _ _ (omega arith)
+long_line (keyword.Thread voice) words more = not_read words 0 _ _ (omega arith) ∙ not_read_and words 1 _ _ _ (omega arith)
 long_line keyword.Repeat words more = not_read words 1 _ _ (omega arith)
 long_line keyword.End words more = not_read words 0 _ _ (omega arith)
+long_line keyword.Only words more =
+    ap (λ (read : Result LitmusCondition LineFault). read >>= λ condition. Ok (line.Only condition))
+    (long_condition words (omega arith))
 long_line (keyword.Command word) words more =
     ap (λ (read : Result LitmusCommand LineFault). read >>= λ said. Ok (line.Command said))
     (long_parted word words (position is_equals words) more)

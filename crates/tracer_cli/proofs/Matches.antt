@@ -1,5 +1,6 @@
 -- Clap's getters and builders: what was found for a subcommand's arguments, and arguments that are not global.
-use Rattle.std.proofs.Common.{refl, ◌≡◌, ◌∙◌, ◌||◌, ap, ap₂, sym, true, false, Bool, codes, List, Option, Some, None}
+use Rattle.std.proofs.Common.{refl, ◌≡◌, ◌∙◌, ◌||◌, ap, ap₂, sym, true, false, Bool, codes, List, Option, Some, None, Bor}
+use Rattle.std.proofs.Common.{Result, Ok, Err}
 use Rattle.std.specs.Prelude.{Box, option_map}
 use Rattle.std.specs.Box.{box_value}
 use Rattle.clap.specs.Simple.{subcommand_rows}
@@ -9,7 +10,12 @@ use Rattle.clap.specs.declared.builder.command.Command.{Command}
 use Rattle.clap.specs.declared.builder.command.Command.TheViews.{out-Command}
 use Rattle.clap.specs.declared.parser.matches.ArgMatches.TheViews.{out-SubCommand}
 use Rattle.clap.specs.declared.parser.matches.SubCommand.{SubCommand}
-use Rattle.tracer_cli.specs.Arguments.{IsFlag}
+use Rattle.clap.specs.Walk.{first_of}
+use Rattle.tracer_cli.specs.declared.arguments.Request.{Request}
+use Rattle.tracer_cli.specs.declared.arguments.Request.TheVariants.{Replay, Run, Explore, Help}
+use Rattle.tracer_cli.specs.declared.failure.Failure.{Failure}
+use Rattle.tracer_cli.specs.declared.failure.Failure.TheVariants.{NoMemory, Usage}
+use Rattle.tracer_cli.specs.Arguments.{IsExploreRequest, IsFlag, IsNamedBy, is_explore, is_run}
 
 pub flag_is : (read : Option Text) (flag : Bool) → (read ≡ None → flag ≡ false)
     → (read ≡ Some (codes "true") → flag ≡ true) → (read ≡ Some (codes "false") → flag ≡ false) → IsFlag read flag
@@ -30,3 +36,17 @@ found_is (Some b) name rows named found =
 pub not_global : (old : Command) (arg : Arg) (new : Command) → AddsArg old arg new
     → (out-Command old).has_globals ≡ false → arg.global ≡ false → (out-Command new).has_globals ≡ false
 not_global old arg new adds none own = adds.globals ∙ ap₂ (λ (a b : Bool). a || b) none own
+
+-- the request of the subcommand `explore`
+pub explore_is_named : (name : Text) (rows : List Row) (file : Option (Bor Text)) (asked : Result Request Failure)
+    → is_run (Some (name, rows)) ≡ false → is_explore (Some (name, rows)) ≡ true
+    → option_map (λ text. text.now) file ≡ first_of (codes "FILE") rows → IsExploreRequest rows file asked
+    → IsNamedBy (Some (name, rows)) asked
+explore_is_named name rows file (Ok (Replay other)) run explore file_is is = absurd is
+explore_is_named name rows file (Ok (Run options other)) run explore file_is is = absurd is
+explore_is_named name rows file (Ok (Help text)) run explore file_is is = absurd is
+explore_is_named name rows file (Ok (Explore options named)) run explore file_is is =
+    (run, explore, is.0, ap (option_map (λ (text : Bor Text). text.now)) is.1 ∙ file_is)
+explore_is_named name rows file (Err (Usage text)) run explore file_is is = (run, explore, is)
+explore_is_named name rows file (Err NoMemory) run explore file_is is = tt
+explore_is_named name rows file (Err failure) run explore file_is is = absurd is

@@ -1,5 +1,5 @@
 -- Texts of outcomes that are written piece by piece: the next piece, and the end.
-use Rattle.std.proofs.Common.{refl, ◌≡◌, ◌<◌, ◌≤◌, ◌+◌, ◌-◌, ◌++◌, ◌∷◌, [], ℕ, suc, zero, true, false, List, Option}
+use Rattle.std.proofs.Common.{refl, ◌≡◌, ◌<◌, ◌≤◌, ◌+◌, ◌-◌, ◌++◌, ◌∷◌, [], ℕ, suc, zero, Bool, true, false, List, Option}
 use Rattle.std.proofs.Common.{Bor, length, get_or, drop, take, slice_get, option_map, arith, ◌∙◌, ap, sym, append_assoc}
 use Rattle.std.proofs.Common.{append-nil, flat_map, min, zip, OnOk, Result, subst}
 use Rattle.std.proofs.lemmas.List.{at_drop_all, drop_more, take_more}
@@ -7,15 +7,18 @@ use Rattle.std.proofs.lemmas.Slice.Zip.{get_or-zip, length-zip}
 use Rattle.stop_history.specs.declared.roster.Row.{Row}
 use Rattle.stop_history.specs.declared.state.State.{State}
 use Rattle.stop_explorer.specs.declared.command.ThreadCommand.{ThreadCommand}
+use Rattle.stop_explorer.specs.declared.voice.Voice.{Voice}
 use Rattle.stop_explorer.specs.declared.turn.Turn.{Turn}
 use Rattle.stop_explorer.specs.Program.{Log, index_after, own_turns}
+use Rattle.stop_explorer.specs.Progress.{is_quiet}
 use Rattle.stop_explorer.specs.Run.{EndedRun}
 use Rattle.stop_explorer.proofs.OwnTurns.{own_here, own_not_here, own_over}
-use Rattle.tracer_cli.specs.Chosen.{chosen_of, ending_numbered, have_come_true}
+use Rattle.tracer_cli.specs.declared.litmus.required.Condition.{Condition}
+use Rattle.tracer_cli.specs.Chosen.{chosen_of, ending_numbered, is_chosen}
 use Rattle.tracer_cli.specs.LitmusDraft.{names_kept}
 use Rattle.tracer_cli.specs.OutcomeText.{command_of_turn, done_line, name_at}
 use Rattle.tracer_cli.specs.OutcomeText.{order_lines, outcome_text, outcome_texts, thread_head}
-use Rattle.tracer_cli.specs.OutcomeText.{thread_lines, thread_text, threads_text, tracee_line, turn_line, waiting_line}
+use Rattle.tracer_cli.specs.OutcomeText.{thread_lines, thread_text, threads_text, told_lines, tracee_line, turn_line, waiting_line}
 
 -- ---- pieces
 
@@ -60,36 +63,36 @@ lines_over rows states commands at thread turns i past =
 
 -- ---- threads
 
--- the line of a thread is written, and then what its turns did
-pub threads_more : (rows : List Row) (commands : ℕ → List ThreadCommand) (ending : EndedRun)
-    (names : List (Option (Bor (List ℕ)))) (i : ℕ) (d : Option (Bor (List ℕ))) (states : List State)
-    (own : List ThreadCommand) (turns : Log) (old between new : List ℕ) → i < length names → states ≡ ending.states
-    → own ≡ commands i → turns ≡ ending.turns
+-- the line of a thread is written, and then what of it is told
+pub threads_more : (rows : List Row) (voices : List Voice) (commands : ℕ → List ThreadCommand) (ending : EndedRun)
+    (names : List (Option (Bor (List ℕ)))) (i : ℕ) (d : Option (Bor (List ℕ))) (quiet : Bool)
+    (own : List ThreadCommand) (old between new : List ℕ) → i < length names → quiet ≡ is_quiet voices i
+    → own ≡ commands i
     → between ≡ old ++ thread_head (i + 1) (option_map (λ (name : Bor (List ℕ)). name.now) (get_or names i d))
-    → new ≡ between ++ thread_lines rows states own 0 (own_turns i turns)
-    → new ++ threads_text rows commands ending (i + 1) (names_kept (drop (i + 1) names))
-    ≡ old ++ threads_text rows commands ending i (names_kept (drop i names))
+    → new ≡ between ++ told_lines rows quiet own ending i
+    → new ++ threads_text rows voices commands ending (i + 1) (names_kept (drop (i + 1) names))
+    ≡ old ++ threads_text rows voices commands ending i (names_kept (drop i names))
 unfolding threads_text
-threads_more rows commands ending names i d states own turns old between new within states_are own_is turns_are first second =
+threads_more rows voices commands ending names i d quiet own old between new within quiet_is own_is first second =
     let name : Option (List ℕ) = option_map (λ (n : Bor (List ℕ)). n.now) (get_or names i d) in
     let line : List ℕ = thread_head (i + 1) name in
-    let lines : List ℕ = thread_lines rows states own 0 (own_turns i turns) in
+    let lines : List ℕ = told_lines rows quiet own ending i in
     let written : new ≡ old ++ (line ++ lines) = second ∙ ap (λ o. o ++ lines) first ∙ append_assoc old line lines in
-    let same : lines ≡ thread_lines rows ending.states (commands i) 0 (own_turns i ending.turns) =
-    ap (λ st. thread_lines rows st own 0 (own_turns i turns)) states_are
-    ∙ ap (λ cs. thread_lines rows ending.states cs 0 (own_turns i turns)) own_is
-    ∙ ap (λ ts. thread_lines rows ending.states (commands i) 0 (own_turns i ts)) turns_are in
-    one_piece old (thread_text rows commands ending i name) new
-    (threads_text rows commands ending (i + 1) (names_kept (drop (i + 1) names)))
-    (threads_text rows commands ending i (names_kept (drop i names))) (written ∙ ap (λ t. old ++ (line ++ t)) same)
-    (ap (λ ns. threads_text rows commands ending i (names_kept ns)) (drop_more names i d within))
+    let same : lines ≡ told_lines rows (is_quiet voices i) (commands i) ending i =
+    ap (λ q. told_lines rows q own ending i) quiet_is
+    ∙ ap (λ cs. told_lines rows (is_quiet voices i) cs ending i) own_is in
+    one_piece old (thread_text rows voices commands ending i name) new
+    (threads_text rows voices commands ending (i + 1) (names_kept (drop (i + 1) names)))
+    (threads_text rows voices commands ending i (names_kept (drop i names)))
+    (written ∙ ap (λ t. old ++ (line ++ t)) same)
+    (ap (λ ns. threads_text rows voices commands ending i (names_kept ns)) (drop_more names i d within))
 
-pub threads_over : (rows : List Row) (commands : ℕ → List ThreadCommand) (ending : EndedRun)
+pub threads_over : (rows : List Row) (voices : List Voice) (commands : ℕ → List ThreadCommand) (ending : EndedRun)
     (names : List (Option (Bor (List ℕ)))) (thread i : ℕ) → length names ≤ i
-    → threads_text rows commands ending thread (names_kept (drop i names)) ≡ []
+    → threads_text rows voices commands ending thread (names_kept (drop i names)) ≡ []
 unfolding threads_text
-threads_over rows commands ending names thread i past =
-    at_drop_all (λ ns. threads_text rows commands ending thread (names_kept ns)) names i past
+threads_over rows voices commands ending names thread i past =
+    at_drop_all (λ ns. threads_text rows voices commands ending thread (names_kept ns)) names i past
 
 -- ---- tracees
 
@@ -139,40 +142,43 @@ order_over rows names commands before turns i past = at_drop_all (order_lines ro
 
 -- ---- outcomes
 
-pub chosen_here : (threads : ℕ) (commands : ℕ → List ThreadCommand) (endings : List EndedRun) (i : ℕ) (ending : EndedRun)
-    → i < length endings → ending ≡ get_or endings i ending → have_come_true threads commands ending.turns ≡ true
-    → chosen_of threads commands (drop i endings) ≡ ending ∷ chosen_of threads commands (drop (i + 1) endings)
-chosen_here threads commands endings i ending within is true_here =
+pub chosen_here : (threads : ℕ) (commands : ℕ → List ThreadCommand) (conditions : List Condition)
+    (endings : List EndedRun) (i : ℕ) (ending : EndedRun) → i < length endings → ending ≡ get_or endings i ending
+    → is_chosen threads commands conditions ending ≡ true
+    → chosen_of threads commands conditions (drop i endings)
+    ≡ ending ∷ chosen_of threads commands conditions (drop (i + 1) endings)
+chosen_here threads commands conditions endings i ending within is true_here =
     let rest : List EndedRun = drop (i + 1) endings in
     let cut : drop i endings ≡ ending ∷ rest = drop_more endings i ending within ∙ ap (λ e. e ∷ rest) (sym is) in
-    ap (chosen_of threads commands) cut ∙ rw true_here
+    ap (chosen_of threads commands conditions) cut ∙ rw true_here
 
-pub chosen_not_here : (threads : ℕ) (commands : ℕ → List ThreadCommand) (endings : List EndedRun) (i : ℕ)
-    (ending : EndedRun) → i < length endings → ending ≡ get_or endings i ending
-    → have_come_true threads commands ending.turns ≡ false
-    → chosen_of threads commands (drop i endings) ≡ chosen_of threads commands (drop (i + 1) endings)
-chosen_not_here threads commands endings i ending within is false_here =
+pub chosen_not_here : (threads : ℕ) (commands : ℕ → List ThreadCommand) (conditions : List Condition)
+    (endings : List EndedRun) (i : ℕ) (ending : EndedRun) → i < length endings → ending ≡ get_or endings i ending
+    → is_chosen threads commands conditions ending ≡ false
+    → chosen_of threads commands conditions (drop i endings)
+    ≡ chosen_of threads commands conditions (drop (i + 1) endings)
+chosen_not_here threads commands conditions endings i ending within is false_here =
     let rest : List EndedRun = drop (i + 1) endings in
     let cut : drop i endings ≡ ending ∷ rest = drop_more endings i ending within ∙ ap (λ e. e ∷ rest) (sym is) in
-    ap (chosen_of threads commands) cut ∙ rw false_here
+    ap (chosen_of threads commands conditions) cut ∙ rw false_here
 
-pub chosen_over : (threads : ℕ) (commands : ℕ → List ThreadCommand) (endings : List EndedRun) (i : ℕ)
-    → length endings ≤ i → chosen_of threads commands (drop i endings) ≡ []
-chosen_over threads commands endings i past = at_drop_all (chosen_of threads commands) endings i past
+pub chosen_over : (threads : ℕ) (commands : ℕ → List ThreadCommand) (conditions : List Condition)
+    (endings : List EndedRun) (i : ℕ) → length endings ≤ i → chosen_of threads commands conditions (drop i endings) ≡ []
+chosen_over threads commands conditions endings i past = at_drop_all (chosen_of threads commands conditions) endings i past
 
-pub outcomes_more : (rows : List Row) (names : List (Option (List ℕ))) (commands : ℕ → List ThreadCommand)
-    (number count : ℕ) (chosen : List EndedRun) (ending : EndedRun) (more : List EndedRun) → chosen ≡ ending ∷ more
-    → outcome_texts rows names commands number count chosen
-    ≡ outcome_text rows names commands number count ending
-    ++ outcome_texts rows names commands (number + 1) count more
+pub outcomes_more : (rows : List Row) (names : List (Option (List ℕ))) (voices : List Voice)
+    (commands : ℕ → List ThreadCommand) (number count : ℕ) (chosen : List EndedRun) (ending : EndedRun) (more : List EndedRun) → chosen ≡ ending ∷ more
+    → outcome_texts rows names voices commands number count chosen
+    ≡ outcome_text rows names voices commands number count ending
+    ++ outcome_texts rows names voices commands (number + 1) count more
 unfolding outcome_texts
-outcomes_more rows names commands number count chosen ending more is =
-    ap (outcome_texts rows names commands number count) is
+outcomes_more rows names voices commands number count chosen ending more is =
+    ap (outcome_texts rows names voices commands number count) is
 
-pub outcomes_over : (rows : List Row) (names : List (Option (List ℕ))) (commands : ℕ → List ThreadCommand)
-    (number count : ℕ) (chosen : List EndedRun) → chosen ≡ [] → outcome_texts rows names commands number count chosen ≡ []
+pub outcomes_over : (rows : List Row) (names : List (Option (List ℕ))) (voices : List Voice)
+    (commands : ℕ → List ThreadCommand) (number count : ℕ) (chosen : List EndedRun) → chosen ≡ [] → outcome_texts rows names voices commands number count chosen ≡ []
 unfolding outcome_texts
-outcomes_over rows names commands number count chosen is = ap (outcome_texts rows names commands number count) is
+outcomes_over rows names voices commands number count chosen is = ap (outcome_texts rows names voices commands number count) is
 
 -- ---- the outcome of a number
 

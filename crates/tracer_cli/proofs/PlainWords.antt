@@ -1,11 +1,14 @@
 -- What clap makes of the shortest words of a replay, of a run and of an exploration.
-use Rattle.std.proofs.Common.{refl, ◌≡◌, ◌∷◌, [], ℕ, List, Option, Some, None, codes, lit<, lit≤, Bor}
+use Rattle.std.proofs.Common.{refl, ◌≡◌, ◌∙◌, ◌∷◌, [], ℕ, Bool, true, false, List, Option, Some, None, ap, codes, lit<}
+use Rattle.std.proofs.Common.{lit≤, sym, Bor}
 use Rattle.std.specs.Prelude.{option_map}
 use Rattle.clap.proofs.OnLiterals.{clap_on_literals}
 use Rattle.tracer_cli.specs.declared.arguments.RunOptions.{RunOptions}
 use Rattle.tracer_cli.specs.declared.arguments.ExploreOptions.{ExploreOptions}
+use Rattle.tracer_cli.specs.declared.arguments.Listing.{Listing}
+use Rattle.tracer_cli.specs.declared.arguments.Listing.TheVariants as listing
 use Rattle.tracer_cli.specs.Arguments.{AreExploreOptionsOf, AreOptionsOf, AskExplore, AskReplay, AskRun, IsExploredWhole}
-use Rattle.tracer_cli.specs.Arguments.{IsFollowed}
+use Rattle.tracer_cli.specs.Arguments.{IsFollowed, listing_of}
 
 pub asks_replay : (name : List ℕ) → AskReplay (name ∷ codes "replay" ∷ [])
 unfolding clap_on_literals
@@ -30,9 +33,20 @@ is_followed name options are = record {
   names = no_names options.names are.names;
 }
 
+no_clash : (ends : Bool) (outcome : Option ℕ) → ends ≡ false → listing_of ends outcome ≡ None → ⊥
+no_clash false None is clash = let none : Some listing.Outcomes ≡ None = clash in cc
+no_clash false (Some number) is clash = let none : Some (listing.Replay number) ≡ None = clash in cc
+no_clash true outcome is clash = let wrong : true ≡ false = is in cc
+
 pub asks_explore : (name : List ℕ) → AskExplore (name ∷ codes "explore" ∷ [])
 unfolding clap_on_literals
-asks_explore name = (refl, refl, refl, refl)
+asks_explore name = (refl, refl, refl, (λ both. no_clash both.ends both.outcome (both.asked.flag.1 refl) both.clash), refl)
+
+all_listed : (ends : Bool) (outcome : Option ℕ) (of : Listing) → ends ≡ false → outcome ≡ None
+    → listing_of ends outcome ≡ Some of → of ≡ listing.Outcomes
+all_listed ends outcome of no_ends none is =
+    let same : Some listing.Outcomes ≡ Some of = sym (ap (λ e. listing_of e outcome) no_ends ∙ ap (listing_of false) none) ∙ is in
+    cc
 
 pub is_explored_whole : (name : List ℕ) (options : ExploreOptions)
     → AreExploreOptionsOf (name ∷ codes "explore" ∷ []) options → IsExploredWhole options
@@ -44,5 +58,5 @@ is_explored_whole name options are = record {
     lit≤ tt,
     lit≤ tt,
   );
-  outcome = are.outcome;
+  listing = all_listed are.ends are.outcome options.listing (are.asked.flag.1 refl) are.asked.number are.listing;
 }

@@ -20,18 +20,19 @@ use Rattle.text_lines.specs.Ranges.{◌>>=◌}
 use Rattle.tracer_workers.specs.Config.{plain, text_of}
 use Rattle.tracer_workers.specs.declared.config.Config.{Config}
 use Rattle.tracer_cli.specs.declared.failure.Failure.{Failure}
-use Rattle.tracer_cli.specs.declared.failure.Failure.TheVariants.{UnknownCall, NoMemory}
+use Rattle.tracer_cli.specs.declared.failure.Failure.TheVariants.{UnknownCall, NoMemory, Usage}
 use Rattle.tracer_cli.specs.declared.failure.Failure.TheVariants.{CannotRead, CannotWrite, Forbidden}
 use Rattle.trace_script.specs.Reading.{most_bytes}
 use Rattle.tracer_cli.specs.Arguments.{AreExploreOptionsOf, AreOptionsOf, AskExplore, AskReplay, AskRun, IsAskedBy}
-use Rattle.tracer_cli.specs.Arguments.{IsTakenRequest, tracer_app}
+use Rattle.tracer_cli.specs.Arguments.{IsTakenBy, tracer_app}
 use Rattle.tracer_cli.specs.CaseText.{HasConfig, case_text_of, config_of}
 use Rattle.tracer_cli.specs.Explored.{PrintsOutcomes}
 use Rattle.tracer_cli.specs.File.{content_of}
 use Rattle.tracer_cli.specs.Job.{HasNoJob, IsDone, IsJob}
 use Rattle.tracer_cli.specs.LitmusFile.{LitmusContent, litmus_content_of}
 use Rattle.tracer_cli.specs.Replay.{replay_of, text_from}
-use Rattle.tracer_cli.specs.Run.{AnswersRequest, Explores, ExploresNamed, IsReadFailure, IsReadOf, IsUnwritten, Prints}
+use Rattle.tracer_cli.specs.Run.{AnswersRequest, Ends, Explores, ExploresNamed, IsReported, run_status}
+use Rattle.tracer_cli.specs.Run.{IsReadFailure, IsReadOf, IsUnwritten, Prints}
 use Rattle.tracer_cli.specs.Run.{PrintsCase, Replays, Runs, RunsNamed, Writes}
 use Rattle.tracer_cli.specs.Shown.{unknown_name}
 
@@ -240,7 +241,7 @@ no_job_answered (Explore options (Some path)) input before after failure has =
 
 replay_named : (words : List (List ℕ)) (request : Request) (input before after : Option (List ℕ))
     (result : Result (Unit {0}) Failure)
-    → AskReplay words → IsAskedBy words (Ok request) → IsTakenRequest (Ok request)
+    → AskReplay words → IsAskedBy words (Ok request) → IsTakenBy words (Ok request)
     → AnswersRequest request input before after result
     → IfSome input (λ text. Replays text before after result)
 replay_named words (Help text) input before after result ask asked taken answers = absurd taken
@@ -268,7 +269,7 @@ of_input words options (Some text) before after result are runs =
 
 run_named : (words : List (List ℕ)) (request : Request) (input before after : Option (List ℕ))
     (result : Result (Unit {0}) Failure)
-    → AskRun words → IsAskedBy words (Ok request) → IsTakenRequest (Ok request)
+    → AskRun words → IsAskedBy words (Ok request) → IsTakenBy words (Ok request)
     → AnswersRequest request input before after result
     → IfSome input (λ text. RunsNamed words text before after result)
 run_named words (Help text) input before after result ask asked taken answers = absurd taken
@@ -298,7 +299,7 @@ explores_input words options (Some text) before after result are explores =
 
 explore_named : (words : List (List ℕ)) (request : Request) (input before after : Option (List ℕ))
     (result : Result (Unit {0}) Failure)
-    → AskExplore words → IsAskedBy words (Ok request) → IsTakenRequest (Ok request)
+    → AskExplore words → IsAskedBy words (Ok request) → IsTakenBy words (Ok request)
     → AnswersRequest request input before after result
     → IfSome input (λ text. ExploresNamed words text before after result)
 explore_named words (Help text) input before after result ask asked taken answers = absurd taken
@@ -309,37 +310,90 @@ explore_named words (Run options file) input before after result ask asked taken
 explore_named words (Explore options None) input before after result ask asked taken answers =
     explores_input words options input before after result asked.1.2 answers
 explore_named words (Explore options (Some file)) input before after result ask asked taken answers =
-    absurd (let is : Some file.now ≡ None = asked.1.3 ∙ ask.3 in cc)
+    absurd (let is : Some file.now ≡ None = asked.1.3 ∙ ask.4 in cc)
 
 -- words of a replay of standard input ask for it
 pub replay_asked : (given words : List (List ℕ)) (request : Request) (input before after : Option (List ℕ))
     (result : Result (Unit {0}) Failure)
     → given ≡ words → AskReplay words → IsAskedBy given (Ok request)
-    → (takes tracer_app given ≡ true → IsTakenRequest (Ok request)) → AnswersRequest request input before after result
+    → (takes tracer_app given ≡ true → IsTakenBy given (Ok request)) → AnswersRequest request input before after result
     → IfSome input (λ text. Replays text before after result)
 replay_asked given words request input before after result same ask asked taken answers =
     replay_named words request input before after result ask
-    (subst (λ (w : List (List ℕ)). IsAskedBy w (Ok request)) same asked) (taken (rw same ask.0)) answers
+    (subst (λ (w : List (List ℕ)). IsAskedBy w (Ok request)) same asked)
+    (subst (λ (w : List (List ℕ)). IsTakenBy w (Ok request)) same (taken (rw same ask.0))) answers
 
 -- and so do words of a run of it
 pub run_asked : (given words : List (List ℕ)) (request : Request) (input before after : Option (List ℕ))
     (result : Result (Unit {0}) Failure)
     → given ≡ words → AskRun words → IsAskedBy given (Ok request)
-    → (takes tracer_app given ≡ true → IsTakenRequest (Ok request)) → AnswersRequest request input before after result
+    → (takes tracer_app given ≡ true → IsTakenBy given (Ok request)) → AnswersRequest request input before after result
     → IfSome input (λ text. RunsNamed words text before after result)
 run_asked given words request input before after result same ask asked taken answers =
     run_named words request input before after result ask
-    (subst (λ (w : List (List ℕ)). IsAskedBy w (Ok request)) same asked) (taken (rw same ask.0)) answers
+    (subst (λ (w : List (List ℕ)). IsAskedBy w (Ok request)) same asked)
+    (subst (λ (w : List (List ℕ)). IsTakenBy w (Ok request)) same (taken (rw same ask.0))) answers
 
 -- and words of an exploration of it
 pub explore_asked : (given words : List (List ℕ)) (request : Request) (input before after : Option (List ℕ))
     (result : Result (Unit {0}) Failure)
     → given ≡ words → AskExplore words → IsAskedBy given (Ok request)
-    → (takes tracer_app given ≡ true → IsTakenRequest (Ok request)) → AnswersRequest request input before after result
+    → (takes tracer_app given ≡ true → IsTakenBy given (Ok request)) → AnswersRequest request input before after result
     → IfSome input (λ text. ExploresNamed words text before after result)
 explore_asked given words request input before after result same ask asked taken answers =
     explore_named words request input before after result ask
-    (subst (λ (w : List (List ℕ)). IsAskedBy w (Ok request)) same asked) (taken (rw same ask.0)) answers
+    (subst (λ (w : List (List ℕ)). IsAskedBy w (Ok request)) same asked)
+    (subst (λ (w : List (List ℕ)). IsTakenBy w (Ok request)) same (taken (rw same ask.0))) answers
+
+-- ---- words that clap takes, and that ask for nothing
+
+replay_fails : (words : List (List ℕ)) (failure : Failure) → AskReplay words → IsTakenBy words (Err failure)
+    → failure ≡ NoMemory
+replay_fails words NoMemory ask taken = refl
+replay_fails words (Usage text) ask taken = absurd (let is : false ≡ true = sym ask.2 ∙ taken.1 in cc)
+replay_fails words failure ask taken = absurd taken
+
+run_fails : (words : List (List ℕ)) (failure : Failure) → AskRun words → IsTakenBy words (Err failure)
+    → failure ≡ NoMemory
+run_fails words NoMemory ask taken = refl
+run_fails words (Usage text) ask taken = absurd (let is : true ≡ false = sym ask.1 ∙ taken.0 in cc)
+run_fails words failure ask taken = absurd taken
+
+explore_fails : (words : List (List ℕ)) (failure : Failure) → AskExplore words → IsTakenBy words (Err failure)
+    → failure ≡ NoMemory
+explore_fails words NoMemory ask taken = refl
+explore_fails words (Usage text) ask taken = absurd (ask.3 taken.2)
+explore_fails words failure ask taken = absurd taken
+
+nothing_known : (input : Option (List ℕ)) → IfSome input (λ text. Unit {0})
+nothing_known None = tt
+nothing_known (Some text) = tt
+
+pub no_replay : (given words : List (List ℕ)) (failure : Failure) (input before after : Option (List ℕ))
+    → given ≡ words → AskReplay words → (takes tracer_app given ≡ true → IsTakenBy given (Err failure))
+    → IfSome input (λ text. Replays text before after (Err failure))
+no_replay given words failure input before after same ask taken =
+    let is = replay_fails words failure ask
+    (subst (λ (w : List (List ℕ)). IsTakenBy w (Err failure)) same (taken (rw same ask.0))) in
+    subst (λ (f : Failure). IfSome input (λ text. Replays text before after (Err f))) (sym is) (nothing_known input)
+
+pub no_run : (given words : List (List ℕ)) (failure : Failure) (input before after : Option (List ℕ))
+    → given ≡ words → AskRun words → (takes tracer_app given ≡ true → IsTakenBy given (Err failure))
+    → IfSome input (λ text. RunsNamed words text before after (Err failure))
+no_run given words failure input before after same ask taken =
+    let is = run_fails words failure ask
+    (subst (λ (w : List (List ℕ)). IsTakenBy w (Err failure)) same (taken (rw same ask.0))) in
+    subst (λ (f : Failure). IfSome input (λ text. RunsNamed words text before after (Err f))) (sym is)
+    (nothing_known input)
+
+pub no_exploration : (given words : List (List ℕ)) (failure : Failure) (input before after : Option (List ℕ))
+    → given ≡ words → AskExplore words → (takes tracer_app given ≡ true → IsTakenBy given (Err failure))
+    → IfSome input (λ text. ExploresNamed words text before after (Err failure))
+no_exploration given words failure input before after same ask taken =
+    let is = explore_fails words failure ask
+    (subst (λ (w : List (List ℕ)). IsTakenBy w (Err failure)) same (taken (rw same ask.0))) in
+    subst (λ (f : Failure). IfSome input (λ text. ExploresNamed words text before after (Err f))) (sym is)
+    (nothing_known input)
 
 -- ---- how the program ends
 
@@ -349,3 +403,10 @@ untouched output (Ok done) = tt
 untouched output (Err CannotWrite) = tt
 untouched output (Err Forbidden) = tt
 untouched output (Err failure) = refl
+
+-- where it is known what the input has, the program ends by a result
+pub ends_so : (Holds : List ℕ → Result (Unit {0}) Failure → Type 0) (input before after : Option (List ℕ))
+    (ended : Result (Unit {0}) Failure) (status : ℕ) → IfSome input (λ text. Holds text ended)
+    → IsReported before after ended → status ≡ run_status ended → IfSome input (λ text. Ends (Holds text) before after status)
+ends_so Holds None before after ended status holds reported is = tt
+ends_so Holds (Some text) before after ended status holds reported is = (ended, holds, reported, is)

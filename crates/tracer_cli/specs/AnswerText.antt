@@ -17,9 +17,10 @@ use Rattle.tracer_cli.specs.Waiting.{state_at, waiting_refusal}
 
 -- ---- a turn's answer
 
--- a command about any row says first which one it got: that row's thread id
+-- a command about any row, or any of a group, says first which one it got: that row's thread id
 abbrev pub taken_row : List Row → Which → (row : ℕ) → List ℕ
 taken_row rows which.Any row = decimal (row_at rows row).tid ++ 32 ∷ []
+taken_row rows (which.Group pgid) row = decimal (row_at rows row).tid ++ 32 ∷ []
 taken_row rows other row = []
 
 -- only a resume and an exit are answered that they are done
@@ -48,7 +49,7 @@ abbrev pub reason_text : List Row → Option Refused → List ℕ
 reason_text rows None = []
 reason_text rows (Some refusal) = 32 ∷ refusal_name rows refusal
 
--- a command about any row, or about the one claimed last, has no one refusal
+-- a command about any row, any of a group, or the one claimed last, has no one refusal
 abbrev pub reason_about : List Row → List State → Which → BoardCall → List ℕ
 reason_about rows states (which.Row row) asked =
     reason_text rows (waiting_refusal rows (state_at states) row asked)

@@ -1,7 +1,8 @@
 -- The command line, as clap's definitions read it: `tracer replay [FILE]`,
--- `tracer run [-f] [--seccomp-bpf] [-w N] [-s N] [-e NAMES] [FILE]`, `tracer explore [--budget N] [--replay K] [FILE]`,
+-- `tracer run [-f] [--seccomp-bpf] [-w N] [-s N] [-e NAMES] [FILE]`, `tracer explore [--budget N] [--replay K] [--ends] [FILE]`,
 -- and `tracer --version`.
-use Rattle.std.specs.Prelude.{◌≡◌, ◌≢◌, ◌≤◌, ◌∷◌, [], ℕ, Bool, true, false, IsTrue, IsFalse, List, Option, Some, None}
+use Rattle.std.specs.Borrow.{Bor}
+use Rattle.std.specs.Prelude.{◌≡◌, ◌≢◌, ◌≤◌, ◌⊎◌, ◌∷◌, [], ℕ, Bool, true, false, IsTrue, IsFalse, List, Option, Some, None}
 use Rattle.std.specs.Prelude.{Result, Ok, Err, codes, option_map, pos}
 use Rattle.std.specs.Option.{option_map_or}
 use Rattle.std.specs.Str.{bytes_eq}
@@ -18,6 +19,8 @@ use Rattle.stop_history.specs.declared.limits.TheConstants.{TRACERS}
 use Rattle.tracer_cli.specs.declared.arguments.Request.{Request}
 use Rattle.tracer_cli.specs.declared.arguments.Request.TheVariants.{Replay, Run, Explore, Help}
 use Rattle.tracer_cli.specs.declared.arguments.ExploreOptions.{ExploreOptions}
+use Rattle.tracer_cli.specs.declared.arguments.Listing.{Listing}
+use Rattle.tracer_cli.specs.declared.arguments.Listing.TheVariants as listing
 use Rattle.tracer_cli.specs.declared.arguments.RunOptions.{RunOptions}
 use Rattle.tracer_cli.specs.declared.arguments.TheConstants.{MOST_PLACES, MOST_SHOWN}
 use Rattle.tracer_cli.specs.declared.failure.Failure.{Failure}
@@ -71,6 +74,9 @@ budget_rule = record (long_rule (codes "budget") MOST_PLACES) { defaults = codes
 abbrev pub outcome_rule : Rule
 outcome_rule = long_rule (codes "replay") MOST_PLACES
 
+abbrev pub ends_rule : Rule
+ends_rule = record (flag_rule (codes "ends")) { long = Some (codes "ends") }
+
 abbrev pub replay_app : App
 replay_app = with_rule (new_app (codes "replay")) file_rule
 
@@ -82,7 +88,8 @@ run_app =
     file_rule
 
 abbrev pub explore_app : App
-explore_app = with_rule (with_rule (with_rule (new_app (codes "explore")) budget_rule) outcome_rule) file_rule
+explore_app =
+    with_rule (with_rule (with_rule (with_rule (new_app (codes "explore")) budget_rule) outcome_rule) ends_rule) file_rule
 
 abbrev pub has_version : App → App
 has_version app = record app { top = record app.top { has_version = true } }
@@ -139,10 +146,36 @@ abbrev pub IsOptionalNumber : (most : ℕ) → Option Text → Option ℕ → Ty
 IsOptionalNumber most None place = place ≡ None
 IsOptionalNumber most (Some text) place = IsUnsignedIn 1 most text → place ≡ Some (digits_value 10 (without_leading_plus text))
 
+-- what is printed, by the two options that say it, which do not go together
+abbrev pub listing_of : (ends : Bool) → (outcome : Option ℕ) → Option Listing
+listing_of false None = Some listing.Outcomes
+listing_of true None = Some listing.Ends
+listing_of false (Some number) = Some (listing.Replay number)
+listing_of true (Some number) = None
+
+-- the two options as they are asked for
+pub record AreListings (rows : List Row) (ends : Bool) (outcome : Option ℕ) : Type 0 where
+  pub flag : IsFlag (one_of (codes "ends") rows) ends
+  pub number : IsOptionalNumber MOST_PLACES (one_of (codes "replay") rows) outcome
+
 -- the options of an exploration
 pub record AreExploreOptions (rows : List Row) (options : ExploreOptions) : Type 0 where
   pub budget : IsNumber 1 MOST_PLACES (one_of (codes "budget") rows) options.budget
-  pub outcome : IsOptionalNumber MOST_PLACES (one_of (codes "replay") rows) options.outcome
+  pub ends : Bool
+  pub outcome : Option ℕ
+  pub asked : AreListings rows ends outcome
+  pub listing : listing_of ends outcome ≡ Some options.listing
+
+-- both are asked for
+pub record AskBoth (rows : List Row) : Type 0 where
+  pub ends : Bool
+  pub outcome : Option ℕ
+  pub asked : AreListings rows ends outcome
+  pub clash : listing_of ends outcome ≡ None
+
+abbrev pub AreAskedOptions : List Row → Option ExploreOptions → Type 0
+AreAskedOptions rows None = AskBoth rows
+AreAskedOptions rows (Some options) = AreExploreOptions rows options
 
 abbrev pub IsNamed : FoundSubcommand → Request → Type 0
 IsNamed found (Replay file) =
@@ -153,6 +186,23 @@ IsNamed found (Explore options file) =
 IsNamed found (Run options file) =
     (is_run found ≡ true) × AreOptions (rows_in found) options × (option_map (λ text. text.now) file ≡ file_in found)
 IsNamed found (Help text) = ⊥
+
+-- of an exploration, where both are asked for that do not go together
+abbrev pub IsContradictory : FoundSubcommand → Type 0
+IsContradictory found = (is_run found ≡ false) × (is_explore found ≡ true) × AskBoth (rows_in found)
+
+abbrev pub IsNamedBy : FoundSubcommand → Result Request Failure → Type 0
+IsNamedBy found (Ok request) = IsNamed found request
+IsNamedBy found (Err (Usage text)) = IsContradictory found
+IsNamedBy found (Err NoMemory) = Unit {0}
+IsNamedBy found (Err failure) = ⊥
+
+-- of an exploration, by what was found for its arguments
+abbrev pub IsExploreRequest : List Row → (file : Option (Bor Text)) → Result Request Failure → Type 0
+IsExploreRequest rows file (Ok (Explore options named)) = AreExploreOptions rows options × (named ≡ file)
+IsExploreRequest rows file (Err (Usage text)) = AskBoth rows
+IsExploreRequest rows file (Err NoMemory) = Unit {0}
+IsExploreRequest rows file other = ⊥
 
 -- ---- what the words ask for
 
@@ -173,20 +223,25 @@ IsFailureBy of NoMemory = Unit {0}
 IsFailureBy of failure = ⊥
 
 -- what any words ask for, by clap's definitions of when words fail and of what they match: a replay or a run, as they
--- name it, only of words that do not fail; help or wrong use by a kind of error that they fail with; or there is no
--- memory
+-- name it, only of words that do not fail; help or wrong use by a kind of error that they fail with; wrong use of words
+-- that ask for two things which do not go together; or there is no memory
 abbrev pub IsAskedBy : (words : List Text) → Result Request Failure → Type 0
 IsAskedBy words (Ok (Help text)) = (of : ErrorKind) × IsAmong of (fault_of tracer_app words) × IsTrue (shows_text of)
 IsAskedBy words (Ok request) = (fault_of tracer_app words ≡ []) × IsNamed (subcommand_of tracer_app words) request
-IsAskedBy words (Err (Usage text)) = (of : ErrorKind) × IsAmong of (fault_of tracer_app words) × IsFalse (shows_text of)
+IsAskedBy words (Err (Usage text)) =
+    ((of : ErrorKind) × IsAmong of (fault_of tracer_app words) × IsFalse (shows_text of))
+    ⊎ ((fault_of tracer_app words ≡ []) × IsContradictory (subcommand_of tracer_app words))
 IsAskedBy words (Err NoMemory) = Unit {0}
 IsAskedBy words (Err failure) = ⊥
 
--- words that clap takes ask for no help and fail only without memory
-abbrev pub IsTakenRequest : Result Request Failure → Type 0
-IsTakenRequest (Ok (Help text)) = ⊥
-IsTakenRequest (Ok request) = Unit {0}
-IsTakenRequest (Err failure) = failure ≡ NoMemory
+-- words that clap takes ask for no help, and fail only without memory or where they ask for two things which do not go
+-- together
+abbrev pub IsTakenBy : (words : List Text) → Result Request Failure → Type 0
+IsTakenBy words (Ok (Help text)) = ⊥
+IsTakenBy words (Ok request) = Unit {0}
+IsTakenBy words (Err NoMemory) = Unit {0}
+IsTakenBy words (Err (Usage text)) = IsContradictory (subcommand_of tracer_app words)
+IsTakenBy words (Err failure) = ⊥
 
 -- words of a replay, of a run, or of an exploration, of standard input
 abbrev pub AskReplay : (words : List Text) → Type 0
@@ -195,7 +250,8 @@ AskReplay words = (takes tracer_app words ≡ true) × (is_run (subcommand_of tr
 
 abbrev pub AskExplore : (words : List Text) → Type 0
 AskExplore words = (takes tracer_app words ≡ true) × (is_run (subcommand_of tracer_app words) ≡ false)
-    × (is_explore (subcommand_of tracer_app words) ≡ true) × (file_in (subcommand_of tracer_app words) ≡ None)
+    × (is_explore (subcommand_of tracer_app words) ≡ true) × (¬ AskBoth (rows_in (subcommand_of tracer_app words)))
+    × (file_in (subcommand_of tracer_app words) ≡ None)
 
 abbrev pub AskRun : (words : List Text) → Type 0
 AskRun words = (takes tracer_app words ≡ true) × (is_run (subcommand_of tracer_app words) ≡ true)
@@ -211,7 +267,7 @@ AreExploreOptionsOf words options = AreExploreOptions (rows_in (subcommand_of tr
 -- what `explore` asks for
 pub record IsExploredWhole (options : ExploreOptions) : Type 0 where
   pub budget : options.budget ≡ 1000000
-  pub outcome : options.outcome ≡ None
+  pub listing : options.listing ≡ listing.Outcomes
 
 -- what `run -f` asks for
 pub record IsFollowed (options : RunOptions) : Type 0 where

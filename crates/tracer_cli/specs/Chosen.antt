@@ -1,23 +1,14 @@
--- The outcomes that are printed: those in which every command with a reply was done. A law says that the test is
--- `HaveComeTrue` of `stop_explorer`.
-use Rattle.std.specs.Prelude.{◌==◌, ◌||◌, ℕ, suc, zero, Bool, false, not, List, length, filter, Option, Some, None}
-use Rattle.std.specs.Prelude.{is_some, slice_get}
+-- The outcomes that are printed: those in which every command with a reply was done, and every condition holds. A law
+-- says that the test for replies is `HaveComeTrue` of `stop_explorer`.
+use Rattle.std.specs.Prelude.{◌==◌, ◌&&◌, ◌||◌, ℕ, suc, zero, Bool, not, List, length, filter, Option, None, slice_get}
 use Rattle.std.specs.List.{list_all, list_any, range_with_len}
 use Rattle.stop_explorer.specs.declared.command.ThreadCommand.{ThreadCommand}
 use Rattle.stop_explorer.specs.Program.{Log}
+use Rattle.stop_explorer.specs.Progress.{has_reply}
 use Rattle.stop_explorer.specs.Replies.{DoneCommand, done_by_thread}
 use Rattle.stop_explorer.specs.Run.{EndedRun}
-
--- ---- replies
-
-abbrev pub has_reply : Option ThreadCommand → Bool
-has_reply None = false
-has_reply (Some command) = is_some command.wanted
-
--- some command of these threads has a reply
-unfoldable pub has_replies : (threads : ℕ) → (commands : ℕ → List ThreadCommand) → Bool
-has_replies threads commands =
-    list_any (λ thread. list_any (λ command. is_some command.wanted) (commands thread)) (range_with_len 0 threads)
+use Rattle.tracer_cli.specs.declared.litmus.required.Condition.{Condition}
+use Rattle.tracer_cli.specs.Conditions.{conditions_hold}
 
 -- ---- replies that came true
 
@@ -41,8 +32,14 @@ have_come_true threads commands log =
 
 -- ---- the outcomes
 
-abbrev pub chosen_of : (threads : ℕ) → (commands : ℕ → List ThreadCommand) → List EndedRun → List EndedRun
-chosen_of threads commands endings = filter (λ ending. have_come_true threads commands ending.turns) endings
+-- each reply came true, and each condition holds
+unfoldable pub is_chosen : (threads : ℕ) → (commands : ℕ → List ThreadCommand) → List Condition → EndedRun → Bool
+is_chosen threads commands conditions ending =
+    have_come_true threads commands ending.turns && conditions_hold commands conditions ending
+
+abbrev pub chosen_of : (threads : ℕ) → (commands : ℕ → List ThreadCommand) → List Condition → List EndedRun
+    → List EndedRun
+chosen_of threads commands conditions endings = filter (is_chosen threads commands conditions) endings
 
 -- outcomes are numbered from 1
 abbrev pub ending_numbered : (number : ℕ) → List EndedRun → Option EndedRun

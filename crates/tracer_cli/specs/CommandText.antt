@@ -11,17 +11,19 @@ use Rattle.stop_history.specs.Roster.{row_at}
 use Rattle.tracer_cli.specs.declared.command.Command.TheVariants as command
 use Rattle.tracer_cli.specs.Spelling.{words_about}
 
--- a row is named by its thread id
+-- a row is named by its thread id, a group by a word and its number
 abbrev pub tracee_word : List Row → Which → List ℕ
 tracee_word rows (which.Row row) = decimal (row_at rows row).tid
 tracee_word rows which.Any = codes "any"
+tracee_word rows (which.Group pgid) = codes "group " ++ decimal pgid
 tracee_word rows which.Last = codes "it"
 
--- the words of a call are those of a replay file, which has no look and no claim that waits
+-- the words of a call are those of a replay file, which has no look, at once or not, and no claim that waits
 abbrev pub board_call_words : (tracee : List ℕ) → (waits : Bool) → BoardCall → List (List ℕ)
 board_call_words tracee waits (call.Publish stop) = words_about tracee (command.Publish stop)
 board_call_words tracee waits call.State = words_about tracee command.State
-board_call_words tracee waits (call.Look tracer) = codes "look" ∷ tracee ∷ decimal tracer ∷ []
+board_call_words tracee true (call.Look tracer) = codes "look" ∷ tracee ∷ decimal tracer ∷ []
+board_call_words tracee false (call.Look tracer) = codes "peek" ∷ tracee ∷ decimal tracer ∷ []
 board_call_words tracee true (call.Claim tracer) = codes "wait" ∷ tracee ∷ decimal tracer ∷ []
 board_call_words tracee false (call.Claim tracer) = words_about tracee (command.Claim tracer)
 board_call_words tracee waits (call.Resume tracer how) = words_about tracee (command.Resume tracer how)

@@ -1,12 +1,14 @@
 -- What was read of a litmus file, as the program keeps it, read as the definition's.
 use Rattle.std.specs.Borrow.{Bor}
-use Rattle.std.specs.Prelude.{◌<◌, ◌≤◌, ℕ, IfSome, IsUtf8, List, length, map, Option, Some, None, option_map}
+use Rattle.std.specs.Prelude.{◌≡◌, ◌<◌, ◌≤◌, ℕ, IfSome, IsUtf8, List, length, map, Option, Some, None, option_map}
 use Rattle.std.specs.List.{All}
-use Rattle.stop_explorer.specs.declared.command.ThreadCommand.{ThreadCommand}
+use Rattle.tracer_cli.specs.declared.litmus.required.NumberedCommand.{NumberedCommand}
 use Rattle.tracer_cli.specs.declared.litmus.draft.LitmusDraft.{LitmusDraft}
 use Rattle.tracer_cli.specs.declared.litmus.file.LitmusFile.{LitmusFile}
 use Rattle.tracer_cli.specs.declared.litmus.draft.TheConstants.{MOST_THREADS}
-use Rattle.tracer_cli.specs.LitmusFile.{LitmusContent, LitmusReading, OpenRepeat}
+use Rattle.stop_explorer.specs.Program.{own_commands}
+use Rattle.stop_explorer.specs.Replies.{GoForward}
+use Rattle.tracer_cli.specs.LitmusFile.{LitmusContent, LitmusReading, OpenRepeat, plain_lines}
 use Rattle.tracer_cli.specs.LitmusGrammar.{IsLitmusCall}
 
 -- names that are slices of the file
@@ -17,7 +19,7 @@ names_kept names = map (option_map (λ name. name.now)) names
 abbrev pub AreTexts : List (Option (Bor (List ℕ))) → Type 0
 AreTexts names = All (λ name. IfSome name (λ bytes. IsUtf8 bytes.now)) names
 
-abbrev pub repeat_kept : (times : Option ℕ) → (body : List ThreadCommand) → Option OpenRepeat
+abbrev pub repeat_kept : (times : Option ℕ) → (body : List NumberedCommand) → Option OpenRepeat
 repeat_kept None body = None
 repeat_kept (Some times) body = Some (record { times = times; body = body })
 
@@ -26,17 +28,29 @@ litmus_reading_of draft =
     record {
       rows = draft.rows;
       names = names_kept draft.names.items;
+      voices = draft.voices.items;
       lines = draft.lines.items;
       before = draft.before;
       repeat = repeat_kept draft.times draft.body.items;
+      requirements = draft.requirements.items;
+      conditions = draft.conditions.items;
     }
 
 abbrev pub content_in : {Z : Type 0} → LitmusFile Z → LitmusContent
-content_in file = record { rows = file.rows; names = names_kept file.names.items; lines = file.lines.items }
+content_in file = record {
+  rows = file.rows;
+  names = names_kept file.names.items;
+  voices = file.voices.items;
+  lines = file.lines.items;
+  requirements = file.requirements.items;
+  conditions = file.conditions.items;
+}
 
 -- what is known of a file that was read
 pub record IsLitmusFile {Z : Type 0} (file : LitmusFile Z) : Type 0 where
   pub few : length file.names.items ≤ MOST_THREADS
   pub names : AreTexts file.names.items
-  pub calls : All (λ line. IsLitmusCall line.command.call) file.lines.items
-  pub threads : All (λ line. line.thread < length file.names.items) file.lines.items
+  pub voices : length file.voices.items ≡ length file.names.items
+  pub calls : All (λ numbered. IsLitmusCall numbered.line.command.call) file.lines.items
+  pub threads : All (λ numbered. numbered.line.thread < length file.names.items) file.lines.items
+  pub forward : GoForward (own_commands (plain_lines file.lines.items))

@@ -9,6 +9,8 @@ use Rattle.std.specs.List.{list_all}
 use Rattle.stop_explorer.specs.BoardCall.{IsBoardCall}
 use Rattle.stop_explorer.specs.declared.board_call.BoardCall.{BoardCall}
 use Rattle.stop_explorer.specs.declared.board_call.BoardCall.TheVariants as call
+use Rattle.stop_explorer.specs.declared.voice.Voice.{Voice}
+use Rattle.stop_explorer.specs.declared.voice.Voice.TheVariants.{Loud, Quiet}
 use Rattle.stop_history.specs.declared.limits.TheConstants.{TRACERS}
 use Rattle.text_lines.specs.declared.fault.LineFault.{LineFault}
 use Rattle.text_lines.specs.declared.fault.LineFault.TheVariants.{UnknownWord}
@@ -25,7 +27,7 @@ use Rattle.tracer_cli.specs.declared.grammar.ReplayKeyword.TheVariants as replay
 use Rattle.tracer_cli.specs.declared.litmus.grammar.TheConstants.{LONGEST_NAME, MOST_REPEATS}
 use Rattle.tracer_cli.specs.declared.litmus.keyword.CommandKeyword.{CommandKeyword}
 use Rattle.tracer_cli.specs.declared.litmus.keyword.CommandKeyword.TheVariants.{Publish, Exit, State, Claim, Wait, Look}
-use Rattle.tracer_cli.specs.declared.litmus.keyword.CommandKeyword.TheVariants.{Resume}
+use Rattle.tracer_cli.specs.declared.litmus.keyword.CommandKeyword.TheVariants.{Peek, Resume}
 use Rattle.tracer_cli.specs.declared.litmus.keyword.LitmusKeyword.{LitmusKeyword}
 use Rattle.tracer_cli.specs.declared.litmus.keyword.LitmusKeyword.TheVariants as keyword
 use Rattle.tracer_cli.specs.declared.litmus.line.Aim.{Aim}
@@ -37,25 +39,29 @@ use Rattle.tracer_cli.specs.declared.litmus.line.LitmusReply.{LitmusReply}
 use Rattle.tracer_cli.specs.declared.litmus.line.Within.{Within}
 use Rattle.tracer_cli.specs.declared.litmus.line.Within.TheVariants as within
 use Rattle.tracer_cli.specs.Grammar.{kind_of, replay_rest_of, tracer_number}
-use Rattle.tracer_cli.specs.LitmusReply.{is_any_word, is_it_word, reply_of_words}
+use Rattle.tracer_cli.specs.LitmusCondition.{condition_of_words}
+use Rattle.tracer_cli.specs.LitmusReply.{is_any_word, is_group_word, is_it_word, reply_of_words}
 
 -- ---- the first words of lines, and where each may come
 
 abbrev pub litmus_keywords : List (List ℕ × LitmusKeyword)
 litmus_keywords =
-    (codes "row", keyword.Row) ∷ (codes "thread", keyword.Thread) ∷ (codes "repeat", keyword.Repeat)
-    ∷ (codes "end", keyword.End) ∷ (codes "publish", keyword.Command Publish) ∷ (codes "exit", keyword.Command Exit)
+    (codes "row", keyword.Row) ∷ (codes "thread", keyword.Thread Loud) ∷ (codes "quiet", keyword.Thread Quiet)
+    ∷ (codes "repeat", keyword.Repeat) ∷ (codes "end", keyword.End) ∷ (codes "only", keyword.Only) ∷ (codes "publish", keyword.Command Publish) ∷ (codes "exit", keyword.Command Exit)
     ∷ (codes "state", keyword.Command State) ∷ (codes "claim", keyword.Command Claim)
     ∷ (codes "wait", keyword.Command Wait) ∷ (codes "look", keyword.Command Look)
-    ∷ (codes "resume", keyword.Command Resume) ∷ []
+    ∷ (codes "peek", keyword.Command Peek) ∷ (codes "resume", keyword.Command Resume) ∷ []
 
--- rows come before the first thread; commands, repeats and their ends in a thread; no repeat in a repeat. That no
--- thread begins in a repeat is left to the file.
+-- rows come before the first thread; commands, repeats and their ends in a thread; no repeat in a repeat, and no
+-- condition. After the first condition only conditions come. That no thread begins in a repeat is left to the file.
 abbrev pub litmus_may_come : LitmusKeyword → Within → Bool
 litmus_may_come keyword.Row within.Rows = true
-litmus_may_come keyword.Thread within = true
+litmus_may_come (keyword.Thread voice) within.Conditions = false
+litmus_may_come (keyword.Thread voice) within = true
 litmus_may_come keyword.Repeat within.Thread = true
 litmus_may_come keyword.End within.Repeat = true
+litmus_may_come keyword.Only within.Repeat = false
+litmus_may_come keyword.Only within = true
 litmus_may_come (keyword.Command word) within.Thread = true
 litmus_may_come (keyword.Command word) within.Repeat = true
 litmus_may_come other within = false
@@ -76,11 +82,11 @@ abbrev pub is_thread_name : List ℕ → Bool
 is_thread_name word =
     is_ascii_alphabetic (slice_index word 0) && (nat_le (length word) LONGEST_NAME && list_all is_name_byte word)
 
--- thread, thread NAME
-abbrev pub thread_line : List (List ℕ) → Result LitmusLine LineFault
-thread_line words =
-    if length words == 0 then Ok line.Thread
-    else if length words == 1 && is_thread_name (nth_word words 0) then Ok line.Thread
+-- thread, thread NAME, and so of quiet
+abbrev pub thread_line : Voice → List (List ℕ) → Result LitmusLine LineFault
+thread_line voice words =
+    if length words == 0 then Ok (line.Thread voice)
+    else if length words == 1 && is_thread_name (nth_word words 0) then Ok (line.Thread voice)
     else Err UnknownWord
 
 -- the name that a thread's line gives it
@@ -93,7 +99,7 @@ repeat_line count = number_between 1 MOST_REPEATS count >>= λ n. Ok (line.Repea
 
 -- ---- commands without a reply
 
--- `claim`, `state` and `resume` are done at once
+-- `claim`, `peek`, `state` and `resume` are done at once
 abbrev pub does_wait : CommandKeyword → Bool
 does_wait Publish = true
 does_wait Exit = true
@@ -101,6 +107,7 @@ does_wait State = false
 does_wait Claim = false
 does_wait Wait = true
 does_wait Look = true
+does_wait Peek = false
 does_wait Resume = false
 
 abbrev pub asking : CommandKeyword → Aim → BoardCall → LitmusCommand
@@ -115,9 +122,10 @@ as_in_replay keyword (replay_line.Command tid (command.Exit death)) =
 as_in_replay keyword (replay_line.Command tid command.State) = Ok (asking keyword (aim.Tid tid) call.State)
 as_in_replay keyword other = Err UnknownWord
 
--- a wait takes what is there as a claim does; a look leaves it
+-- a wait takes what is there as a claim does; a look and a peek leave it
 abbrev pub claim_call : CommandKeyword → (tracer : ℕ) → BoardCall
 claim_call Look tracer = call.Look tracer
+claim_call Peek tracer = call.Look tracer
 claim_call other tracer = call.Claim tracer
 
 abbrev pub any_or_tid : List ℕ → Result Aim LineFault
@@ -126,16 +134,23 @@ any_or_tid word = if is_any_word word then Ok aim.Any else (id_of word >>= λ t.
 abbrev pub it_or_tid : List ℕ → Result Aim LineFault
 it_or_tid word = if is_it_word word then Ok aim.It else (id_of word >>= λ t. Ok (aim.Tid t))
 
--- claim TID TRACER, claim any TRACER, and so of wait and look
-abbrev pub claim_command : CommandKeyword → (named tracer : List ℕ) → Result LitmusCommand LineFault
-claim_command keyword named tracer = do
-  a ← any_or_tid named
+-- a group is there whatever its number: it may have no row
+abbrev pub group_aim : (pgid : List ℕ) → Result Aim LineFault
+group_aim pgid = id_of pgid >>= λ g. Ok (aim.Group g)
+
+abbrev pub claim_command : CommandKeyword → Result Aim LineFault → (tracer : List ℕ) → Result LitmusCommand LineFault
+claim_command keyword about tracer = do
+  a ← about
   c ← tracer_number tracer
   Ok (asking keyword a (claim_call keyword c))
 
+-- claim TID TRACER, claim any TRACER, claim group PGID TRACER, and so of wait, look and peek
 abbrev pub claim_of_words : CommandKeyword → List (List ℕ) → Result LitmusCommand LineFault
 claim_of_words keyword words =
-    if length words == 2 then claim_command keyword (nth_word words 0) (nth_word words 1) else Err UnknownWord
+    if length words == 2 then claim_command keyword (any_or_tid (nth_word words 0)) (nth_word words 1)
+    else if length words == 3 && is_group_word (nth_word words 0)
+    then claim_command keyword (group_aim (nth_word words 1)) (nth_word words 2)
+    else Err UnknownWord
 
 -- resume TID TRACER KIND SIGNAL, resume it TRACER KIND SIGNAL
 abbrev pub resume_command : (named tracer kind signal : List ℕ) → Result LitmusCommand LineFault
@@ -160,6 +175,7 @@ bare_command_of State words = replay_rest_of replay.State words >>= as_in_replay
 bare_command_of Claim words = claim_of_words Claim words
 bare_command_of Wait words = claim_of_words Wait words
 bare_command_of Look words = claim_of_words Look words
+bare_command_of Peek words = claim_of_words Peek words
 bare_command_of Resume words = resume_of_words words
 
 -- ---- commands with a reply
@@ -193,9 +209,10 @@ litmus_rest_of keyword.Row words =
     then (row_of_words (nth_word words 0) (nth_word words 1) (nth_word words 2) (nth_word words 3)
     >>= λ row. Ok (line.Row row))
     else Err UnknownWord
-litmus_rest_of keyword.Thread words = thread_line words
+litmus_rest_of (keyword.Thread voice) words = thread_line voice words
 litmus_rest_of keyword.Repeat words = if length words == 1 then repeat_line (nth_word words 0) else Err UnknownWord
 litmus_rest_of keyword.End words = if length words == 0 then Ok line.End else Err UnknownWord
+litmus_rest_of keyword.Only words = condition_of_words words >>= λ condition. Ok (line.Only condition)
 litmus_rest_of (keyword.Command word) words = command_of_words word words >>= λ command. Ok (line.Command command)
 
 -- a line without words, and one whose first word begins with #, says nothing
@@ -225,5 +242,5 @@ IsLitmusLine other = Unit {0}
 
 -- a line that begins a thread names it by text, if it names it
 abbrev pub IsNamedLine : List (List ℕ) → LitmusLine → Type 0
-IsNamedLine words line.Thread = IfSome (name_of_words words) IsUtf8
+IsNamedLine words (line.Thread voice) = IfSome (name_of_words words) IsUtf8
 IsNamedLine words other = Unit {0}

@@ -1,16 +1,16 @@
 -- The reply after a command's `=`, by its words and by the command: what the command is to be answered, or the first
 -- fault in the order of causes. All words are tested (UnknownWord) before any number (BadNumber).
-use Rattle.std.specs.Prelude.{◌==◌, ◌&&◌, ◌-◌, ◌^◌, ◌∷◌, [], ℕ, Bool, List, length, codes, bytes_eq, Some, None}
-use Rattle.std.specs.Prelude.{Result, Ok, Err, if◌then◌else◌}
-use Rattle.stop_history.specs.declared.got.Got.{Got}
-use Rattle.stop_history.specs.declared.got.Got.TheVariants as got
+use Rattle.std.specs.Prelude.{◌==◌, ◌&&◌, ◌||◌, ◌-◌, ◌^◌, ◌∷◌, [], ℕ, Bool, false, List, length, codes, bytes_eq, Some}
+use Rattle.std.specs.Prelude.{None, Option, Result, Ok, Err, if◌then◌else◌}
 use Rattle.stop_history.specs.declared.limits.TheConstants.{LAST_NUMBER}
 use Rattle.stop_history.specs.declared.refused.Refused.{Refused}
 use Rattle.stop_history.specs.declared.refused.Refused.TheVariants as refused
-use Rattle.stop_history.specs.declared.state.State.{State}
-use Rattle.stop_history.specs.declared.state.State.TheVariants as state
-use Rattle.stop_explorer.specs.declared.answer.Answer.{Answer}
-use Rattle.stop_explorer.specs.declared.answer.Answer.TheVariants as answer
+use Rattle.stop_explorer.specs.declared.reply.WantedAnswer.{WantedAnswer}
+use Rattle.stop_explorer.specs.declared.reply.WantedAnswer.TheVariants as answer
+use Rattle.stop_explorer.specs.declared.reply.WantedGot.{WantedGot}
+use Rattle.stop_explorer.specs.declared.reply.WantedGot.TheVariants as got
+use Rattle.stop_explorer.specs.declared.reply.WantedState.{WantedState}
+use Rattle.stop_explorer.specs.declared.reply.WantedState.TheVariants as state
 use Rattle.text_lines.specs.declared.fault.LineFault.{LineFault}
 use Rattle.text_lines.specs.declared.fault.LineFault.TheVariants.{UnknownWord}
 use Rattle.text_lines.specs.Keywords.{value_beside}
@@ -28,19 +28,34 @@ use Rattle.tracer_cli.specs.Grammar.{tracer_number}
 
 -- ---- words
 
--- in the place of a TID: whichever tracee has something, and the one that the thread claimed last
+-- in the place of a TID: whichever tracee has something, whichever of a group, and the one that the thread claimed last
 abbrev pub is_any_word : List ℕ → Bool
 is_any_word word = bytes_eq word (codes "any")
 
+abbrev pub is_group_word : List ℕ → Bool
+is_group_word word = bytes_eq word (codes "group")
+
 abbrev pub is_it_word : List ℕ → Bool
 is_it_word word = bytes_eq word (codes "it")
+
+-- in the place of a number
+abbrev pub is_star : List ℕ → Bool
+is_star word = bytes_eq word (codes "*")
+
+-- `named` is the word in the place of a command's TID. A command that takes any of several tracees is told which.
+abbrev pub names_several : CommandKeyword → (named : List ℕ) → Bool
+names_several keyword.Claim named = is_any_word named || is_group_word named
+names_several keyword.Wait named = is_any_word named || is_group_word named
+names_several keyword.Look named = is_any_word named || is_group_word named
+names_several keyword.Peek named = is_any_word named || is_group_word named
+names_several other named = false
 
 -- what a claim can get
 abbrev pub got_words : List (List ℕ × GotWord)
 got_words = (codes "stop", got_word.Stop) ∷ (codes "ended", got_word.Ended) ∷ []
 
 -- the states that are one word
-abbrev pub plain_states : List (List ℕ × State)
+abbrev pub plain_states : List (List ℕ × WantedState)
 plain_states = (codes "unborn", state.Unborn) ∷ (codes "running", state.Running) ∷ (codes "reaped", state.Reaped) ∷ []
 
 -- the states that are a word and two numbers
@@ -52,7 +67,7 @@ numbered_states =
 abbrev pub publish_refusals : List (List ℕ × Refused)
 publish_refusals = (codes "NotNext", refused.NotNext) ∷ (codes "Full", refused.Full) ∷ []
 
--- the refusals of a claim at once
+-- the refusals of a claim or a look at once
 abbrev pub claim_refusals : List (List ℕ × Refused)
 claim_refusals = (codes "Unborn", refused.Unborn) ∷ (codes "NotWaitable", refused.NotWaitable) ∷ []
 
@@ -72,142 +87,166 @@ stop_number word = number_between 0 LAST_NUMBER word
 abbrev pub status_number : List ℕ → Result ℕ LineFault
 status_number word = number_between 0 (2 ^ 32 - 1) word
 
+-- `*` asks for no number
+abbrev pub unless_star : (word : List ℕ) → Result ℕ LineFault → Result (Option ℕ) LineFault
+unless_star word read = if is_star word then Ok None else (read >>= λ n. Ok (Some n))
+
+abbrev pub wanted_stop : List ℕ → Result (Option ℕ) LineFault
+wanted_stop word = unless_star word (stop_number word)
+
+abbrev pub wanted_status : List ℕ → Result (Option ℕ) LineFault
+wanted_status word = unless_star word (status_number word)
+
+abbrev pub wanted_tracer : List ℕ → Result (Option ℕ) LineFault
+wanted_tracer word = unless_star word (tracer_number word)
+
 -- ---- stops, deaths and states
 
-abbrev pub got_with_numbers : GotWord → (number status : ℕ) → Got
+abbrev pub got_with_numbers : GotWord → (number status : Option ℕ) → WantedGot
 got_with_numbers got_word.Stop number status = got.Stop number status
 got_with_numbers got_word.Ended number status = got.Ended number status
 
 -- stop N STATUS, ended N STATUS
-abbrev pub got_of_words : (name number status : List ℕ) → Result Got LineFault
+abbrev pub got_of_words : (name number status : List ℕ) → Result WantedGot LineFault
 got_of_words name number status = do
   w ← value_beside got_words name
-  n ← stop_number number
-  s ← status_number status
+  n ← wanted_stop number
+  s ← wanted_status status
   Ok (got_with_numbers w n s)
 
 -- what a look sees is left there
-abbrev pub got_told : CommandKeyword → Got → Answer
+abbrev pub got_told : CommandKeyword → WantedGot → WantedAnswer
 got_told keyword.Look got = answer.Saw got
+got_told keyword.Peek got = answer.Saw got
 got_told other got = answer.Got got
 
-abbrev pub state_with_number : StateWord → (number : ℕ) → (last : List ℕ) → Result State LineFault
-state_with_number state_word.Stopped number status = status_number status >>= λ s. Ok (state.Stopped number s)
-state_with_number state_word.Claimed number tracer = tracer_number tracer >>= λ c. Ok (state.Claimed number c)
-state_with_number state_word.Dead number status = status_number status >>= λ s. Ok (state.Dead number s)
+abbrev pub state_with_number : StateWord → (number : Option ℕ) → (last : List ℕ) → Result WantedState LineFault
+state_with_number state_word.Stopped number status = wanted_status status >>= λ s. Ok (state.Stopped number s)
+state_with_number state_word.Claimed number tracer = wanted_tracer tracer >>= λ c. Ok (state.Claimed number c)
+state_with_number state_word.Dead number status = wanted_status status >>= λ s. Ok (state.Dead number s)
 
 -- stopped N STATUS, claimed N TRACER, dead N STATUS
-abbrev pub numbered_state : (name number last : List ℕ) → Result State LineFault
+abbrev pub numbered_state : (name number last : List ℕ) → Result WantedState LineFault
 numbered_state name number last = do
   w ← value_beside numbered_states name
-  n ← stop_number number
+  n ← wanted_stop number
   state_with_number w n last
 
 -- the states of a replay
-abbrev pub state_of_words : List (List ℕ) → Result State LineFault
+abbrev pub state_of_words : List (List ℕ) → Result WantedState LineFault
 state_of_words words =
     if length words == 1 then value_beside plain_states (nth_word words 0)
     else if length words == 3 then numbered_state (nth_word words 0) (nth_word words 1) (nth_word words 2)
     else Err UnknownWord
 
--- ---- answers of several commands
+-- ---- what a command may be answered about a tracee
 
 -- refused NAME
-abbrev pub refused_reply : (refusals : List (List ℕ × Refused)) → List (List ℕ) → Result Answer LineFault
+abbrev pub refused_reply : (refusals : List (List ℕ × Refused)) → List (List ℕ) → Result WantedAnswer LineFault
 refused_reply refusals words =
     if length words == 2 && bytes_eq (nth_word words 0) (codes "refused")
     then (value_beside refusals (nth_word words 1) >>= λ refusal. Ok (answer.Refused refusal))
     else Err UnknownWord
 
+-- published N, refused NotNext, refused Full
+abbrev pub publish_reply : List (List ℕ) → Result WantedAnswer LineFault
+publish_reply words =
+    if length words == 2 && bytes_eq (nth_word words 0) (codes "published")
+    then (wanted_stop (nth_word words 1) >>= λ n. Ok (answer.Number n))
+    else refused_reply publish_refusals words
+
+-- exited
+abbrev pub exit_reply : List (List ℕ) → Result WantedAnswer LineFault
+exit_reply words =
+    if length words == 1 && bytes_eq (nth_word words 0) (codes "exited") then Ok answer.Done else Err UnknownWord
+
+abbrev pub state_reply : List (List ℕ) → Result WantedAnswer LineFault
+state_reply words = state_of_words words >>= λ s. Ok (answer.State s)
+
+-- stop N STATUS, ended N STATUS
+abbrev pub got_reply : CommandKeyword → List (List ℕ) → Result WantedAnswer LineFault
+got_reply keyword words =
+    if length words == 3
+    then (got_of_words (nth_word words 0) (nth_word words 1) (nth_word words 2) >>= λ g. Ok (got_told keyword g))
+    else Err UnknownWord
+
+-- of a claim or a peek: these; of one for a TID also refused Unborn, refused NotWaitable
+abbrev pub claim_row_reply : CommandKeyword → (named : List ℕ) → List (List ℕ) → Result WantedAnswer LineFault
+claim_row_reply keyword named words =
+    if length words == 3 then got_reply keyword words
+    else if names_several keyword named then Err UnknownWord
+    else refused_reply claim_refusals words
+
+-- resumed, refused Unborn, refused NotClaimed, refused NotHolder
+abbrev pub resume_reply : List (List ℕ) → Result WantedAnswer LineFault
+resume_reply words =
+    if length words == 1 && bytes_eq (nth_word words 0) (codes "resumed") then Ok answer.Done
+    else refused_reply resume_refusals words
+
+abbrev pub row_reply : CommandKeyword → (named : List ℕ) → List (List ℕ) → Result WantedAnswer LineFault
+row_reply keyword.Publish named words = publish_reply words
+row_reply keyword.Exit named words = exit_reply words
+row_reply keyword.State named words = state_reply words
+row_reply keyword.Claim named words = claim_row_reply keyword.Claim named words
+row_reply keyword.Wait named words = got_reply keyword.Wait words
+row_reply keyword.Look named words = got_reply keyword.Look words
+row_reply keyword.Peek named words = claim_row_reply keyword.Peek named words
+row_reply keyword.Resume named words = resume_reply words
+
+-- ---- what a command may be answered about no tracee
+
 -- no child
-abbrev pub no_child_reply : List (List ℕ) → Result Answer LineFault
+abbrev pub no_child_reply : List (List ℕ) → Result WantedAnswer LineFault
 no_child_reply words =
     if length words == 2 && (bytes_eq (nth_word words 0) (codes "no") && bytes_eq (nth_word words 1) (codes "child"))
     then Ok answer.NoChild
     else Err UnknownWord
 
-abbrev pub without_tid : Result Answer LineFault → Result LitmusReply LineFault
-without_tid told = told >>= λ a. Ok (record { tid = None; answer = a })
+abbrev pub nothing_reply : List (List ℕ) → Result WantedAnswer LineFault
+nothing_reply words =
+    if length words == 1 && bytes_eq (nth_word words 0) (codes "nothing") then Ok answer.Nothing else Err UnknownWord
 
--- TID stop N STATUS, TID ended N STATUS
-abbrev pub tid_got_reply : CommandKeyword → (tid name number status : List ℕ) → Result LitmusReply LineFault
-tid_got_reply keyword tid name number status = do
-  g ← got_of_words name number status
-  t ← id_of tid
-  Ok (record { tid = Some t; answer = got_told keyword g })
+-- of a claim or a peek for several tracees: nothing, no child
+abbrev pub scan_reply : CommandKeyword → (named : List ℕ) → List (List ℕ) → Result WantedAnswer LineFault
+scan_reply keyword named words =
+    if names_several keyword named then (if length words == 1 then nothing_reply words else no_child_reply words)
+    else Err UnknownWord
+
+-- of a resume of `it`: nothing
+abbrev pub none_reply : CommandKeyword → (named : List ℕ) → List (List ℕ) → Result WantedAnswer LineFault
+none_reply keyword.Claim named words = scan_reply keyword.Claim named words
+none_reply keyword.Wait named words = no_child_reply words
+none_reply keyword.Look named words = no_child_reply words
+none_reply keyword.Peek named words = scan_reply keyword.Peek named words
+none_reply keyword.Resume named words = if is_it_word named then nothing_reply words else Err UnknownWord
+none_reply other named words = Err UnknownWord
 
 -- ---- the reply to each command
 
--- published N, refused NotNext, refused Full
-abbrev pub publish_reply : List (List ℕ) → Result Answer LineFault
-publish_reply words =
-    if length words == 2 && bytes_eq (nth_word words 0) (codes "published")
-    then (stop_number (nth_word words 1) >>= λ n. Ok (answer.Number n))
-    else refused_reply publish_refusals words
+abbrev pub without_tid : Result WantedAnswer LineFault → Result LitmusReply LineFault
+without_tid told = told >>= λ a. Ok (record { tid = None; answer = a })
 
--- exited
-abbrev pub exit_reply : List (List ℕ) → Result Answer LineFault
-exit_reply words =
-    if length words == 1 && bytes_eq (nth_word words 0) (codes "exited") then Ok answer.Done else Err UnknownWord
+abbrev pub tid_before : (tid : List ℕ) → Result WantedAnswer LineFault → Result LitmusReply LineFault
+tid_before tid told = do
+  a ← told
+  t ← id_of tid
+  Ok (record { tid = Some t; answer = a })
 
-abbrev pub state_reply : List (List ℕ) → Result Answer LineFault
-state_reply words = state_of_words words >>= λ s. Ok (answer.State s)
+-- of several tracees a reply names the one that it is about
+abbrev pub bare_reply : CommandKeyword → (named : List ℕ) → List (List ℕ) → Result WantedAnswer LineFault
+bare_reply keyword named words = if names_several keyword named then Err UnknownWord else row_reply keyword named words
 
--- of a wait or a look for a TID: stop N STATUS, ended N STATUS, no child
-abbrev pub wait_tid_reply : CommandKeyword → List (List ℕ) → Result Answer LineFault
-wait_tid_reply keyword words =
-    if length words == 3
-    then (got_of_words (nth_word words 0) (nth_word words 1) (nth_word words 2) >>= λ g. Ok (got_told keyword g))
-    else no_child_reply words
+abbrev pub tid_reply : CommandKeyword → (named : List ℕ) → List (List ℕ) → Result LitmusReply LineFault
+tid_reply keyword named [] = Err UnknownWord
+tid_reply keyword named (tid ∷ words) = tid_before tid (row_reply keyword named words)
 
--- of a wait or a look for any: TID stop N STATUS, TID ended N STATUS, no child
-abbrev pub wait_any_reply : CommandKeyword → List (List ℕ) → Result LitmusReply LineFault
-wait_any_reply keyword words =
-    if length words == 4
-    then tid_got_reply keyword (nth_word words 0) (nth_word words 1) (nth_word words 2) (nth_word words 3)
-    else without_tid (no_child_reply words)
+-- what is read, or something else where its words are not known
+abbrev pub or_else : Result LitmusReply LineFault → Result LitmusReply LineFault → Result LitmusReply LineFault
+or_else (Err UnknownWord) other = other
+or_else read other = read
 
-abbrev pub wait_reply : CommandKeyword → (named : List ℕ) → List (List ℕ) → Result LitmusReply LineFault
-wait_reply keyword named words =
-    if is_any_word named then wait_any_reply keyword words else without_tid (wait_tid_reply keyword words)
-
--- of a claim of a TID: stop N STATUS, ended N STATUS, refused Unborn, refused NotWaitable
-abbrev pub claim_tid_reply : List (List ℕ) → Result Answer LineFault
-claim_tid_reply words =
-    if length words == 3
-    then (got_of_words (nth_word words 0) (nth_word words 1) (nth_word words 2) >>= λ g. Ok (answer.Got g))
-    else refused_reply claim_refusals words
-
--- of a claim of any: as of a wait, and nothing
-abbrev pub claim_any_reply : List (List ℕ) → Result LitmusReply LineFault
-claim_any_reply words =
-    if length words == 1 && bytes_eq (nth_word words 0) (codes "nothing") then without_tid (Ok answer.Nothing)
-    else wait_any_reply keyword.Claim words
-
-abbrev pub claim_reply : (named : List ℕ) → List (List ℕ) → Result LitmusReply LineFault
-claim_reply named words = if is_any_word named then claim_any_reply words else without_tid (claim_tid_reply words)
-
--- resumed, refused Unborn, refused NotClaimed, refused NotHolder
-abbrev pub resume_tid_reply : List (List ℕ) → Result Answer LineFault
-resume_tid_reply words =
-    if length words == 1 && bytes_eq (nth_word words 0) (codes "resumed") then Ok answer.Done
-    else refused_reply resume_refusals words
-
--- of `it` also nothing
-abbrev pub resume_it_reply : List (List ℕ) → Result Answer LineFault
-resume_it_reply words =
-    if length words == 1 && bytes_eq (nth_word words 0) (codes "nothing") then Ok answer.Nothing
-    else resume_tid_reply words
-
-abbrev pub resume_reply : (named : List ℕ) → List (List ℕ) → Result Answer LineFault
-resume_reply named words = if is_it_word named then resume_it_reply words else resume_tid_reply words
-
--- `named` is the word in the place of the command's TID
+-- about no tracee; or about one, which its TID may name before it
 abbrev pub reply_of_words : CommandKeyword → (named : List ℕ) → List (List ℕ) → Result LitmusReply LineFault
-reply_of_words keyword.Publish named words = without_tid (publish_reply words)
-reply_of_words keyword.Exit named words = without_tid (exit_reply words)
-reply_of_words keyword.State named words = without_tid (state_reply words)
-reply_of_words keyword.Claim named words = claim_reply named words
-reply_of_words keyword.Wait named words = wait_reply keyword.Wait named words
-reply_of_words keyword.Look named words = wait_reply keyword.Look named words
-reply_of_words keyword.Resume named words = without_tid (resume_reply named words)
+reply_of_words keyword named words =
+    or_else (without_tid (none_reply keyword named words))
+    (or_else (without_tid (bare_reply keyword named words)) (tid_reply keyword named words))

@@ -13,7 +13,7 @@ use Rattle.stop_explorer.specs.Run.{EndedRun}
 use Rattle.tracer_cli.specs.declared.command.Command.{Command}
 use Rattle.tracer_cli.specs.declared.command.Command.TheVariants as command
 use Rattle.tracer_cli.specs.declared.order.Order.{Order}
-use Rattle.tracer_cli.specs.Chosen.{chosen_of, ending_numbered}
+use Rattle.tracer_cli.specs.Chosen.{ending_numbered}
 use Rattle.tracer_cli.specs.LitmusGrammar.{HasTracer}
 use Rattle.tracer_cli.specs.OutcomeText.{command_of_turn}
 use Rattle.tracer_cli.specs.Spelling.{spelling}
@@ -51,8 +51,8 @@ abbrev pub ending_replay : List Row → (commands : ℕ → List ThreadCommand) 
 ending_replay rows commands ending =
     spelling (record { rows = rows; orders = orders_of rows commands ending.turns })
 
--- the outcome of this number, among those in which every command with a reply was done
-abbrev pub outcome_replay : List Row → (threads : ℕ) → (commands : ℕ → List ThreadCommand) → (number : ℕ)
-    → List EndedRun → Option (List ℕ)
-outcome_replay rows threads commands number endings =
-    option_map (ending_replay rows commands) (ending_numbered number (chosen_of threads commands endings))
+-- the outcome of this number, among those that are printed
+abbrev pub outcome_replay : List Row → (commands : ℕ → List ThreadCommand) → (number : ℕ) → (chosen : List EndedRun)
+    → Option (List ℕ)
+outcome_replay rows commands number chosen =
+    option_map (ending_replay rows commands) (ending_numbered number chosen)

@@ -1,15 +1,16 @@
 -- The text of outcomes: what each thread was answered, and the command that it waits at; the last states of the
 -- tracees; and one order that leads there.
-use Rattle.std.specs.Prelude.{◌+◌, ◌==◌, ◌++◌, ◌∷◌, [], ℕ, Bool, true, false, List, length, zip, flat_map}
-use Rattle.std.specs.Prelude.{Option, Some, None, slice_get, slice_index_or, codes, decimal, if◌then◌else◌}
+use Rattle.std.specs.Prelude.{◌+◌, ◌++◌, ◌∷◌, [], ℕ, Bool, true, false, List, length, zip, flat_map}
+use Rattle.std.specs.Prelude.{Option, Some, None, slice_get, slice_index_or, codes, decimal}
 use Rattle.stop_history.specs.declared.roster.Row.{Row}
 use Rattle.stop_history.specs.declared.state.State.{State}
 use Rattle.stop_explorer.specs.declared.command.ThreadCommand.{ThreadCommand}
+use Rattle.stop_explorer.specs.declared.voice.Voice.{Voice}
 use Rattle.stop_explorer.specs.declared.turn.Turn.{Turn}
 use Rattle.stop_explorer.specs.Program.{Log, command_after, index_after, own_turns}
+use Rattle.stop_explorer.specs.Progress.{is_quiet}
 use Rattle.stop_explorer.specs.Run.{EndedRun}
 use Rattle.tracer_cli.specs.AnswerText.{answer_text, waits_text}
-use Rattle.tracer_cli.specs.Chosen.{chosen_of, has_replies}
 use Rattle.tracer_cli.specs.CommandText.{command_text}
 use Rattle.tracer_cli.specs.Replies.{state_text}
 
@@ -50,18 +51,28 @@ thread_lines rows states commands at (turn ∷ turns) =
     done_line rows turn (slice_get commands at)
     ++ thread_lines rows states commands (index_after (slice_get commands at) at turn.answer) turns
 
-abbrev pub thread_text : List Row → (commands : ℕ → List ThreadCommand) → EndedRun → (thread : ℕ)
+-- of a quiet thread: that it is done, or the command that it waits at
+abbrev pub quiet_line : List Row → List State → Option ThreadCommand → List ℕ
+quiet_line rows states None = codes "done\n"
+quiet_line rows states (Some command) = waiting_line rows states (Some command)
+
+abbrev pub told_lines : List Row → (quiet : Bool) → List ThreadCommand → EndedRun → (thread : ℕ) → List ℕ
+told_lines rows false commands ending thread =
+    thread_lines rows ending.states commands 0 (own_turns thread ending.turns)
+told_lines rows true commands ending thread =
+    quiet_line rows ending.states (command_after commands (own_turns thread ending.turns))
+
+abbrev pub thread_text : List Row → List Voice → (commands : ℕ → List ThreadCommand) → EndedRun → (thread : ℕ)
     → (name : Option (List ℕ)) → List ℕ
-thread_text rows commands ending thread name =
-    thread_head (thread + 1) name
-    ++ thread_lines rows ending.states (commands thread) 0 (own_turns thread ending.turns)
+thread_text rows voices commands ending thread name =
+    thread_head (thread + 1) name ++ told_lines rows (is_quiet voices thread) (commands thread) ending thread
 
 -- the threads of these names, the first of which has this number
-unfoldable pub threads_text : List Row → (commands : ℕ → List ThreadCommand) → EndedRun → (thread : ℕ)
+unfoldable pub threads_text : List Row → List Voice → (commands : ℕ → List ThreadCommand) → EndedRun → (thread : ℕ)
     → (names : List (Option (List ℕ))) → List ℕ
-threads_text rows commands ending thread [] = []
-threads_text rows commands ending thread (name ∷ names) =
-    thread_text rows commands ending thread name ++ threads_text rows commands ending (thread + 1) names
+threads_text rows voices commands ending thread [] = []
+threads_text rows voices commands ending thread (name ∷ names) =
+    thread_text rows voices commands ending thread name ++ threads_text rows voices commands ending (thread + 1) names
 
 -- ---- tracees
 
@@ -101,43 +112,38 @@ abbrev pub outcome_line : (number count : ℕ) → List ℕ
 outcome_line number count = codes "outcome " ++ decimal number ++ codes " of " ++ decimal count ++ codes "\n"
 
 -- an empty line ends it
-abbrev pub outcome_text : List Row → (names : List (Option (List ℕ))) → (commands : ℕ → List ThreadCommand)
-    → (number count : ℕ) → EndedRun → List ℕ
-outcome_text rows names commands number count ending =
-    outcome_line number count ++ threads_text rows commands ending 0 names ++ tracees_text rows ending.states
+abbrev pub outcome_text : List Row → (names : List (Option (List ℕ))) → List Voice
+    → (commands : ℕ → List ThreadCommand) → (number count : ℕ) → EndedRun → List ℕ
+outcome_text rows names voices commands number count ending =
+    outcome_line number count ++ threads_text rows voices commands ending 0 names ++ tracees_text rows ending.states
     ++ order_text rows names commands ending.turns ++ codes "\n"
 
 -- outcomes, the first of which has this number
-unfoldable pub outcome_texts : List Row → (names : List (Option (List ℕ))) → (commands : ℕ → List ThreadCommand)
-    → (number count : ℕ) → List EndedRun → List ℕ
-outcome_texts rows names commands number count [] = []
-outcome_texts rows names commands number count (ending ∷ endings) =
-    outcome_text rows names commands number count ending
-    ++ outcome_texts rows names commands (number + 1) count endings
+unfoldable pub outcome_texts : List Row → (names : List (Option (List ℕ))) → List Voice
+    → (commands : ℕ → List ThreadCommand) → (number count : ℕ) → List EndedRun → List ℕ
+outcome_texts rows names voices commands number count [] = []
+outcome_texts rows names voices commands number count (ending ∷ endings) =
+    outcome_text rows names voices commands number count ending
+    ++ outcome_texts rows names voices commands (number + 1) count endings
 
 -- ---- what was explored
-
--- no outcome has all replies
-abbrev pub is_forbidden : (threads : ℕ) → (commands : ℕ → List ThreadCommand) → List EndedRun → Bool
-is_forbidden threads commands endings = length (chosen_of threads commands endings) == 0
 
 abbrev pub counts_line : (count places : ℕ) → List ℕ
 counts_line count places = codes "outcomes " ++ decimal count ++ codes ", places " ++ decimal places ++ codes "\n"
 
-abbrev pub allowed_line : (replies : Bool) → List ℕ
+-- of a file that has replies or conditions
+abbrev pub allowed_line : (required : Bool) → List ℕ
 allowed_line true = codes "allowed\n"
 allowed_line false = []
 
--- outcomes, numbered from 1 and counted; and that they are allowed, where there are replies
-abbrev pub chosen_text : List Row → (names : List (Option (List ℕ))) → (commands : ℕ → List ThreadCommand)
-    → (places : ℕ) → (chosen : List EndedRun) → List ℕ
-chosen_text rows names commands places chosen =
-    outcome_texts rows names commands 1 (length chosen) chosen ++ counts_line (length chosen) places
-    ++ allowed_line (has_replies (length names) commands)
+-- outcomes, numbered from 1 and counted; and that they are allowed, where the file requires anything
+abbrev pub chosen_text : List Row → (names : List (Option (List ℕ))) → List Voice
+    → (commands : ℕ → List ThreadCommand) → (required : Bool) → (places : ℕ) → (chosen : List EndedRun) → List ℕ
+chosen_text rows names voices commands required places chosen =
+    outcome_texts rows names voices commands 1 (length chosen) chosen
+    ++ (counts_line (length chosen) places ++ allowed_line required)
 
--- only the outcomes in which every command with a reply was done; where there is none, that they are forbidden
-abbrev pub explored_text : List Row → (names : List (Option (List ℕ))) → (commands : ℕ → List ThreadCommand)
-    → (places : ℕ) → List EndedRun → List ℕ
-explored_text rows names commands places endings =
-    if is_forbidden (length names) commands endings then codes "forbidden\n"
-    else chosen_text rows names commands places (chosen_of (length names) commands endings)
+-- no order has all that the file requires: by the number of a line, if it is known
+abbrev pub forbidden_line : (line : Option ℕ) → List ℕ
+forbidden_line None = codes "forbidden\n"
+forbidden_line (Some line) = codes "forbidden: line " ++ decimal line ++ codes "\n"

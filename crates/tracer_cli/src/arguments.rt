@@ -3,9 +3,10 @@
 ghost use Rattle.std.specs.Prelude.{◌≡◌, ◌≤◌, IfErr, IfOk, IsTrue, Some, false, map, true};
 ghost use Rattle.clap.specs.Words.{app_of, found_of, kind_of, one_text, rows_of, rule_of, subcommand_rows_of, takes};
 ghost use Rattle.clap.specs.declared.builder.command.Command.TheViews.{out-Command};
-ghost use Rattle.tracer_cli.specs.Arguments.{AreExploreOptions, AreOptions, IsAskedBy, IsFailureBy, IsHelp, IsNamed};
-ghost use Rattle.tracer_cli.specs.Arguments.{IsNumber, IsOptionalNumber, IsTakenRequest, budget_rule, explore_app};
-ghost use Rattle.tracer_cli.specs.Arguments.{file_rule, follow_rule, limit_rule, names_rule, outcome_rule, replay_app};
+ghost use Rattle.tracer_cli.specs.Arguments.{AreAskedOptions, AreOptions, IsAskedBy, IsExploreRequest, IsFailureBy, IsHelp};
+ghost use Rattle.tracer_cli.specs.Arguments.{IsNamedBy, IsNumber, IsOptionalNumber, IsTakenBy, budget_rule, ends_rule};
+ghost use Rattle.tracer_cli.specs.Arguments.{explore_app, file_rule, follow_rule, limit_rule, listing_of, names_rule};
+ghost use Rattle.tracer_cli.specs.Arguments.{outcome_rule, replay_app};
 ghost use Rattle.tracer_cli.specs.Arguments.{run_app, seccomp_rule, shows_text, tracer_app, workers_rule};
 
 use crate::failure::Failure;
@@ -31,7 +32,7 @@ Exit status:
   1  the file is refused
   2  the command line is wrong, or -e names an unknown call
   3  out of memory, or something cannot be read or written
-  4  no order of the commands has the replies, or no outcome has the number
+  4  no order of the commands has the replies and the conditions, or no outcome has the number
 
 The formats of case files, replay files and litmus files: docs/FORMATS.md";
 
@@ -53,6 +54,13 @@ const AFTER_RUN: &'static str = "Example:
 
 The format of case files, and of the printed lines: docs/FORMATS.md";
 
+/// What is said of `--ends` beside `--replay`.
+const ENDS_OR_REPLAY: &'static str =
+    "error: the argument '--ends' cannot be used with '--replay <K>'
+
+For more information, try '--help'.
+";
+
 /// The options of `tracer run`.
 #[derive(Clone, Copy, Debug)]
 pub(crate) struct RunOptions<'a> {
@@ -73,8 +81,18 @@ pub(crate) struct RunOptions<'a> {
 pub(crate) struct ExploreOptions {
     /// `--budget`: how many places are searched at most, 1 to 100,000,000.
     pub(crate) budget: u32,
-    /// `--replay`: the outcome whose order is printed as a replay file, 1 to 100,000,000; all outcomes without it.
-    pub(crate) outcome: Option<u32>,
+    pub(crate) listing: Listing,
+}
+
+/// What is printed of the outcomes.
+#[derive(Clone, Copy, Debug, PartialEq, Eq)]
+pub(crate) enum Listing {
+    /// Each of them.
+    Outcomes,
+    /// `--ends`: how they end, those that end alike on one line.
+    Ends,
+    /// `--replay`: the order of the one of this number, 1 to 100,000,000, as a replay file.
+    Replay(u32),
 }
 
 /// What the command line asks for.
@@ -104,43 +122,55 @@ pub(crate) fn read_arguments<'a>(
     words: &'a [&'a str],
 ) -> Result<Request<'a>, Failure>
     ensures words { IsAskedBy (map (λ word. word.now) words.now) result }
-    ensures taken { takes tracer_app (map (λ word. word.now) words.now) ≡ true → IsTakenRequest result }
+    ensures taken { takes tracer_app (map (λ word. word.now) words.now) ≡ true →
+        IsTakenBy (map (λ word. word.now) words.now) result }
 {
     let command = tracer(alloc)?;
     match command.try_get_matches_from(words) {
-        Ok(matches) => Ok(named_request(&matches)),
+        Ok(matches) => named_request(alloc, &matches),
         Err(error) => without_matches(alloc, &error),
     }
 }
 
 /// The request that the words name.
-fn named_request<'a>(matches: &ArgMatches<'a>) -> Request<'a>
-    ensures { IsNamed (subcommand_rows_of matches.now) result }
+fn named_request<'a>(alloc: Global, matches: &ArgMatches<'a>) -> Result<Request<'a>, Failure>
+    ensures { IsNamedBy (subcommand_rows_of matches.now) result }
 {
     match matches.subcommand() {
-        Some((name, found)) => request_of(name, found),
-        None => Request::Replay { file: None },
+        Some((name, found)) => request_of(alloc, name, found),
+        None => Ok(Request::Replay { file: None }),
     }
 }
 
 /// The request of a subcommand, by its name and what was found for its arguments.
-fn request_of<'a>(name: &str, found: &ArgMatches<'a>) -> Request<'a>
-    ensures { IsNamed (Some (name.now, rows_of (found_of found.now))) result }
+fn request_of<'a>(alloc: Global, name: &str, found: &ArgMatches<'a>) -> Result<Request<'a>, Failure>
+    ensures { IsNamedBy (Some (name.now, rows_of (found_of found.now))) result }
 {
     let file = found.get_str("FILE");
     if name == "run" {
-        return Request::Run {
+        return Ok(Request::Run {
             options: run_options(found),
             file,
-        };
+        });
     }
     if name == "explore" {
-        return Request::Explore {
-            options: explore_options(found),
-            file,
-        };
+        return explore_request(alloc, found, file);
     }
-    Request::Replay { file }
+    Ok(Request::Replay { file })
+}
+
+/// The request of an exploration. That one outcome is printed does not go with how all of them end.
+fn explore_request<'a>(
+    alloc: Global,
+    found: &ArgMatches<'a>,
+    file: Option<&'a str>,
+) -> Result<Request<'a>, Failure>
+    ensures { IsExploreRequest (rows_of (found_of found.now)) file.entry result }
+{
+    match explore_options(found) {
+        Some(options) => Ok(Request::Explore { options, file }),
+        None => Err(Failure::Usage(String::from_str(alloc, ENDS_OR_REPLAY)?)),
+    }
 }
 
 /// The options of a run, by what was found for its arguments.
@@ -157,12 +187,27 @@ fn run_options<'a>(matches: &ArgMatches<'a>) -> RunOptions<'a>
 }
 
 /// The options of an exploration, by what was found for its arguments.
-fn explore_options(matches: &ArgMatches) -> ExploreOptions
-    ensures { AreExploreOptions (rows_of (found_of matches.now)) result }
+fn explore_options(matches: &ArgMatches) -> Option<ExploreOptions>
+    ensures { AreAskedOptions (rows_of (found_of matches.now)) result }
 {
-    ExploreOptions {
-        budget: number(matches, "budget", 1, MOST_PLACES),
-        outcome: place(matches, "replay", MOST_PLACES),
+    let ends = matches.get_flag("ends");
+    let outcome = place(matches, "replay", MOST_PLACES);
+    let budget = number(matches, "budget", 1, MOST_PLACES);
+    let Some(listing) = listing_of(ends, outcome) else {
+        return None;
+    };
+    Some(ExploreOptions { budget, listing })
+}
+
+/// What is printed, by the two options that say it. Both do not go together.
+fn listing_of(ends: bool, outcome: Option<u32>) -> Option<Listing>
+    ensures { result ≡ listing_of ends outcome }
+{
+    match outcome {
+        None if ends => Some(Listing::Ends),
+        None => Some(Listing::Outcomes),
+        Some(_) if ends => None,
+        Some(number) => Some(Listing::Replay(number)),
     }
 }
 
@@ -237,6 +282,7 @@ fn explore_command<'a>(alloc: Global) -> Result<Command<'a>, AllocError>
         .after_help(AFTER_EXPLORE)
         .arg(budget(alloc))?
         .arg(outcome(alloc))?
+        .arg(ends(alloc))?
         .arg(file(alloc))
 }
 
@@ -352,4 +398,14 @@ fn outcome<'a>(alloc: Global) -> Arg<'a>
         .value_name("K")
         .value_parser(value_parser!(u32).range(1..=MOST_PLACES as i64))
         .help("Print the order of outcome K, 1 to 100000000, as a replay file")
+}
+
+fn ends<'a>(alloc: Global) -> Arg<'a>
+    ensures rule { rule_of result ≡ ends_rule }
+    ensures own { result.global ≡ false }
+{
+    Arg::new(alloc, "ends")
+        .long("ends")
+        .action(ArgAction::SetTrue)
+        .help("Print how the outcomes end, those that end alike on one line")
 }

@@ -3,6 +3,8 @@
 mod answer_text;
 pub(crate) mod chosen;
 mod command_text;
+mod condition;
+pub(crate) mod ends;
 pub(crate) mod order;
 mod replay_text;
 pub(crate) mod text;

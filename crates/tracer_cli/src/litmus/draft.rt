@@ -1,23 +1,25 @@
 //! What was read of a litmus file so far, and what one more line makes of it.
 
-ghost use Rattle.std.specs.Prelude.{◌≡◌, ◌*◌, ◌∷◌, [], OnOk};
-ghost use Rattle.text_lines.specs.Lines.{words_in};
+ghost use Rattle.std.specs.Prelude.{◌≡◌, ◌*◌, ◌∷◌, [], IfErr, IfOk, OnOk};
+ghost use Rattle.text_lines.specs.Lines.{nth_word, words_in};
 ghost use Rattle.trace_script.specs.Reading.{TakesLine};
 ghost use Rattle.tracer_cli.specs.LitmusDraft.{litmus_reading_of};
-ghost use Rattle.tracer_cli.specs.LitmusFile.{IsLitmusReading, commands_added, current_thread};
+ghost use Rattle.tracer_cli.specs.LitmusFile.{IsLitmusReading, commands_added, condition_added, current_thread};
 ghost use Rattle.tracer_cli.specs.LitmusFile.{litmus_command_added, litmus_line_added, litmus_line_read};
-ghost use Rattle.tracer_cli.specs.LitmusFile.{litmus_row_added, no_lines, place_past, repeat_ended, repeat_opened};
-ghost use Rattle.tracer_cli.specs.LitmusFile.{thread_added, within_of};
+ghost use Rattle.tracer_cli.specs.LitmusFile.{litmus_row_added, no_lines, numbered_command, place_past, repeat_ended};
+ghost use Rattle.tracer_cli.specs.LitmusFile.{repeat_opened, reply_required, thread_added, within_of};
 ghost use Rattle.tracer_cli.specs.LitmusGrammar.{IsLitmusLine, IsNamedLine, name_of_words};
 
-use crate::litmus::command::thread_command;
+use crate::litmus::command::{condition_of, thread_command, thread_printed_as};
+use crate::litmus::condition::{LitmusCondition, thread_named};
 use crate::litmus::copies::{add_copies, leaving_line};
 use crate::litmus::grammar::{read_litmus_line, thread_name};
 use crate::litmus::line::{LitmusCommand, LitmusLine, Within};
+use crate::litmus::required::{NumberedCommand, NumberedCondition, NumberedLine};
 use crate::reading::GUESSES;
 use std::alloc::Allocator;
 use stop_board::{Roster, Row};
-use stop_explorer::{ProgramLine, ThreadCommand};
+use stop_explorer::{ThreadCommand, Voice};
 use trace_script::Cause;
 
 /// How many threads a file has at most.
@@ -32,14 +34,19 @@ pub(crate) struct LitmusDraft<'t, A: Allocator> {
     pub(crate) rows: Roster<A>,
     /// The name of each thread that has begun, if it has one.
     pub(crate) names: Vec<Option<&'t [u8]>, A>,
+    /// Whether each of these threads is loud or quiet.
+    pub(crate) voices: Vec<Voice, A>,
     /// The commands, those of the repeat that is open left out.
-    pub(crate) lines: Vec<ProgramLine, A>,
+    pub(crate) lines: Vec<NumberedLine, A>,
     /// How many of the lines are of threads before the last one.
     pub(crate) before: usize,
     /// How many times the commands of the repeat that is open are done. None: no repeat is open.
     pub(crate) times: Option<u32>,
     /// The commands of the repeat that is open. They mean nothing where none is.
-    pub(crate) body: Vec<ThreadCommand, A>,
+    pub(crate) body: Vec<NumberedCommand, A>,
+    /// The number of the line of each reply and each condition.
+    pub(crate) requirements: Vec<u32, A>,
+    pub(crate) conditions: Vec<NumberedCondition, A>,
     /// The rows that were found last.
     pub(crate) guesses: [u32; GUESSES],
 }
@@ -51,26 +58,30 @@ pub(crate) fn new_draft<'t, A: Allocator + Copy>(alloc: A) -> LitmusDraft<'t, A>
     LitmusDraft {
         rows: Roster::empty(alloc),
         names: Vec::new(alloc),
+        voices: Vec::new(alloc),
         lines: Vec::new(alloc),
         before: 0,
         times: None,
         body: Vec::new(alloc),
+        requirements: Vec::new(alloc),
+        conditions: Vec::new(alloc),
         guesses: [0; GUESSES],
     }
 }
 
-/// Takes one more line, or returns its first fault.
+/// Takes one more line, which has this number, or returns its first fault.
 pub(crate) fn take_line<'t, A: Allocator>(
     draft: &mut LitmusDraft<'t, A>,
+    number: u32,
     line: &'t [u8],
 ) -> Result<(), Cause>
     requires { IsLitmusReading (litmus_reading_of draft.old) }
     ensures line { TakesLine result (litmus_reading_of draft.new)
-        (litmus_line_read (litmus_reading_of draft.old) line.now) }
+        (litmus_line_read number (litmus_reading_of draft.old) line.now) }
     ensures range { OnOk result (IsLitmusReading (litmus_reading_of draft.new)) }
 {
     let said = read_litmus_line(within(draft), line)?;
-    take_said(draft, line, said)
+    take_said(draft, number, line, said)
 }
 
 /// Where the next line is.
@@ -79,6 +90,7 @@ fn within<A: Allocator>(draft: &LitmusDraft<'_, A>) -> Within
 {
     match draft.times {
         Some(_) => Within::Repeat,
+        None if !draft.conditions.is_empty() => Within::Conditions,
         None if draft.names.is_empty() => Within::Rows,
         None => Within::Thread,
     }
@@ -87,6 +99,7 @@ fn within<A: Allocator>(draft: &LitmusDraft<'_, A>) -> Within
 /// Takes what one more line says.
 fn take_said<'t, A: Allocator>(
     draft: &mut LitmusDraft<'t, A>,
+    number: u32,
     line: &'t [u8],
     said: LitmusLine,
 ) -> Result<(), Cause>
@@ -94,19 +107,20 @@ fn take_said<'t, A: Allocator>(
     requires said { IsLitmusLine said }
     requires named { IsNamedLine (words_in line.now) said }
     ensures line { TakesLine result (litmus_reading_of draft.new)
-        (litmus_line_added (litmus_reading_of draft.old) (words_in line.now) said) }
+        (litmus_line_added number (litmus_reading_of draft.old) (words_in line.now) said) }
     ensures range { OnOk result (IsLitmusReading (litmus_reading_of draft.new)) }
 {
     match said {
         LitmusLine::Nothing => Ok(()),
         LitmusLine::Row(row) => take_row(draft, row),
-        LitmusLine::Thread => take_thread(draft, line),
+        LitmusLine::Thread(voice) => take_thread(draft, line, voice),
         LitmusLine::Repeat(times) => {
             open_repeat(draft, times);
             Ok(())
         }
         LitmusLine::End => end_repeat(draft),
-        LitmusLine::Command(command) => take_command(draft, command),
+        LitmusLine::Only(condition) => take_condition(draft, number, line, condition),
+        LitmusLine::Command(command) => take_command(draft, number, command),
     }
 }
 
@@ -122,9 +136,10 @@ fn take_row<A: Allocator>(draft: &mut LitmusDraft<'_, A>, row: Row) -> Result<()
 fn take_thread<'t, A: Allocator>(
     draft: &mut LitmusDraft<'t, A>,
     line: &'t [u8],
+    voice: Voice,
 ) -> Result<(), Cause>
     ensures { TakesLine result (litmus_reading_of draft.new)
-        (thread_added (litmus_reading_of draft.old) (name_of_words (words_in line.now))) }
+        (thread_added (litmus_reading_of draft.old) voice (name_of_words (words_in line.now))) }
 {
     if draft.names.len() >= MOST_THREADS as usize {
         return Err(Cause::TooMany);
@@ -133,6 +148,9 @@ fn take_thread<'t, A: Allocator>(
         return Err(Cause::NoEnd);
     }
     if draft.names.push(thread_name(line)).is_err() {
+        return Err(Cause::NoMemory);
+    }
+    if draft.voices.push(voice).is_err() {
         return Err(Cause::NoMemory);
     }
     draft.before = draft.lines.len();
@@ -169,16 +187,20 @@ fn end_repeat<A: Allocator>(draft: &mut LitmusDraft<'_, A>) -> Result<(), Cause>
 /// Takes one more command: of the repeat that is open, or else of the thread.
 fn take_command<A: Allocator>(
     draft: &mut LitmusDraft<'_, A>,
+    number: u32,
     command: LitmusCommand,
 ) -> Result<(), Cause>
     requires { IsLitmusReading (litmus_reading_of draft.old) }
     ensures { TakesLine result (litmus_reading_of draft.new)
-        (litmus_command_added (litmus_reading_of draft.old) command) }
+        (litmus_command_added number (litmus_reading_of draft.old) command) }
 {
     let command = thread_command(&draft.rows, &mut draft.guesses, command)?;
     match draft.times {
-        None => take_once(draft, command),
+        None => take_once(draft, number, command),
         Some(_) => {
+            let Ok(command) = require_reply(draft, number, command) else {
+                return Err(Cause::NoMemory);
+            };
             if draft.body.push(command).is_err() {
                 return Err(Cause::NoMemory);
             }
@@ -187,18 +209,72 @@ fn take_command<A: Allocator>(
     }
 }
 
-/// Takes a command that is done once.
+/// Notes the line of a command's reply, if it has one, and numbers the command by it.
+fn require_reply<A: Allocator>(
+    draft: &mut LitmusDraft<'_, A>,
+    number: u32,
+    command: ThreadCommand,
+) -> Result<NumberedCommand, Cause>
+    ensures ok { IfOk result (λ numbered.
+        (numbered ≡ numbered_command (litmus_reading_of draft.old) command)
+        × (litmus_reading_of draft.new ≡ reply_required number (litmus_reading_of draft.old) command)) }
+    ensures err { IfErr result (λ cause. cause ≡ Cause.NoMemory) }
+{
+    if command.wanted.is_none() {
+        return Ok(NumberedCommand { command, number: 0 });
+    }
+    if draft.requirements.push(number).is_err() {
+        return Err(Cause::NoMemory);
+    }
+    Ok(NumberedCommand {
+        command,
+        number: draft.requirements.len(),
+    })
+}
+
+/// Takes one more condition.
+fn take_condition<A: Allocator>(
+    draft: &mut LitmusDraft<'_, A>,
+    number: u32,
+    line: &[u8],
+    condition: LitmusCondition,
+) -> Result<(), Cause>
+    requires { IsLitmusReading (litmus_reading_of draft.old) }
+    ensures { TakesLine result (litmus_reading_of draft.new)
+        (condition_added number (litmus_reading_of draft.old) (nth_word (words_in line.now) 2) condition) }
+{
+    let thread = thread_printed_as(draft.names.as_slice(), thread_named(line));
+    let condition = condition_of(&draft.rows, &mut draft.guesses, thread, condition)?;
+    if draft.requirements.push(number).is_err() {
+        return Err(Cause::NoMemory);
+    }
+    let numbered = NumberedCondition {
+        condition,
+        number: draft.requirements.len(),
+    };
+    if draft.conditions.push(numbered).is_err() {
+        return Err(Cause::NoMemory);
+    }
+    Ok(())
+}
+
+/// Takes a command that is done once. Its faults come before a want of memory.
 fn take_once<A: Allocator>(
     draft: &mut LitmusDraft<'_, A>,
+    number: u32,
     command: ThreadCommand,
 ) -> Result<(), Cause>
     requires { IsLitmusReading (litmus_reading_of draft.old) }
     ensures { TakesLine result (litmus_reading_of draft.new)
-        (commands_added (litmus_reading_of draft.old) (command ∷ [])) }
+        (commands_added (reply_required number (litmus_reading_of draft.old) command)
+        (numbered_command (litmus_reading_of draft.old) command ∷ [])) }
 {
     let thread = current_thread(draft)?;
     let leave_to = place_past(draft, 1, 1)?;
-    let line = leaving_line(thread, leave_to, command);
+    let Ok(numbered) = require_reply(draft, number, command) else {
+        return Err(Cause::NoMemory);
+    };
+    let line = leaving_line(thread, leave_to, numbered);
     if draft.lines.push(line).is_err() {
         return Err(Cause::NoMemory);
     }

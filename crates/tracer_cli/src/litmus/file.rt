@@ -9,19 +9,24 @@ ghost use Rattle.tracer_cli.specs.LitmusFile.{litmus_lines_read, no_lines};
 ghost use Rattle.tracer_cli.specs.declared.litmus.draft.TheConstants.{MOST_THREADS};
 
 use crate::litmus::draft::{LitmusDraft, new_draft, take_line};
+use crate::litmus::required::{NumberedCondition, NumberedLine};
 use std::alloc::Allocator;
 use stop_board::Roster;
-use stop_explorer::ProgramLine;
+use stop_explorer::Voice;
 use text_lines::{cut_line, last_line};
 use trace_script::{CaseError, Cause, MOST_BYTES};
 
-/// What a file says: its rows, the names of its threads, and their commands with repeats written out, each in the order
-/// of the file.
+/// What a file says: its rows, the names and the voices of its threads, their commands with
+/// repeats written out, and its conditions, each in the order of the file; and the number of the line of each reply and
+/// each condition.
 #[derive(Drop)]
 pub(crate) struct LitmusFile<'t, A: Allocator> {
     pub(crate) rows: Roster<A>,
     pub(crate) names: Vec<Option<&'t [u8]>, A>,
-    pub(crate) lines: Vec<ProgramLine, A>,
+    pub(crate) voices: Vec<Voice, A>,
+    pub(crate) lines: Vec<NumberedLine, A>,
+    pub(crate) requirements: Vec<u32, A>,
+    pub(crate) conditions: Vec<NumberedCondition, A>,
 }
 
 /// What a file says, or its first fault. Out of memory is reported on a line that has no fault and before which no line
@@ -49,6 +54,7 @@ pub(crate) fn read_litmus<'t, A: Allocator + Copy>(
 }
 
 /// What the lines of a file say, up to its first fault.
+#[tactic(auto, using(crate::proofs::LitmusRanges::nothing_read))]
 fn read_lines<'t, A: Allocator + Copy>(
     alloc: A,
     text: &'t [u8],
@@ -65,7 +71,7 @@ fn read_lines<'t, A: Allocator + Copy>(
     let mut number = 1u32;
     while !rest.is_empty() {
         let (line, after) = cut_line(rest);
-        if let Err(cause) = take_line(&mut draft, line) {
+        if let Err(cause) = take_line(&mut draft, number, line) {
             return Err(CaseError {
                 line: number,
                 cause,
@@ -100,8 +106,18 @@ fn finish<'t, A: Allocator>(
     let LitmusDraft {
         rows,
         names,
+        voices,
         lines,
+        requirements,
+        conditions,
         ..
     } = draft;
-    Ok(LitmusFile { rows, names, lines })
+    Ok(LitmusFile {
+        rows,
+        names,
+        voices,
+        lines,
+        requirements,
+        conditions,
+    })
 }

@@ -9,17 +9,20 @@ ghost use Rattle.tracer_cli.specs.Command.{IsCommand};
 ghost use Rattle.tracer_cli.specs.Grammar.{IsLine};
 ghost use Rattle.tracer_cli.specs.LitmusGrammar.{IsLitmusCall, IsLitmusCommand, IsLitmusLine, any_or_tid};
 ghost use Rattle.tracer_cli.specs.LitmusGrammar.{as_in_replay, asking, bare_command_of, claim_call, claim_command};
-ghost use Rattle.tracer_cli.specs.LitmusGrammar.{claim_of_words, command_of_words, does_wait, is_name_byte};
-ghost use Rattle.tracer_cli.specs.LitmusGrammar.{is_thread_name, it_or_tid, litmus_line_of, litmus_rest_of};
+ghost use Rattle.tracer_cli.specs.LitmusGrammar.{claim_of_words, command_of_words, does_wait, group_aim};
+ghost use Rattle.tracer_cli.specs.LitmusGrammar.{is_name_byte, is_thread_name, it_or_tid, litmus_line_of, litmus_rest_of};
 ghost use Rattle.tracer_cli.specs.LitmusGrammar.{name_of_words, repeat_line, replied_command, resume_command};
 ghost use Rattle.tracer_cli.specs.LitmusGrammar.{resume_of_words, thread_line};
 
 use crate::command::Command;
 use crate::grammar::{KINDS, Line, ReplayKeyword, rest_of, tracer_of};
-use crate::litmus::keyword::{CommandKeyword, LitmusKeyword, is_any_word, is_it_word, keyword_in};
+use crate::litmus::condition::condition_of;
+use crate::litmus::keyword::{
+    CommandKeyword, LitmusKeyword, is_any_word, is_group_word, is_it_word, keyword_in,
+};
 use crate::litmus::line::{Aim, LitmusCommand, LitmusLine, Within};
 use crate::litmus::reply::reply_of;
-use stop_explorer::BoardCall;
+use stop_explorer::{BoardCall, Voice};
 use text_lines::{LineFault, first_words, keyword, number_between};
 use trace_options::LAST_SIGNAL;
 use trace_record::Resume;
@@ -81,7 +84,7 @@ fn litmus_rest_of(keyword: LitmusKeyword, words: &[&[u8]]) -> Result<LitmusLine,
             }
             _ => Err(LineFault::UnknownWord),
         },
-        LitmusKeyword::Thread => thread_line(words),
+        LitmusKeyword::Thread(voice) => thread_line(voice, words),
         LitmusKeyword::Repeat => match words {
             [count] => repeat_line(count),
             _ => Err(LineFault::UnknownWord),
@@ -90,17 +93,18 @@ fn litmus_rest_of(keyword: LitmusKeyword, words: &[&[u8]]) -> Result<LitmusLine,
             [] => Ok(LitmusLine::End),
             _ => Err(LineFault::UnknownWord),
         },
+        LitmusKeyword::Only => Ok(LitmusLine::Only(condition_of(words)?)),
         LitmusKeyword::Command(keyword) => Ok(LitmusLine::Command(command_of(keyword, words)?)),
     }
 }
 
-fn thread_line(words: &[&[u8]]) -> Result<LitmusLine, LineFault>
-    ensures line { result ≡ thread_line (map (λ w. w.now) words.now) }
+fn thread_line(voice: Voice, words: &[&[u8]]) -> Result<LitmusLine, LineFault>
+    ensures line { result ≡ thread_line voice (map (λ w. w.now) words.now) }
     ensures range { IfOk result IsLitmusLine }
 {
     match words {
-        [] => Ok(LitmusLine::Thread),
-        [name] if is_thread_name(name) => Ok(LitmusLine::Thread),
+        [] => Ok(LitmusLine::Thread(voice)),
+        [name] if is_thread_name(name) => Ok(LitmusLine::Thread(voice)),
         _ => Err(LineFault::UnknownWord),
     }
 }
@@ -197,6 +201,7 @@ fn bare_command(keyword: CommandKeyword, words: &[&[u8]]) -> Result<LitmusComman
         CommandKeyword::Claim => claim_of(keyword, words),
         CommandKeyword::Wait => claim_of(keyword, words),
         CommandKeyword::Look => claim_of(keyword, words),
+        CommandKeyword::Peek => claim_of(keyword, words),
         CommandKeyword::Resume => resume_of(words),
     }
 }
@@ -241,41 +246,45 @@ fn does_wait(keyword: CommandKeyword) -> bool
         CommandKeyword::Claim => false,
         CommandKeyword::Wait => true,
         CommandKeyword::Look => true,
+        CommandKeyword::Peek => false,
         CommandKeyword::Resume => false,
     }
 }
 
-/// A claim, a wait or a look, by the words after its first one.
+/// A claim, a wait, a look or a peek, by the words after its first one.
 fn claim_of(keyword: CommandKeyword, words: &[&[u8]]) -> Result<LitmusCommand, LineFault>
     ensures command { result ≡ claim_of_words keyword (map (λ w. w.now) words.now) }
     ensures range { IfOk result IsLitmusCommand }
 {
     match words {
-        [named, tracer] => claim_command(keyword, named, tracer),
+        [named, tracer] => claim_command(keyword, any_or_tid(named), tracer),
+        [word, pgid, tracer] if is_group_word(word) => {
+            claim_command(keyword, group_aim(pgid), tracer)
+        }
         _ => Err(LineFault::UnknownWord),
     }
 }
 
 fn claim_command(
     keyword: CommandKeyword,
-    named: &[u8],
+    aim: Result<Aim, LineFault>,
     tracer: &[u8],
 ) -> Result<LitmusCommand, LineFault>
-    ensures command { result ≡ claim_command keyword named.now tracer.now }
+    ensures command { result ≡ claim_command keyword aim tracer.now }
     ensures range { IfOk result IsLitmusCommand }
 {
-    let aim = any_or_tid(named)?;
+    let aim = aim?;
     let tracer = u32::from(tracer_of(tracer)?);
     Ok(asking(keyword, aim, claim_call(keyword, tracer)))
 }
 
-/// The call of a claim or a wait, which take what is there, and of a look, which leaves it.
+/// The call of a claim or a wait, which take what is there, and of a look or a peek, which leave it.
 fn claim_call(keyword: CommandKeyword, tracer: u32) -> BoardCall
     ensures call { result ≡ claim_call keyword tracer }
     ensures range { tracer < TRACERS → IsLitmusCall result }
 {
     match keyword {
-        CommandKeyword::Look => BoardCall::Look(tracer),
+        CommandKeyword::Look | CommandKeyword::Peek => BoardCall::Look(tracer),
         _ => BoardCall::Claim(tracer),
     }
 }
@@ -288,6 +297,13 @@ fn any_or_tid(word: &[u8]) -> Result<Aim, LineFault>
         return Ok(Aim::Any);
     }
     Ok(Aim::Tid(id(word)?))
+}
+
+/// Whichever tracee of a process group has something.
+fn group_aim(pgid: &[u8]) -> Result<Aim, LineFault>
+    ensures { result ≡ group_aim pgid.now }
+{
+    Ok(Aim::Group(id(pgid)?))
 }
 
 /// A resume, by the words after its first one.

@@ -2,9 +2,10 @@
 
 ghost use Rattle.std.specs.Prelude.{◌≡◌};
 ghost use Rattle.tracer_cli.specs.LitmusGrammar.{litmus_keyword_in, litmus_may_come};
-ghost use Rattle.tracer_cli.specs.LitmusReply.{is_any_word, is_it_word};
+ghost use Rattle.tracer_cli.specs.LitmusReply.{is_any_word, is_group_word, is_it_word};
 
 use crate::litmus::line::Within;
+use stop_explorer::Voice;
 use text_lines::{LineFault, keyword};
 
 /// The first word of a command.
@@ -16,6 +17,7 @@ pub(crate) enum CommandKeyword {
     Claim,
     Wait,
     Look,
+    Peek,
     Resume,
 }
 
@@ -23,24 +25,28 @@ pub(crate) enum CommandKeyword {
 #[derive(Clone, Copy, Debug, PartialEq, Eq)]
 pub(crate) enum LitmusKeyword {
     Row,
-    Thread,
+    Thread(Voice),
     Repeat,
     End,
+    Only,
     Command(CommandKeyword),
 }
 
 /// The first words of lines.
-const LITMUS_KEYWORDS: [(&str, LitmusKeyword); 11] = [
+const LITMUS_KEYWORDS: [(&str, LitmusKeyword); 14] = [
     ("row", LitmusKeyword::Row),
-    ("thread", LitmusKeyword::Thread),
+    ("thread", LitmusKeyword::Thread(Voice::Loud)),
+    ("quiet", LitmusKeyword::Thread(Voice::Quiet)),
     ("repeat", LitmusKeyword::Repeat),
     ("end", LitmusKeyword::End),
+    ("only", LitmusKeyword::Only),
     ("publish", LitmusKeyword::Command(CommandKeyword::Publish)),
     ("exit", LitmusKeyword::Command(CommandKeyword::Exit)),
     ("state", LitmusKeyword::Command(CommandKeyword::State)),
     ("claim", LitmusKeyword::Command(CommandKeyword::Claim)),
     ("wait", LitmusKeyword::Command(CommandKeyword::Wait)),
     ("look", LitmusKeyword::Command(CommandKeyword::Look)),
+    ("peek", LitmusKeyword::Command(CommandKeyword::Peek)),
     ("resume", LitmusKeyword::Command(CommandKeyword::Resume)),
 ];
 
@@ -56,16 +62,18 @@ pub(crate) fn keyword_in(within: Within, word: &[u8]) -> Result<LitmusKeyword, L
     }
 }
 
-/// Whether a line of this keyword may come here. That a thread does not begin in a repeat is for the file to refuse.
+/// Whether a line of this keyword may come here. After the first condition nothing else comes. That a thread does not
+/// begin in a repeat is for the file to refuse.
 fn may_come(keyword: LitmusKeyword, within: Within) -> bool
     ensures { result ≡ litmus_may_come keyword within }
 {
     match keyword {
         LitmusKeyword::Row => within == Within::Rows,
-        LitmusKeyword::Thread => true,
+        LitmusKeyword::Thread(_) => within != Within::Conditions,
         LitmusKeyword::Repeat => within == Within::Thread,
         LitmusKeyword::End => within == Within::Repeat,
-        LitmusKeyword::Command(_) => within != Within::Rows,
+        LitmusKeyword::Only => within != Within::Repeat,
+        LitmusKeyword::Command(_) => within == Within::Thread || within == Within::Repeat,
     }
 }
 
@@ -74,6 +82,13 @@ pub(crate) fn is_any_word(word: &[u8]) -> bool
     ensures { result ≡ is_any_word word.now }
 {
     word == b"any".as_slice()
+}
+
+/// Whether a command is about whichever tracee of a process group has something, by the word before the group's number.
+pub(crate) fn is_group_word(word: &[u8]) -> bool
+    ensures { result ≡ is_group_word word.now }
+{
+    word == b"group".as_slice()
 }
 
 /// Whether a command is about the tracee that its thread claimed last, by the word in the place of its TID.

@@ -1,7 +1,8 @@
 //! What the lines of a litmus file say.
 
+use crate::litmus::condition::LitmusCondition;
 use stop_board::Row;
-use stop_explorer::{Answer, BoardCall};
+use stop_explorer::{BoardCall, Voice, WantedAnswer};
 
 /// Where a line is in its file.
 #[derive(Clone, Copy, Debug, PartialEq, Eq)]
@@ -12,6 +13,8 @@ pub(crate) enum Within {
     Thread,
     /// In a repeat of a thread.
     Repeat,
+    /// After the first condition.
+    Conditions,
 }
 
 /// The tracee that a command is about, as its line names it.
@@ -21,6 +24,8 @@ pub(crate) enum Aim {
     Tid(u32),
     /// Whichever has something to claim.
     Any,
+    /// Whichever of this process group has something to claim.
+    Group(u32),
     /// The one that the thread claimed last.
     It,
 }
@@ -28,9 +33,9 @@ pub(crate) enum Aim {
 /// The reply after a command's `=`.
 #[derive(Clone, Copy, Debug, PartialEq, Eq)]
 pub(crate) struct LitmusReply {
-    /// The thread id before a stop or a death, with `any`.
+    /// The thread id before it, if there is one.
     pub(crate) tid: Option<u32>,
-    pub(crate) answer: Answer,
+    pub(crate) answer: WantedAnswer,
 }
 
 /// A command, as its line says it.
@@ -49,11 +54,13 @@ pub(crate) enum LitmusLine {
     Nothing,
     /// A row of the roster.
     Row(Row),
-    /// A thread begins. Its name, if it has one, is the second word.
-    Thread,
+    /// A thread begins, which is loud or quiet. Its name, if it has one, is the second word.
+    Thread(Voice),
     /// The commands to the next `end` are done this many times, 1 to 64.
     Repeat(u32),
     /// The end of a repeat.
     End,
+    /// A condition.
+    Only(LitmusCondition),
     Command(LitmusCommand),
 }

@@ -1,18 +1,19 @@
 //! The reply after a command's `=`, by its words and by the command. All words are looked at before any number.
 
 ghost use Rattle.std.specs.Prelude.{◌≡◌, map};
-ghost use Rattle.tracer_cli.specs.LitmusReply.{claim_any_reply, claim_reply, claim_tid_reply, exit_reply, got_of_words};
-ghost use Rattle.tracer_cli.specs.LitmusReply.{got_told, got_with_numbers, no_child_reply, numbered_state};
-ghost use Rattle.tracer_cli.specs.LitmusReply.{publish_reply, refused_reply, reply_of_words, resume_it_reply};
-ghost use Rattle.tracer_cli.specs.LitmusReply.{resume_reply, resume_tid_reply, state_of_words, state_reply};
-ghost use Rattle.tracer_cli.specs.LitmusReply.{state_with_number, status_number, stop_number, tid_got_reply};
-ghost use Rattle.tracer_cli.specs.LitmusReply.{wait_any_reply, wait_reply, wait_tid_reply, without_tid};
+ghost use Rattle.tracer_cli.specs.LitmusReply.{bare_reply, claim_row_reply, exit_reply, got_of_words, got_reply};
+ghost use Rattle.tracer_cli.specs.LitmusReply.{got_told, got_with_numbers, is_star, names_several, no_child_reply};
+ghost use Rattle.tracer_cli.specs.LitmusReply.{none_reply, nothing_reply, numbered_state, or_else, publish_reply};
+ghost use Rattle.tracer_cli.specs.LitmusReply.{refused_reply, reply_of_words, resume_reply, row_reply, scan_reply};
+ghost use Rattle.tracer_cli.specs.LitmusReply.{state_of_words, state_reply, state_with_number, status_number};
+ghost use Rattle.tracer_cli.specs.LitmusReply.{stop_number, tid_reply, wanted_status, wanted_stop, wanted_tracer};
+ghost use Rattle.tracer_cli.specs.LitmusReply.{tid_before, without_tid};
 
 use crate::grammar::tracer_of;
-use crate::litmus::keyword::{CommandKeyword, is_any_word, is_it_word};
+use crate::litmus::keyword::{CommandKeyword, is_any_word, is_group_word, is_it_word};
 use crate::litmus::line::LitmusReply;
-use stop_board::{Got, LAST_NUMBER, Refused, State};
-use stop_explorer::Answer;
+use stop_board::{LAST_NUMBER, Refused};
+use stop_explorer::{WantedAnswer, WantedGot, WantedState};
 use text_lines::{LineFault, keyword, number_between};
 use trace_script::id;
 
@@ -35,10 +36,10 @@ pub(crate) enum StateWord {
 const GOT_WORDS: [(&str, GotWord); 2] = [("stop", GotWord::Stop), ("ended", GotWord::Ended)];
 
 /// The states that are one word.
-const PLAIN_STATES: [(&str, State); 3] = [
-    ("unborn", State::Unborn),
-    ("running", State::Running),
-    ("reaped", State::Reaped),
+const PLAIN_STATES: [(&str, WantedState); 3] = [
+    ("unborn", WantedState::Unborn),
+    ("running", WantedState::Running),
+    ("reaped", WantedState::Reaped),
 ];
 
 /// The states that are a word and two numbers.
@@ -54,7 +55,7 @@ const PUBLISH_REFUSALS: [(&str, Refused); 2] = [
     ("Full", Refused::Full),
 ];
 
-/// The refusals of a claim at once.
+/// The refusals of a claim or a look at once.
 const CLAIM_REFUSALS: [(&str, Refused); 2] = [
     ("Unborn", Refused::Unborn),
     ("NotWaitable", Refused::NotWaitable),
@@ -75,19 +76,26 @@ pub(crate) fn reply_of(
 ) -> Result<LitmusReply, LineFault>
     ensures { result ≡ reply_of_words keyword named.now (map (λ w. w.now) words.now) }
 {
-    match keyword {
-        CommandKeyword::Publish => without_tid(publish_reply(words)),
-        CommandKeyword::Exit => without_tid(exit_reply(words)),
-        CommandKeyword::State => without_tid(state_reply(words)),
-        CommandKeyword::Claim => claim_reply(named, words),
-        CommandKeyword::Wait => wait_reply(keyword, named, words),
-        CommandKeyword::Look => wait_reply(keyword, named, words),
-        CommandKeyword::Resume => without_tid(resume_reply(named, words)),
+    let none = without_tid(none_reply(keyword, named, words));
+    let bare = without_tid(bare_reply(keyword, named, words));
+    or_else(none, or_else(bare, tid_reply(keyword, named, words)))
+}
+
+/// What is read, or something else where its words are not known.
+fn or_else(
+    read: Result<LitmusReply, LineFault>,
+    other: Result<LitmusReply, LineFault>,
+) -> Result<LitmusReply, LineFault>
+    ensures { result ≡ or_else read other }
+{
+    match read {
+        Err(LineFault::UnknownWord) => other,
+        read => read,
     }
 }
 
 /// A reply that has no thread id.
-fn without_tid(answer: Result<Answer, LineFault>) -> Result<LitmusReply, LineFault>
+fn without_tid(answer: Result<WantedAnswer, LineFault>) -> Result<LitmusReply, LineFault>
     ensures { result ≡ without_tid answer }
 {
     Ok(LitmusReply {
@@ -96,194 +104,250 @@ fn without_tid(answer: Result<Answer, LineFault>) -> Result<LitmusReply, LineFau
     })
 }
 
-fn publish_reply(words: &[&[u8]]) -> Result<Answer, LineFault>
+/// A reply with a thread id before it.
+fn tid_before(tid: &[u8], answer: Result<WantedAnswer, LineFault>) -> Result<LitmusReply, LineFault>
+    ensures { result ≡ tid_before tid.now answer }
+{
+    let answer = answer?;
+    let tid = id(tid)?;
+    Ok(LitmusReply {
+        tid: Some(tid),
+        answer,
+    })
+}
+
+// ---- with a thread id, and without
+
+/// A reply about a tracee, without its thread id. A command that takes any of several tracees has none.
+fn bare_reply(
+    keyword: CommandKeyword,
+    named: &[u8],
+    words: &[&[u8]],
+) -> Result<WantedAnswer, LineFault>
+    ensures { result ≡ bare_reply keyword named.now (map (λ w. w.now) words.now) }
+{
+    if names_several(keyword, named) {
+        return Err(LineFault::UnknownWord);
+    }
+    row_reply(keyword, named, words)
+}
+
+/// A reply about a tracee, with its thread id as its first word.
+fn tid_reply(
+    keyword: CommandKeyword,
+    named: &[u8],
+    words: &[&[u8]],
+) -> Result<LitmusReply, LineFault>
+    ensures { result ≡ tid_reply keyword named.now (map (λ w. w.now) words.now) }
+{
+    match words {
+        [tid, words @ ..] => tid_before(tid, row_reply(keyword, named, words)),
+        [] => Err(LineFault::UnknownWord),
+    }
+}
+
+/// Whether a command takes any of several tracees, by the word in the place of its TID.
+fn names_several(keyword: CommandKeyword, named: &[u8]) -> bool
+    ensures { result ≡ names_several keyword named.now }
+{
+    match keyword {
+        CommandKeyword::Publish => false,
+        CommandKeyword::Exit => false,
+        CommandKeyword::State => false,
+        CommandKeyword::Claim => is_any_word(named) || is_group_word(named),
+        CommandKeyword::Wait => is_any_word(named) || is_group_word(named),
+        CommandKeyword::Look => is_any_word(named) || is_group_word(named),
+        CommandKeyword::Peek => is_any_word(named) || is_group_word(named),
+        CommandKeyword::Resume => false,
+    }
+}
+
+// ---- about a tracee
+
+/// What a command may be answered about a tracee.
+fn row_reply(
+    keyword: CommandKeyword,
+    named: &[u8],
+    words: &[&[u8]],
+) -> Result<WantedAnswer, LineFault>
+    ensures { result ≡ row_reply keyword named.now (map (λ w. w.now) words.now) }
+{
+    match keyword {
+        CommandKeyword::Publish => publish_reply(words),
+        CommandKeyword::Exit => exit_reply(words),
+        CommandKeyword::State => state_reply(words),
+        CommandKeyword::Claim => claim_row_reply(keyword, named, words),
+        CommandKeyword::Wait => got_reply(keyword, words),
+        CommandKeyword::Look => got_reply(keyword, words),
+        CommandKeyword::Peek => claim_row_reply(keyword, named, words),
+        CommandKeyword::Resume => resume_reply(words),
+    }
+}
+
+fn publish_reply(words: &[&[u8]]) -> Result<WantedAnswer, LineFault>
     ensures { result ≡ publish_reply (map (λ w. w.now) words.now) }
 {
     match words {
         [word, number] if *word == b"published".as_slice() => {
-            Ok(Answer::Number(stop_number(number)?))
+            Ok(WantedAnswer::Number(wanted_stop(number)?))
         }
         _ => refused_reply(&PUBLISH_REFUSALS, words),
     }
 }
 
-fn exit_reply(words: &[&[u8]]) -> Result<Answer, LineFault>
+fn exit_reply(words: &[&[u8]]) -> Result<WantedAnswer, LineFault>
     ensures { result ≡ exit_reply (map (λ w. w.now) words.now) }
 {
     match words {
-        [word] if *word == b"exited".as_slice() => Ok(Answer::Done),
+        [word] if *word == b"exited".as_slice() => Ok(WantedAnswer::Done),
         _ => Err(LineFault::UnknownWord),
     }
 }
 
-fn state_reply(words: &[&[u8]]) -> Result<Answer, LineFault>
+fn state_reply(words: &[&[u8]]) -> Result<WantedAnswer, LineFault>
     ensures { result ≡ state_reply (map (λ w. w.now) words.now) }
 {
-    Ok(Answer::State(state_of(words)?))
+    Ok(WantedAnswer::State(state_of(words)?))
 }
 
-/// The reply to a claim at once.
-fn claim_reply(named: &[u8], words: &[&[u8]]) -> Result<LitmusReply, LineFault>
-    ensures { result ≡ claim_reply named.now (map (λ w. w.now) words.now) }
-{
-    if is_any_word(named) {
-        claim_any_reply(words)
-    } else {
-        without_tid(claim_tid_reply(words))
-    }
-}
-
-fn claim_tid_reply(words: &[&[u8]]) -> Result<Answer, LineFault>
-    ensures { result ≡ claim_tid_reply (map (λ w. w.now) words.now) }
+/// The reply to a claim at once, or a look at once. Of several tracees none is refused.
+fn claim_row_reply(
+    keyword: CommandKeyword,
+    named: &[u8],
+    words: &[&[u8]],
+) -> Result<WantedAnswer, LineFault>
+    ensures { result ≡ claim_row_reply keyword named.now (map (λ w. w.now) words.now) }
 {
     match words {
-        [name, number, status] => Ok(Answer::Got(got_of(name, number, status)?)),
+        [_, _, _] => got_reply(keyword, words),
+        _ if names_several(keyword, named) => Err(LineFault::UnknownWord),
         _ => refused_reply(&CLAIM_REFUSALS, words),
     }
 }
 
-fn claim_any_reply(words: &[&[u8]]) -> Result<LitmusReply, LineFault>
-    ensures { result ≡ claim_any_reply (map (λ w. w.now) words.now) }
-{
-    match words {
-        [word] if *word == b"nothing".as_slice() => without_tid(Ok(Answer::Nothing)),
-        _ => wait_any_reply(CommandKeyword::Claim, words),
-    }
-}
-
-/// The reply to a wait or a look.
-fn wait_reply(
-    keyword: CommandKeyword,
-    named: &[u8],
-    words: &[&[u8]],
-) -> Result<LitmusReply, LineFault>
-    ensures { result ≡ wait_reply keyword named.now (map (λ w. w.now) words.now) }
-{
-    if is_any_word(named) {
-        wait_any_reply(keyword, words)
-    } else {
-        without_tid(wait_tid_reply(keyword, words))
-    }
-}
-
-fn wait_tid_reply(keyword: CommandKeyword, words: &[&[u8]]) -> Result<Answer, LineFault>
-    ensures { result ≡ wait_tid_reply keyword (map (λ w. w.now) words.now) }
+/// A stop or a death.
+fn got_reply(keyword: CommandKeyword, words: &[&[u8]]) -> Result<WantedAnswer, LineFault>
+    ensures { result ≡ got_reply keyword (map (λ w. w.now) words.now) }
 {
     match words {
         [name, number, status] => Ok(got_told(keyword, got_of(name, number, status)?)),
-        _ => no_child_reply(words),
+        _ => Err(LineFault::UnknownWord),
     }
 }
 
-fn wait_any_reply(keyword: CommandKeyword, words: &[&[u8]]) -> Result<LitmusReply, LineFault>
-    ensures { result ≡ wait_any_reply keyword (map (λ w. w.now) words.now) }
+fn resume_reply(words: &[&[u8]]) -> Result<WantedAnswer, LineFault>
+    ensures { result ≡ resume_reply (map (λ w. w.now) words.now) }
 {
     match words {
-        [tid, name, number, status] => tid_got_reply(keyword, tid, name, number, status),
-        _ => without_tid(no_child_reply(words)),
-    }
-}
-
-/// A stop or a death of the tracee of this thread id.
-fn tid_got_reply(
-    keyword: CommandKeyword,
-    tid: &[u8],
-    name: &[u8],
-    number: &[u8],
-    status: &[u8],
-) -> Result<LitmusReply, LineFault>
-    ensures { result ≡ tid_got_reply keyword tid.now name.now number.now status.now }
-{
-    let got = got_of(name, number, status)?;
-    let tid = id(tid)?;
-    Ok(LitmusReply {
-        tid: Some(tid),
-        answer: got_told(keyword, got),
-    })
-}
-
-/// The reply to a resume.
-fn resume_reply(named: &[u8], words: &[&[u8]]) -> Result<Answer, LineFault>
-    ensures { result ≡ resume_reply named.now (map (λ w. w.now) words.now) }
-{
-    if is_it_word(named) {
-        resume_it_reply(words)
-    } else {
-        resume_tid_reply(words)
-    }
-}
-
-fn resume_tid_reply(words: &[&[u8]]) -> Result<Answer, LineFault>
-    ensures { result ≡ resume_tid_reply (map (λ w. w.now) words.now) }
-{
-    match words {
-        [word] if *word == b"resumed".as_slice() => Ok(Answer::Done),
+        [word] if *word == b"resumed".as_slice() => Ok(WantedAnswer::Done),
         _ => refused_reply(&RESUME_REFUSALS, words),
     }
 }
 
-fn resume_it_reply(words: &[&[u8]]) -> Result<Answer, LineFault>
-    ensures { result ≡ resume_it_reply (map (λ w. w.now) words.now) }
-{
-    match words {
-        [word] if *word == b"nothing".as_slice() => Ok(Answer::Nothing),
-        _ => resume_tid_reply(words),
-    }
-}
-
 /// A refusal that is one of these.
-fn refused_reply(refusals: &[(&str, Refused)], words: &[&[u8]]) -> Result<Answer, LineFault>
+fn refused_reply(refusals: &[(&str, Refused)], words: &[&[u8]]) -> Result<WantedAnswer, LineFault>
     ensures { result
         ≡ refused_reply (map (λ row. (row.0.now, row.1)) refusals.now) (map (λ w. w.now) words.now) }
 {
     match words {
         [word, name] if *word == b"refused".as_slice() => {
-            Ok(Answer::Refused(keyword(refusals, name)?))
+            Ok(WantedAnswer::Refused(keyword(refusals, name)?))
         }
         _ => Err(LineFault::UnknownWord),
     }
 }
 
-fn no_child_reply(words: &[&[u8]]) -> Result<Answer, LineFault>
+// ---- about no tracee
+
+/// What a command may be answered about no tracee.
+fn none_reply(
+    keyword: CommandKeyword,
+    named: &[u8],
+    words: &[&[u8]],
+) -> Result<WantedAnswer, LineFault>
+    ensures { result ≡ none_reply keyword named.now (map (λ w. w.now) words.now) }
+{
+    match keyword {
+        CommandKeyword::Publish => Err(LineFault::UnknownWord),
+        CommandKeyword::Exit => Err(LineFault::UnknownWord),
+        CommandKeyword::State => Err(LineFault::UnknownWord),
+        CommandKeyword::Claim => scan_reply(keyword, named, words),
+        CommandKeyword::Wait => no_child_reply(words),
+        CommandKeyword::Look => no_child_reply(words),
+        CommandKeyword::Peek => scan_reply(keyword, named, words),
+        CommandKeyword::Resume if is_it_word(named) => nothing_reply(words),
+        CommandKeyword::Resume => Err(LineFault::UnknownWord),
+    }
+}
+
+/// What a claim at once, or a look at once, is answered where none of several tracees has anything.
+fn scan_reply(
+    keyword: CommandKeyword,
+    named: &[u8],
+    words: &[&[u8]],
+) -> Result<WantedAnswer, LineFault>
+    ensures { result ≡ scan_reply keyword named.now (map (λ w. w.now) words.now) }
+{
+    if !names_several(keyword, named) {
+        return Err(LineFault::UnknownWord);
+    }
+    match words {
+        [_] => nothing_reply(words),
+        _ => no_child_reply(words),
+    }
+}
+
+fn nothing_reply(words: &[&[u8]]) -> Result<WantedAnswer, LineFault>
+    ensures { result ≡ nothing_reply (map (λ w. w.now) words.now) }
+{
+    match words {
+        [word] if *word == b"nothing".as_slice() => Ok(WantedAnswer::Nothing),
+        _ => Err(LineFault::UnknownWord),
+    }
+}
+
+fn no_child_reply(words: &[&[u8]]) -> Result<WantedAnswer, LineFault>
     ensures { result ≡ no_child_reply (map (λ w. w.now) words.now) }
 {
     match words {
         [first, second] if *first == b"no".as_slice() && *second == b"child".as_slice() => {
-            Ok(Answer::NoChild)
+            Ok(WantedAnswer::NoChild)
         }
         _ => Err(LineFault::UnknownWord),
     }
 }
 
+// ---- stops, deaths and states
+
 /// What a claim takes, and a look leaves there.
-fn got_told(keyword: CommandKeyword, got: Got) -> Answer
+fn got_told(keyword: CommandKeyword, got: WantedGot) -> WantedAnswer
     ensures { result ≡ got_told keyword got }
 {
     match keyword {
-        CommandKeyword::Look => Answer::Saw(got),
-        _ => Answer::Got(got),
+        CommandKeyword::Look | CommandKeyword::Peek => WantedAnswer::Saw(got),
+        _ => WantedAnswer::Got(got),
     }
 }
 
-fn got_of(name: &[u8], number: &[u8], status: &[u8]) -> Result<Got, LineFault>
+fn got_of(name: &[u8], number: &[u8], status: &[u8]) -> Result<WantedGot, LineFault>
     ensures { result ≡ got_of_words name.now number.now status.now }
 {
     let word = keyword(&GOT_WORDS, name)?;
-    let number = stop_number(number)?;
-    let status = status_number(status)?;
+    let number = wanted_stop(number)?;
+    let status = wanted_status(status)?;
     Ok(got_with_numbers(word, number, status))
 }
 
-fn got_with_numbers(word: GotWord, number: u32, status: u32) -> Got
+fn got_with_numbers(word: GotWord, number: Option<u32>, status: Option<u32>) -> WantedGot
     ensures { result ≡ got_with_numbers word number status }
 {
     match word {
-        GotWord::Stop => Got::Stop(number, status),
-        GotWord::Ended => Got::Ended(number, status),
+        GotWord::Stop => WantedGot::Stop(number, status),
+        GotWord::Ended => WantedGot::Ended(number, status),
     }
 }
 
-fn state_of(words: &[&[u8]]) -> Result<State, LineFault>
+fn state_of(words: &[&[u8]]) -> Result<WantedState, LineFault>
     ensures { result ≡ state_of_words (map (λ w. w.now) words.now) }
 {
     match words {
@@ -293,23 +357,66 @@ fn state_of(words: &[&[u8]]) -> Result<State, LineFault>
     }
 }
 
-fn numbered_state(name: &[u8], number: &[u8], last: &[u8]) -> Result<State, LineFault>
+fn numbered_state(name: &[u8], number: &[u8], last: &[u8]) -> Result<WantedState, LineFault>
     ensures { result ≡ numbered_state name.now number.now last.now }
 {
     let word = keyword(&NUMBERED_STATES, name)?;
-    let number = stop_number(number)?;
+    let number = wanted_stop(number)?;
     state_with_number(word, number, last)
 }
 
 /// The state of this word and this number, by the number after it.
-fn state_with_number(word: StateWord, number: u32, last: &[u8]) -> Result<State, LineFault>
+fn state_with_number(
+    word: StateWord,
+    number: Option<u32>,
+    last: &[u8],
+) -> Result<WantedState, LineFault>
     ensures { result ≡ state_with_number word number last.now }
 {
     match word {
-        StateWord::Stopped => Ok(State::Stopped(number, status_number(last)?)),
-        StateWord::Claimed => Ok(State::Claimed(number, u32::from(tracer_of(last)?))),
-        StateWord::Dead => Ok(State::Dead(number, status_number(last)?)),
+        StateWord::Stopped => Ok(WantedState::Stopped(number, wanted_status(last)?)),
+        StateWord::Claimed => Ok(WantedState::Claimed(number, wanted_tracer(last)?)),
+        StateWord::Dead => Ok(WantedState::Dead(number, wanted_status(last)?)),
     }
+}
+
+// ---- numbers
+
+/// Whether a word stands for any number.
+fn is_star(word: &[u8]) -> bool
+    ensures { result ≡ is_star word.now }
+{
+    word == b"*".as_slice()
+}
+
+/// The number of a stop that is asked for, if one is.
+fn wanted_stop(word: &[u8]) -> Result<Option<u32>, LineFault>
+    ensures { result ≡ wanted_stop word.now }
+{
+    if is_star(word) {
+        return Ok(None);
+    }
+    Ok(Some(stop_number(word)?))
+}
+
+/// The status that is asked for, if one is.
+fn wanted_status(word: &[u8]) -> Result<Option<u32>, LineFault>
+    ensures { result ≡ wanted_status word.now }
+{
+    if is_star(word) {
+        return Ok(None);
+    }
+    Ok(Some(status_number(word)?))
+}
+
+/// The tracer that is asked for, if one is.
+fn wanted_tracer(word: &[u8]) -> Result<Option<u32>, LineFault>
+    ensures { result ≡ wanted_tracer word.now }
+{
+    if is_star(word) {
+        return Ok(None);
+    }
+    Ok(Some(u32::from(tracer_of(word)?)))
 }
 
 /// The number of a stop; 0 of a row that has made none.

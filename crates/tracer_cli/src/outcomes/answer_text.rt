@@ -59,7 +59,7 @@ fn done_word(asked: BoardCall) -> &'static str
     }
 }
 
-/// Writes the stop or the death that was got of a row, with its thread id before it where the command is about any row.
+/// Writes the stop or the death that was got of a row, with its thread id before it where the command takes any row, or any of a group.
 #[tactic(auto, using(crate::proofs::Written::in_line))]
 fn write_taken<A: Allocator>(
     out: &mut String<A>,
@@ -85,7 +85,7 @@ fn write_taken_row<A: Allocator>(
     ensures { OnOk result (string_bytes out.new ≡ string_bytes out.old ++ taken_row rows.now which row) }
 {
     match which {
-        Which::Any => write_number(out, "", tid_at(rows, row), " "),
+        Which::Any | Which::Group(_) => write_number(out, "", tid_at(rows, row), " "),
         Which::Row(_) | Which::Last => Ok(()),
     }
 }
@@ -105,7 +105,7 @@ pub(crate) fn write_waits<A: Allocator>(
     out.push_str("waits")?;
     match command.which {
         Which::Row(row) => write_refusal_of(out, rows, states, row, command.call)?,
-        Which::Any | Which::Last => out.push_str("\n")?,
+        Which::Any | Which::Group(_) | Which::Last => out.push_str("\n")?,
     }
     Ok(())
 }

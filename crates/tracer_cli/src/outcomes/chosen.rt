@@ -1,16 +1,17 @@
-//! The outcomes that are printed: those in which every command with a reply was done.
+//! The outcomes that are printed: those in which every command with a reply was done, and every condition holds.
 
-ghost use Rattle.std.specs.Prelude.{◌≡◌, length, is_some, option_map, slice_get};
-ghost use Rattle.std.specs.List.{list_any};
+ghost use Rattle.std.specs.Prelude.{◌≡◌, length, option_map, slice_get};
 ghost use Rattle.stop_explorer.specs.Program.{own_turns};
+ghost use Rattle.stop_explorer.specs.Progress.{has_reply, is_quiet};
 ghost use Rattle.stop_explorer.specs.Replies.{done_from};
 ghost use Rattle.stop_explorer.specs.Search.{commands_in};
-ghost use Rattle.tracer_cli.specs.Chosen.{chosen_of, ending_numbered, has_come_true, has_replies, has_reply};
-ghost use Rattle.tracer_cli.specs.Chosen.{has_thread_come_true, have_come_true, was_done};
-ghost use Rattle.tracer_cli.specs.OutcomeText.{is_forbidden};
+ghost use Rattle.tracer_cli.specs.Chosen.{chosen_of, ending_numbered, has_come_true};
+ghost use Rattle.tracer_cli.specs.Chosen.{has_thread_come_true, have_come_true, is_chosen, was_done};
 
+use super::condition::conditions_hold;
+use crate::litmus::required::Condition;
 use std::alloc::Allocator;
-use stop_explorer::{FoundRun, ThreadCommand, Turn, index_after};
+use stop_explorer::{FoundRun, ThreadCommand, Turn, Voice, index_after};
 
 /// The commands of a thread. There are none past the last thread.
 pub(crate) fn thread_commands<A: Allocator>(
@@ -25,27 +26,17 @@ pub(crate) fn thread_commands<A: Allocator>(
     }
 }
 
-// ---- replies
-
-/// Whether some command has a reply.
-#[tactic(auto, using(stop_explorer::proofs::AnyRow::any_steps), unfolding(crate::specs::Chosen::has_replies))]
-pub(crate) fn has_replies<A: Allocator>(commands: &[Vec<ThreadCommand, A>]) -> bool
-    ensures { result ≡ has_replies (length commands.now) (commands_in commands.now) }
+/// Whether what a thread is answered does not tell outcomes apart. A thread past the last one is loud.
+pub(crate) fn is_quiet(voices: &[Voice], thread: usize) -> bool
+    ensures { result ≡ is_quiet voices.now thread }
 {
-    for thread in 0..commands.len() {
-        if is_some_replied(thread_commands(commands, thread)) {
-            return true;
-        }
+    match voices.get(thread) {
+        Some(voice) => *voice == Voice::Quiet,
+        None => false,
     }
-    false
 }
 
-/// Whether some command of a thread has a reply.
-fn is_some_replied(commands: &[ThreadCommand]) -> bool
-    ensures { result ≡ list_any (λ command. is_some command.wanted) commands.now }
-{
-    commands.iter().any(|command| command.wanted.is_some())
-}
+// ---- replies
 
 /// Whether a thread's command at a place has a reply.
 fn has_reply(commands: &[ThreadCommand], at: usize) -> bool
@@ -61,7 +52,7 @@ fn has_reply(commands: &[ThreadCommand], at: usize) -> bool
 
 /// Whether each command that has a reply was done by these turns.
 #[tactic(auto, using(crate::proofs::AllOf::all_steps), unfolding(crate::specs::Chosen::have_come_true))]
-pub(crate) fn is_chosen<A: Allocator>(commands: &[Vec<ThreadCommand, A>], turns: &[Turn]) -> bool
+fn have_come_true<A: Allocator>(commands: &[Vec<ThreadCommand, A>], turns: &[Turn]) -> bool
     ensures { result ≡ have_come_true (length commands.now) (commands_in commands.now) turns.now }
 {
     for thread in 0..commands.len() {
@@ -111,44 +102,50 @@ fn was_done(commands: &[ThreadCommand], turns: &[Turn], thread: usize, at: usize
 
 // ---- the outcomes
 
+/// Whether a run has each reply, and each of these conditions holds where it ends.
+#[tactic(auto, unfolding(crate::specs::Chosen::is_chosen))]
+pub(crate) fn is_chosen<A: Allocator>(
+    commands: &[Vec<ThreadCommand, A>],
+    conditions: &[Condition],
+    run: &FoundRun<A>,
+) -> bool
+    ensures { result ≡ is_chosen (length commands.now) (commands_in commands.now) conditions.now run.now }
+{
+    have_come_true(commands, run.turns()) && conditions_hold(commands, conditions, run)
+}
+
 /// How many outcomes are printed.
 pub(crate) fn count_chosen<A: Allocator>(
     commands: &[Vec<ThreadCommand, A>],
+    conditions: &[Condition],
     runs: &[FoundRun<A>],
 ) -> usize
-    ensures { result ≡ length (chosen_of (length commands.now) (commands_in commands.now) runs.now) }
+    ensures { result
+        ≡ length (chosen_of (length commands.now) (commands_in commands.now) conditions.now runs.now) }
 {
     let mut count = 0;
     for run in runs {
-        if is_chosen(commands, run.turns()) {
+        if is_chosen(commands, conditions, run) {
             count += 1;
         }
     }
     count
 }
 
-/// Whether no outcome is printed.
-pub(crate) fn is_forbidden<A: Allocator>(
-    commands: &[Vec<ThreadCommand, A>],
-    runs: &[FoundRun<A>],
-) -> bool
-    ensures { result ≡ is_forbidden (length commands.now) (commands_in commands.now) runs.now }
-{
-    count_chosen(commands, runs) == 0
-}
-
 /// The outcome that is printed with this number, if there is one.
 pub(crate) fn chosen_run<'r, A: Allocator>(
     commands: &[Vec<ThreadCommand, A>],
+    conditions: &[Condition],
     runs: &'r [FoundRun<A>],
     number: usize,
 ) -> Option<&'r FoundRun<A>>
     ensures { option_map (λ run. run.now) result
-        ≡ ending_numbered number (chosen_of (length commands.now) (commands_in commands.now) runs.now) }
+        ≡ ending_numbered number
+        (chosen_of (length commands.now) (commands_in commands.now) conditions.now runs.now) }
 {
     let mut count = 0;
     for run in runs {
-        if is_chosen(commands, run.turns()) {
+        if is_chosen(commands, conditions, run) {
             count += 1;
             if count == number {
                 return Some(run);

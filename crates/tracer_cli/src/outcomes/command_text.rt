@@ -39,7 +39,7 @@ pub(crate) fn write_call<A: Allocator>(
             write_stop(out, stop)
         }
         BoardCall::State => write_verb(out, "state", rows, which),
-        BoardCall::Look(tracer) => write_by_tracer(out, "look", rows, which, tracer),
+        BoardCall::Look(tracer) => write_by_tracer(out, look_verb(waits), rows, which, tracer),
         BoardCall::Claim(tracer) => write_by_tracer(out, claim_verb(waits), rows, which, tracer),
         BoardCall::Resume(tracer, how) => {
             write_by_tracer(out, "resume", rows, which, tracer)?;
@@ -58,6 +58,14 @@ fn claim_verb(waits: bool) -> &'static str
         board_call_words tracee waits (BoardCall.Claim tracer) ≡ result.now ∷ tracee ∷ decimal tracer ∷ [] }
 {
     if waits { "wait" } else { "claim" }
+}
+
+/// The first word of a look.
+fn look_verb(waits: bool) -> &'static str
+    ensures { (tracee : List ℕ) (tracer : ℕ) →
+        board_call_words tracee waits (BoardCall.Look tracer) ≡ result.now ∷ tracee ∷ decimal tracer ∷ [] }
+{
+    if waits { "look" } else { "peek" }
 }
 
 /// Writes a call's first word, and the tracee that it is about.
@@ -103,6 +111,7 @@ fn write_tracee<A: Allocator>(
     match which {
         Which::Row(row) => write_number(out, " ", tid_at(rows, row), "")?,
         Which::Any => out.push_str(" any")?,
+        Which::Group(pgid) => write_number(out, " group ", pgid, "")?,
         Which::Last => out.push_str(" it")?,
     }
     Ok(())

@@ -2,6 +2,7 @@
 
 ghost use Rattle.std.specs.Prelude.{◌≡◌, ◌++◌, length, IfOk, IfSome, OnOk, option_map, string_bytes};
 ghost use Rattle.stop_explorer.specs.Search.{commands_in};
+ghost use Rattle.tracer_cli.specs.Chosen.{chosen_of};
 ghost use Rattle.tracer_cli.specs.LitmusGrammar.{HasTracer};
 ghost use Rattle.tracer_cli.specs.OutcomeOrder.{HaveTracers, ending_replay, order_of_turn};
 ghost use Rattle.tracer_cli.specs.OutcomeOrder.{orders_of, outcome_replay, replayed_call};
@@ -11,6 +12,7 @@ ghost use Rattle.tracer_cli.specs.Spelling.{orders_text};
 use super::chosen::{chosen_run, thread_commands};
 use super::replay_text::{write_order, write_rows};
 use crate::command::Command;
+use crate::litmus::required::Condition;
 use crate::order::Order;
 use std::alloc::Allocator;
 use stop_board::{NoMemory, Row};
@@ -98,15 +100,16 @@ pub(crate) fn outcome_replay<A: Allocator + Copy>(
     alloc: A,
     rows: &[Row],
     commands: &[Vec<ThreadCommand, A>],
+    conditions: &[Condition],
     explored: &Explored<A>,
     number: usize,
 ) -> Result<Option<String<A>>, NoMemory>
     requires { HaveTracers (commands_in commands.now) }
     ensures { IfOk result (λ found. option_map string_bytes found
-        ≡ outcome_replay rows.now (length commands.now) (commands_in commands.now) number
-        explored.now.runs.items) }
+        ≡ outcome_replay rows.now (commands_in commands.now) number
+        (chosen_of (length commands.now) (commands_in commands.now) conditions.now explored.now.runs.items)) }
 {
-    let Some(run) = chosen_run(commands, explored.runs.as_slice(), number) else {
+    let Some(run) = chosen_run(commands, conditions, explored.runs.as_slice(), number) else {
         return Ok(None);
     };
     let mut out = String::new(alloc);

@@ -1,25 +1,27 @@
 //! The text of outcomes: what each thread was answered, the states of the tracees, and one order that leads there.
 
-ghost use Rattle.std.specs.Prelude.{◌≡◌, ◌++◌, length, IfOk, IfSome, IsUtf8, OnOk, decimal, option_map, slice_get};
+ghost use Rattle.std.specs.Prelude.{◌≡◌, ◌++◌, ◌<◌, ◌^◌, length, IfOk, IfSome, IsUtf8, OnOk, decimal, option_map, slice_get};
 ghost use Rattle.std.specs.Prelude.{string_bytes};
-ghost use Rattle.stop_explorer.specs.Program.{own_turns};
+ghost use Rattle.stop_explorer.specs.Program.{command_after, own_turns};
 ghost use Rattle.stop_explorer.specs.Search.{commands_in};
 ghost use Rattle.tracer_cli.specs.Chosen.{chosen_of};
 ghost use Rattle.tracer_cli.specs.LitmusDraft.{AreTexts, names_kept};
-ghost use Rattle.tracer_cli.specs.OutcomeText.{allowed_line, counts_line, done_line, explored_text, name_at, order_text};
-ghost use Rattle.tracer_cli.specs.OutcomeText.{outcome_line, outcome_text, outcome_texts, thread_head, thread_lines};
-ghost use Rattle.tracer_cli.specs.OutcomeText.{thread_word, threads_text, tracee_line, tracees_text};
+ghost use Rattle.tracer_cli.specs.OutcomeText.{allowed_line, chosen_text, counts_line, done_line, forbidden_line, name_at};
+ghost use Rattle.tracer_cli.specs.OutcomeText.{order_text};
+ghost use Rattle.tracer_cli.specs.OutcomeText.{outcome_line, outcome_text, outcome_texts, quiet_line, thread_head};
+ghost use Rattle.tracer_cli.specs.OutcomeText.{thread_lines, thread_word, threads_text, told_lines, tracee_line, tracees_text};
 ghost use Rattle.tracer_cli.specs.OutcomeText.{turn_line, waiting_line};
 
 use super::answer_text::{write_answer, write_waits};
-use super::chosen::{count_chosen, has_replies, is_chosen, thread_commands};
+use super::chosen::{count_chosen, is_chosen, is_quiet, thread_commands};
 use super::command_text::write_command;
 use super::order::command_of_turn;
+use crate::litmus::required::Condition;
 use crate::replies::write_state;
 use itoa::Buffer;
 use std::alloc::Allocator;
 use stop_board::{NoMemory, Row, State};
-use stop_explorer::{Explored, FoundRun, ThreadCommand, Turn, index_after};
+use stop_explorer::{Explored, FoundRun, ThreadCommand, Turn, Voice, command_after, index_after};
 
 // ---- commands
 
@@ -109,7 +111,7 @@ fn write_thread_head<A: Allocator>(
 }
 
 /// Writes a thread's name, or its number where it has none.
-fn write_thread_word<A: Allocator>(
+pub(super) fn write_thread_word<A: Allocator>(
     out: &mut String<A>,
     number: usize,
     name: Option<&[u8]>,
@@ -164,22 +166,66 @@ fn write_thread_lines<A: Allocator>(
     write_waiting_at(out, rows, states, commands, at)
 }
 
+/// Writes what of a quiet thread is told: that it is done, or the command that it waits at.
+fn write_quiet_line<A: Allocator>(
+    out: &mut String<A>,
+    rows: &[Row],
+    states: &[State],
+    commands: &[ThreadCommand],
+    thread: usize,
+    turns: &[Turn],
+) -> Result<(), NoMemory>
+    requires { thread < 2 ^ 32 }
+    ensures { OnOk result (string_bytes out.new ≡ string_bytes out.old
+        ++ quiet_line rows.now states.now (command_after commands.now (own_turns thread turns.now))) }
+{
+    match command_after(commands, turns, thread as u32) {
+        None => {
+            out.push_str("done\n")?;
+            Ok(())
+        }
+        Some(command) => write_waiting(out, rows, states, &command),
+    }
+}
+
+/// Writes what of a thread is told.
+fn write_told<A: Allocator>(
+    out: &mut String<A>,
+    rows: &[Row],
+    quiet: bool,
+    commands: &[ThreadCommand],
+    thread: usize,
+    run: &FoundRun<A>,
+) -> Result<(), NoMemory>
+    requires { thread < 2 ^ 32 }
+    ensures { OnOk result (string_bytes out.new ≡ string_bytes out.old
+        ++ told_lines rows.now quiet commands.now run.now thread) }
+{
+    if quiet {
+        write_quiet_line(out, rows, run.states(), commands, thread, run.turns())
+    } else {
+        write_thread_lines(out, rows, run.states(), commands, thread, run.turns())
+    }
+}
+
 /// Writes each thread.
 fn write_threads<A: Allocator>(
     out: &mut String<A>,
     rows: &[Row],
     names: &[Option<&[u8]>],
+    voices: &[Voice],
     commands: &[Vec<ThreadCommand, A>],
     run: &FoundRun<A>,
 ) -> Result<(), NoMemory>
-    requires { AreTexts names.now }
+    requires names { AreTexts names.now }
+    requires few { length names.now < 2 ^ 32 }
     ensures { OnOk result (string_bytes out.new ≡ string_bytes out.old
-        ++ threads_text rows.now (commands_in commands.now) run.now 0 (names_kept names.now)) }
+        ++ threads_text rows.now voices.now (commands_in commands.now) run.now 0 (names_kept names.now)) }
 {
     for (thread, name) in names.iter().enumerate() {
         write_thread_head(out, thread + 1, *name)?;
         let own = thread_commands(commands, thread);
-        write_thread_lines(out, rows, run.states(), own, thread, run.turns())?;
+        write_told(out, rows, is_quiet(voices, thread), own, thread, run)?;
     }
     Ok(())
 }
@@ -214,7 +260,7 @@ fn write_tracees<A: Allocator>(
 // ---- the order
 
 /// The name of a thread, by its place among all threads, if it has one.
-fn name_at<'t>(names: &[Option<&'t [u8]>], thread: u32) -> Option<&'t [u8]>
+pub(super) fn name_at<'t>(names: &[Option<&'t [u8]>], thread: u32) -> Option<&'t [u8]>
     requires { AreTexts names.now }
     ensures name { option_map (λ bytes. bytes.now) result ≡ name_at (names_kept names.now) thread }
     ensures text { IfSome result (λ bytes. IsUtf8 bytes.now) }
@@ -286,45 +332,65 @@ pub(crate) fn write_outcome<A: Allocator>(
     out: &mut String<A>,
     rows: &[Row],
     names: &[Option<&[u8]>],
+    voices: &[Voice],
     commands: &[Vec<ThreadCommand, A>],
     number: usize,
     count: usize,
     run: &FoundRun<A>,
 ) -> Result<(), NoMemory>
-    requires { AreTexts names.now }
+    requires names { AreTexts names.now }
+    requires few { length names.now < 2 ^ 32 }
     ensures { OnOk result (string_bytes out.new ≡ string_bytes out.old
-        ++ outcome_text rows.now (names_kept names.now) (commands_in commands.now) number count run.now) }
+        ++ outcome_text rows.now (names_kept names.now) voices.now (commands_in commands.now) number count run.now) }
 {
     write_outcome_line(out, number, count)?;
-    write_threads(out, rows, names, commands, run)?;
+    write_threads(out, rows, names, voices, commands, run)?;
     write_tracees(out, rows, run.states())?;
     write_turns(out, rows, names, commands, run.turns())?;
     out.push_str("\n")?;
     Ok(())
 }
 
-/// Writes the outcomes in which every command with a reply was done, numbered from 1.
+/// Writes the outcomes that are printed, numbered from 1.
 fn write_outcomes<A: Allocator>(
     out: &mut String<A>,
     rows: &[Row],
     names: &[Option<&[u8]>],
+    voices: &[Voice],
     commands: &[Vec<ThreadCommand, A>],
+    conditions: &[Condition],
     count: usize,
     runs: &[FoundRun<A>],
 ) -> Result<(), NoMemory>
-    requires { AreTexts names.now }
+    requires names { AreTexts names.now }
+    requires few { length names.now < 2 ^ 32 }
     ensures { OnOk result (string_bytes out.new ≡ string_bytes out.old
-        ++ outcome_texts rows.now (names_kept names.now) (commands_in commands.now) 1 count
-        (chosen_of (length commands.now) (commands_in commands.now) runs.now)) }
+        ++ outcome_texts rows.now (names_kept names.now) voices.now (commands_in commands.now) 1 count
+        (chosen_of (length commands.now) (commands_in commands.now) conditions.now runs.now)) }
 {
     let mut before = 0;
     for run in runs {
-        if is_chosen(commands, run.turns()) {
-            write_outcome(out, rows, names, commands, before + 1, count, run)?;
+        if is_chosen(commands, conditions, run) {
+            write_outcome(out, rows, names, voices, commands, before + 1, count, run)?;
             before += 1;
         }
     }
     Ok(())
+}
+
+/// Writes how many outcomes and places there are, and that the outcomes are allowed, where the file requires anything.
+#[tactic(auto, using(crate::proofs::Written::in_two))]
+pub(super) fn write_end<A: Allocator>(
+    out: &mut String<A>,
+    count: usize,
+    places: usize,
+    required: bool,
+) -> Result<(), NoMemory>
+    ensures { OnOk result (string_bytes out.new
+        ≡ string_bytes out.old ++ (counts_line count places ++ allowed_line required)) }
+{
+    write_counts(out, count, places)?;
+    write_allowed(out, required)
 }
 
 /// Writes how many outcomes and places there are.
@@ -339,39 +405,55 @@ fn write_counts<A: Allocator>(
     Ok(())
 }
 
-/// Writes that the outcomes are allowed, where there are replies.
-fn write_allowed<A: Allocator>(out: &mut String<A>, replies: bool) -> Result<(), NoMemory>
-    ensures { OnOk result (string_bytes out.new ≡ string_bytes out.old ++ allowed_line replies) }
+/// Writes that the outcomes are allowed, where the file requires anything.
+fn write_allowed<A: Allocator>(out: &mut String<A>, required: bool) -> Result<(), NoMemory>
+    ensures { OnOk result (string_bytes out.new ≡ string_bytes out.old ++ allowed_line required) }
 {
-    if replies {
+    if required {
         out.push_str("allowed\n")?;
     }
     Ok(())
 }
 
-/// The text of what was explored: the outcomes in which every command with a reply was done, and how many they and the
-/// places are; or that there is none. Each thread has a name, or none.
+/// The text of what was explored: the outcomes that have each reply, and in which each condition holds, and how many
+/// they and the places are. `required`: the file has replies or conditions. Each thread has a name, or none.
 pub(crate) fn outcomes_text<A: Allocator + Copy>(
     alloc: A,
     rows: &[Row],
     names: &[Option<&[u8]>],
+    voices: &[Voice],
     commands: &[Vec<ThreadCommand, A>],
+    conditions: &[Condition],
+    required: bool,
     explored: &Explored<A>,
 ) -> Result<String<A>, NoMemory>
     requires names { AreTexts names.now }
-    requires threads { length names.now ≡ length commands.now }
-    ensures { IfOk result (λ text. string_bytes text ≡ explored_text rows.now (names_kept names.now)
-        (commands_in commands.now) explored.now.places explored.now.runs.items) }
+    requires few { length names.now < 2 ^ 32 }
+    ensures { IfOk result (λ text. string_bytes text ≡ chosen_text rows.now (names_kept names.now) voices.now
+        (commands_in commands.now) required explored.now.places
+        (chosen_of (length commands.now) (commands_in commands.now) conditions.now explored.now.runs.items)) }
 {
     let mut out = String::new(alloc);
     let runs = explored.runs.as_slice();
-    let count = count_chosen(commands, runs);
-    if count == 0 {
-        out.push_str("forbidden\n")?;
-        return Ok(out);
+    let count = count_chosen(commands, conditions, runs);
+    write_outcomes(
+        &mut out, rows, names, voices, commands, conditions, count, runs,
+    )?;
+    write_end(&mut out, count, explored.places, required)?;
+    Ok(out)
+}
+
+/// What is written where an order does not have all that a file requires: the number of a line, if there is one.
+pub(crate) fn forbidden_text<A: Allocator>(
+    alloc: A,
+    line: Option<u32>,
+) -> Result<String<A>, NoMemory>
+    ensures { IfOk result (λ text. string_bytes text ≡ forbidden_line line) }
+{
+    let mut out = String::new(alloc);
+    match line {
+        None => out.push_str("forbidden\n")?,
+        Some(line) => write!(out, "forbidden: line {line}\n")?,
     }
-    write_outcomes(&mut out, rows, names, commands, count, runs)?;
-    write_counts(&mut out, count, explored.places)?;
-    write_allowed(&mut out, has_replies(commands))?;
     Ok(out)
 }

@@ -13,7 +13,8 @@ returns-clause-own c =
     ∙ ap (λ f. f.has_globals) c.about.ensures ∙ c.new.ensures.local in
     let with_budget = not_global _ _ _ c.in_ok-arg.ensures none c.budget.ensures.own in
     let with_outcome = not_global _ _ _ c.in_ok-arg-2.ensures with_budget c.outcome.ensures.own in
-    IfOk-weaker c.arg-3.result _ _ (λ command h. not_global _ _ command h with_outcome c.file.ensures.own) c.arg-3.ensures
+    let with_ends = not_global _ _ _ c.in_ok-arg-3.ensures with_outcome c.ends.ensures.own in
+    IfOk-weaker c.arg-4.result _ _ (λ command h. not_global _ _ command h with_ends c.file.ensures.own) c.arg-4.ensures
 
 pub returns-clause-app : goal.returns-clause-app
 returns-clause-app c =
@@ -23,5 +24,7 @@ returns-clause-app c =
     ∙ ap₂ with_rule plain_is c.budget.ensures.rule in
     let with_outcome = c.in_ok-arg-2.ensures.shape c.outcome.ensures.own
     ∙ ap₂ with_rule with_budget c.outcome.ensures.rule in
-    IfOk-weaker c.arg-3.result _ _
-    (λ command h. h.shape c.file.ensures.own ∙ ap₂ with_rule with_outcome c.file.ensures.rule) c.arg-3.ensures
+    let with_ends = c.in_ok-arg-3.ensures.shape c.ends.ensures.own
+    ∙ ap₂ with_rule with_outcome c.ends.ensures.rule in
+    IfOk-weaker c.arg-4.result _ _
+    (λ command h. h.shape c.file.ensures.own ∙ ap₂ with_rule with_ends c.file.ensures.rule) c.arg-4.ensures

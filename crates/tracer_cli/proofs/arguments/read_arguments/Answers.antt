@@ -1,19 +1,24 @@
 -- What clap's definitions say of these words.
 use Rattle.std.proofs.Common.{refl, ◌∙◌, ap, map, subst, sym, List, ℕ}
 use Rattle.clap.specs.Words.{App, HasKind, fault_of, is_simple, is_simple_and_free, subcommand_of, subcommand_rows_of, takes}
-use Rattle.tracer_cli.specs.Arguments.{FoundSubcommand, IsNamed}
+use Rattle.tracer_cli.specs.Arguments.{FoundSubcommand, IsNamedBy}
 use Rattle.tracer_cli.proofs.Commands.{failed, is_free, is_known, named, named_is_taken}
 use Rattle.tracer_cli.proofs.arguments.read_arguments.Goals as goal
 
 pub returns-in-Ok-clause-taken : goal.returns-in-Ok-clause-taken
-returns-in-Ok-clause-taken c = λ taken. named_is_taken (subcommand_rows_of c.in-Ok.matches) c.named_request.result c.named_request.ensures
+returns-in-Ok-clause-taken c = λ taken.
+    let words : List (List ℕ) = map (λ word. word.now) c.args.words.now in
+    let entered = (c.in-Ok.ensures.matches (ap is_simple c.in_ok-command.ensures ∙ is_known)).1
+    ∙ ap (λ (a : App). subcommand_of a words) c.in_ok-command.ensures in
+    named_is_taken words c.named_request.result
+    (subst (λ (found : FoundSubcommand). IsNamedBy found c.named_request.result) entered c.named_request.ensures)
 
 pub returns-in-Err-clause-taken : goal.returns-in-Err-clause-taken
 returns-in-Err-clause-taken c = λ taken.
     let words : List (List ℕ) = map (λ word. word.now) c.args.words.now in
     let none = c.without_matches.ensures.memory
     (c.in-Err.ensures.passes (ap (λ (a : App). takes a words) c.in_ok-command.ensures ∙ taken)) in
-    rw none refl
+    rw none tt
 
 pub returns-in-Ok-clause-words : goal.returns-in-Ok-clause-words
 returns-in-Ok-clause-words c =
@@ -22,7 +27,7 @@ returns-in-Ok-clause-words c =
     ∙ ap (λ (a : App). subcommand_of a words) c.in_ok-command.ensures in
     let fits = c.in-Ok.ensures.kinds (ap is_simple_and_free c.in_ok-command.ensures ∙ is_free) in
     named words c.named_request.result (sym (ap (λ (a : App). fault_of a words) c.in_ok-command.ensures) ∙ fits)
-    (subst (λ (found : FoundSubcommand). IsNamed found c.named_request.result) entered c.named_request.ensures)
+    (subst (λ (found : FoundSubcommand). IsNamedBy found c.named_request.result) entered c.named_request.ensures)
 
 pub returns-in-Err-clause-words : goal.returns-in-Err-clause-words
 returns-in-Err-clause-words c =

@@ -24,8 +24,13 @@ returns g c =
     let names_are : names_kept c.push.new.self.items ≡ old.names ++ name ∷ [] =
     ap names_kept pushed ∙ map-append said draft.names.items (c.thread_name.result ∷ [])
     ∙ ap (λ n. old.names ++ n ∷ []) c.thread_name.ensures in
+    let voices_are = rw c.if-is_err-2.ensures.negation at c.push-2.ensures.items in
     let after : length draft.lines.items ≡ c.len-draft.result =
     omega (arith, draft.lines.ok.0, c.len-draft.ensures) in
-    thread_taken old name (names_kept c.push.new.self.items)
-    (room_for (length old.names) c.len.result MOST_THREADS c.if-len.false long) closed names_are
-    ∙ ap (λ n. Ok (record old { names = names_kept c.push.new.self.items; before = n })) after
+    thread_taken old c.args.voice name (names_kept c.push.new.self.items) c.push-2.new.self.items
+    (room_for (length old.names) c.len.result MOST_THREADS c.if-len.false long) closed names_are voices_are
+    ∙ ap (λ n. Ok (record old {
+      names = names_kept c.push.new.self.items;
+      voices = c.push-2.new.self.items;
+      before = n;
+    })) after

@@ -1,8 +1,8 @@
 -- No repeat may be open after the last line.
 use Rattle.std.proofs.Common.{◌≡◌, ◌∙◌, ◌<◌, Err, ℕ, ap, arith, length, subst, sym}
 use Rattle.std.specs.List.{All}
-use Rattle.stop_explorer.specs.declared.command.ProgramLine.{ProgramLine}
 use Rattle.trace_script.specs.declared.cause.Cause.TheVariants.{NoEnd}
+use Rattle.tracer_cli.specs.declared.litmus.required.NumberedLine.{NumberedLine}
 use Rattle.tracer_cli.specs.LitmusDraft.{litmus_reading_of, names_kept}
 use Rattle.tracer_cli.proofs.LitmusFiles.{are_texts, content_is, is_open, length_kept, refused_at_end}
 use Rattle.tracer_cli.proofs.litmus.file.finish.Goals as goal
@@ -27,7 +27,9 @@ returns-clause-range g c =
     record {
       few = omega (arith, long, c.requires.range.few);
       names = are_texts draft.names.items c.requires.range.names;
+      voices = c.requires.range.voices ∙ long;
       calls = c.requires.range.calls;
-      threads = subst (λ n. All (λ (line : ProgramLine). line.thread < n) draft.lines.items) long
+      threads = subst (λ n. All (λ (line : NumberedLine). line.line.thread < n) draft.lines.items) long
           c.requires.range.threads;
+      forward = c.requires.range.forward;
     }

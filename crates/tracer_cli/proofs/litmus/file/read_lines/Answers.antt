@@ -12,7 +12,7 @@ returns-in-Err-clause-err g c =
     let new = litmus_reading_of c.take_line.new.draft in
     let counted = ap (λ (ls : List (List ℕ)). length ls) c.cut_line.ensures.lines in
     rw (← c.loop-rest.invariant.read, c.cut_line.ensures.lines) (
-    ends_here (λ n. litmus_line_read) c.args.text.now c.loop-rest.number so_far new c.cut_line.result.0.now
+    ends_here litmus_line_read c.args.text.now c.loop-rest.number so_far new c.cut_line.result.0.now
     (lines_of c.cut_line.result.1.now)
     c.in-Err.cause
     c.loop-rest.invariant.first (omega (arith, counted, c.loop-rest.invariant.counted)) c.in-Err.ensures.line)
@@ -28,7 +28,7 @@ loop-rest-preserved g c =
       first = omega arith;
       range = c.in_default.ensures.range;
       read = sym
-          (goes_on (λ n. litmus_line_read) c.loop-rest.number so_far new c.cut_line.result.0.now
+          (goes_on litmus_line_read c.loop-rest.number so_far new c.cut_line.result.0.now
           (lines_of c.cut_line.result.1.now)
           c.in_default.ensures.line)
           ∙ ap (litmus_lines_after c.loop-rest.number so_far) (sym c.cut_line.ensures.lines)
@@ -38,5 +38,5 @@ loop-rest-preserved g c =
 pub returns-clause-ok : goal.returns-clause-ok
 returns-clause-ok g c =
     sym c.loop-rest.invariant.read
-    ∙ ends (λ n. litmus_line_read) c.loop-rest.number (litmus_reading_of c.loop-rest.draft) c.loop-rest.rest.now
+    ∙ ends litmus_line_read c.loop-rest.number (litmus_reading_of c.loop-rest.draft) c.loop-rest.rest.now
     c.loop-rest-test.ensures

@@ -8,6 +8,6 @@ abbrev pub invariant-loop-run : goal.invariant-loop-run
 invariant-loop-run g l = record {
   few : l.count ≤ l.run-index;
   found : ending_numbered (l.number - l.count)
-      (chosen_of (length l.commands) (commands_in l.commands) (drop l.run-index l.runs))
-      ≡ ending_numbered l.number (chosen_of (length l.commands) (commands_in l.commands) l.runs);
+      (chosen_of (length l.commands) (commands_in l.commands) l.conditions (drop l.run-index l.runs))
+      ≡ ending_numbered l.number (chosen_of (length l.commands) (commands_in l.commands) l.conditions l.runs);
 }

@@ -7,6 +7,6 @@ use Rattle.tracer_cli.proofs.outcomes.chosen.count_chosen.Given as goal
 abbrev pub invariant-loop-run : goal.invariant-loop-run
 invariant-loop-run g l = record {
   few : l.count ≤ l.run-index;
-  all : l.count + length (chosen_of (length l.commands) (commands_in l.commands) (drop l.run-index l.runs))
-      ≡ length (chosen_of (length l.commands) (commands_in l.commands) l.runs);
+  all : l.count + length (chosen_of (length l.commands) (commands_in l.commands) l.conditions (drop l.run-index l.runs))
+      ≡ length (chosen_of (length l.commands) (commands_in l.commands) l.conditions l.runs);
 }

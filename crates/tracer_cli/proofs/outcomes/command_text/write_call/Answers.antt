@@ -21,8 +21,9 @@ returns-in-State g c =
 pub returns-in-Look : goal.returns-in-Look
 returns-in-Look g c =
     let tracee = tracee_word c.args.rows.now c.args.which in
-    words_written _ _ (codes "look") _ (tracee ∷ decimal c.in-Look.tracer ∷ []) _
-    (ap (board_call_words tracee c.args.waits) c.in-Look.is) c.write_by_tracer.ensures
+    words_written _ _ c.look_verb.result.now _ (tracee ∷ decimal c.in-Look.tracer ∷ []) _
+    (ap (board_call_words tracee c.args.waits) c.in-Look.is ∙ c.look_verb.ensures tracee c.in-Look.tracer)
+    c.write_by_tracer.ensures
 
 pub returns-in-Claim : goal.returns-in-Claim
 returns-in-Claim g c =

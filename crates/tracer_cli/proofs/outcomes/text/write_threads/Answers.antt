@@ -6,16 +6,15 @@ use Rattle.tracer_cli.proofs.outcomes.text.write_threads.Goals as goal
 
 pub loop-thread-preserved : goal.loop-thread-preserved
 loop-thread-preserved g c =
-    threads_more c.args.rows.now (commands_in c.args.commands.now) c.args.run.now c.args.names.now c.loop-thread.thread _
-    c.states.result.now c.thread_commands-own.result.now c.turns.result.now (string_bytes c.loop-thread.out)
-    (string_bytes c.write_thread_head.new.out) (string_bytes c.write_thread_lines.new.out) c.loop-thread-test.true
-    c.states.ensures c.thread_commands-own.ensures c.turns.ensures c.in_ok-write_thread_head.ensures
-    c.in_ok-write_thread_lines.ensures
+    threads_more c.args.rows.now c.args.voices.now (commands_in c.args.commands.now) c.args.run.now c.args.names.now
+    c.loop-thread.thread _ c.is_quiet.result c.thread_commands-own.result.now (string_bytes c.loop-thread.out)
+    (string_bytes c.write_thread_head.new.out) (string_bytes c.write_told.new.out) c.loop-thread-test.true
+    c.is_quiet.ensures c.thread_commands-own.ensures c.in_ok-write_thread_head.ensures c.in_ok-write_told.ensures
     ∙ c.loop-thread.invariant
 
 pub returns : goal.returns
 returns g c =
     sym (no_piece (string_bytes c.loop-thread.out) _
-    (threads_over c.args.rows.now (commands_in c.args.commands.now) c.args.run.now c.args.names.now c.loop-thread.thread
+    (threads_over c.args.rows.now c.args.voices.now (commands_in c.args.commands.now) c.args.run.now c.args.names.now c.loop-thread.thread
     c.loop-thread.thread c.loop-thread-test.false))
     ∙ c.loop-thread.invariant

@@ -1,0 +1,45 @@
+-- What was found is of the program with the first so many requirements.
+use Rattle.std.proofs.Common.{◌≡◌, ◌∙◌, ◌<◌, ℕ, List, ap, arith, length, subst, sym}
+use Rattle.std.specs.List.{All}
+use Rattle.stop_explorer.specs.BoardCall.{IsBoardCall}
+use Rattle.stop_explorer.specs.Program.{Program, own_commands}
+use Rattle.tracer_cli.specs.LitmusDraft.{content_in, names_kept}
+use Rattle.tracer_cli.specs.Required.{conditions_with, program_with}
+use Rattle.tracer_cli.proofs.ExploredFiles.{outcomes_with}
+use Rattle.tracer_cli.proofs.LitmusFiles.{length_kept}
+use Rattle.tracer_cli.proofs.Unmet.{calls_with, threads_with}
+use Rattle.tracer_cli.proofs.explored.search.Goals as goal
+
+pub explore-requires-clause-calls : goal.explore-requires-clause-calls
+explore-requires-clause-calls c =
+    let program_is = c.as_slice-lines.ensures.value ∙ c.in_ok-program.ensures
+    ∙ ap (program_with c.args.count) c.as_slice.ensures.value in
+    subst (λ (p : Program). All (λ line. IsBoardCall line.command.call) p) (sym program_is)
+    (calls_with c.args.count c.args.file.now.lines.items c.requires.calls)
+
+pub explore-requires-clause-threads : goal.explore-requires-clause-threads
+explore-requires-clause-threads c =
+    let program_is = c.as_slice-lines.ensures.value ∙ c.in_ok-program.ensures
+    ∙ ap (program_with c.args.count) c.as_slice.ensures.value in
+    let threads : length c.args.file.now.names.items ≡ length c.as_slice-voices.result.now =
+    sym (ap (λ vs. length vs) c.as_slice-voices.ensures.value ∙ c.requires.voices) in
+    subst (λ (p : Program). All (λ line. line.thread < length c.as_slice-voices.result.now) p) (sym program_is)
+    (subst (λ n. All (λ line. line.thread < n) (program_with c.args.count c.args.file.now.lines.items)) threads
+    (threads_with c.args.count (length c.args.file.now.names.items) c.args.file.now.lines.items c.requires.threads))
+
+pub commands_of-requires-clause-calls : goal.commands_of-requires-clause-calls
+commands_of-requires-clause-calls c =
+    let program_is = c.as_slice-lines.ensures.value ∙ c.in_ok-program.ensures
+    ∙ ap (program_with c.args.count) c.as_slice.ensures.value in
+    subst (λ (p : Program). All (λ line. IsBoardCall line.command.call) p) (sym program_is)
+    (calls_with c.args.count c.args.file.now.lines.items c.requires.calls)
+
+pub commands_of-requires-clause-threads : goal.commands_of-requires-clause-threads
+commands_of-requires-clause-threads c =
+    let program_is = c.as_slice-lines.ensures.value ∙ c.in_ok-program.ensures
+    ∙ ap (program_with c.args.count) c.as_slice.ensures.value in
+    let threads : length c.args.file.now.names.items ≡ c.len.result =
+    omega (arith, c.len.ensures, c.args.file.now.names.ok.0) in
+    subst (λ (p : Program). All (λ line. line.thread < c.len.result) p) (sym program_is)
+    (subst (λ n. All (λ line. line.thread < n) (program_with c.args.count c.args.file.now.lines.items)) threads
+    (threads_with c.args.count (length c.args.file.now.names.items) c.args.file.now.lines.items c.requires.threads))

@@ -1,0 +1,16 @@
+-- By the commands of each thread, which are the file's own.
+use Rattle.std.proofs.Common.{◌∙◌, ap, length}
+use Rattle.stop_explorer.specs.Search.{commands_in}
+use Rattle.tracer_cli.specs.Required.{program_with}
+use Rattle.tracer_cli.proofs.ExploredFiles.{have_tracers}
+use Rattle.tracer_cli.proofs.Unmet.{asked_with}
+use Rattle.tracer_cli.proofs.explored.show_order.Goals as goal
+
+pub outcome_replay-requires : goal.outcome_replay-requires
+outcome_replay-requires c =
+    let file = c.args.file.now in
+    let all = length file.requirements.items in
+    have_tracers (commands_in c.as_slice-commands.result.now) (program_with all file.lines.items)
+    (λ thread. ap (λ lists. commands_in lists thread) c.as_slice-commands.ensures.value
+    ∙ c.requires.whole.commands thread)
+    (asked_with all file.lines.items c.requires.file.calls)

@@ -1,0 +1,45 @@
+-- When a condition holds where an outcome ends: of the last states of its tracees, and of the threads that wait.
+use Rattle.std.specs.Prelude.{ℕ, Bool, true, false, not, List, is_some}
+use Rattle.std.specs.List.{list_all, list_any}
+use Rattle.stop_history.specs.declared.state.State.{State}
+use Rattle.stop_history.specs.declared.state.State.TheVariants as state
+use Rattle.stop_explorer.specs.declared.command.ThreadCommand.{ThreadCommand}
+use Rattle.stop_explorer.specs.Program.{Log, command_after, own_turns}
+use Rattle.stop_explorer.specs.Run.{EndedRun}
+use Rattle.tracer_cli.specs.declared.litmus.condition.Sense.{Sense}
+use Rattle.tracer_cli.specs.declared.litmus.condition.Sense.TheVariants.{Is, IsNot}
+use Rattle.tracer_cli.specs.declared.litmus.condition.StateName.{StateName}
+use Rattle.tracer_cli.specs.declared.litmus.condition.StateName.TheVariants as name
+use Rattle.tracer_cli.specs.declared.litmus.required.Condition.{Condition}
+use Rattle.tracer_cli.specs.declared.litmus.required.Condition.TheVariants as condition
+use Rattle.tracer_cli.specs.Waiting.{state_at}
+
+-- a state by its name, whatever its numbers
+abbrev pub has_name : StateName → State → Bool
+has_name name.Unborn state.Unborn = true
+has_name name.Running state.Running = true
+has_name name.Stopped (state.Stopped number status) = true
+has_name name.Claimed (state.Claimed number tracer) = true
+has_name name.Dead (state.Dead number status) = true
+has_name name.Reaped state.Reaped = true
+has_name named at = false
+
+abbrev pub agrees : Sense → (is : Bool) → Bool
+agrees Is is = is
+agrees IsNot is = not is
+
+-- a thread waits that has a command left
+abbrev pub waits_at_end : (commands : ℕ → List ThreadCommand) → Log → (thread : ℕ) → Bool
+waits_at_end commands turns thread = is_some (command_after (commands thread) (own_turns thread turns))
+
+-- of any tracee: some one is so, or some one is not
+abbrev pub condition_holds : (commands : ℕ → List ThreadCommand) → EndedRun → Condition → Bool
+condition_holds commands ending (condition.Tracee row sense named) =
+    agrees sense (has_name named (state_at ending.states row))
+condition_holds commands ending (condition.SomeTracee sense named) =
+    list_any (λ at. agrees sense (has_name named at)) ending.states
+condition_holds commands ending (condition.Thread thread sense) =
+    agrees sense (waits_at_end commands ending.turns thread)
+
+abbrev pub conditions_hold : (commands : ℕ → List ThreadCommand) → List Condition → EndedRun → Bool
+conditions_hold commands conditions ending = list_all (condition_holds commands ending) conditions

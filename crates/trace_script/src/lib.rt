@@ -10,6 +10,8 @@ mod machine;
 mod script;
 mod setting;
 mod step;
+#[cfg(test)]
+mod tests;
 
 pub use calls::{CLONE, CLONE_THREAD_FLAGS, EXECVE, EXIT, FORK};
 pub use case::Case;

@@ -10,8 +10,6 @@ mod machine;
 mod script;
 mod setting;
 mod step;
-#[cfg(test)]
-mod tests;
 
 pub use calls::{CLONE, CLONE_THREAD_FLAGS, EXECVE, EXIT, FORK};
 pub use case::Case;

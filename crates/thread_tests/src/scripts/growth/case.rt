@@ -1,8 +1,8 @@
 //! Each growth of a case refused in turn.
 
-use crate::tests::machine::FORK;
-use crate::{Case, CaseError, Cause};
+use crate::scripts::machine::FORK;
 use refusing_allocator::RefusingAllocator;
+use trace_script::{Case, CaseError, Cause};
 
 /// More than a case below has growths.
 const MOST: u64 = 40;

@@ -1,7 +1,7 @@
 //! Case files: what is read of them, worked out by hand. Why they are refused is in tests/cases/case_files.cases.
 
-use crate::{Case, Script, Step};
 use std::test::Fail;
+use trace_script::{Case, Script, Step};
 
 /// A root that writes, forks and exits, and its child.
 const WORKED: &str = "tracee 100 100 77 0\npage 0x10000\ndata 0x10000 68690a\n\

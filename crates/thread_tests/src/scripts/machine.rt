@@ -1,11 +1,11 @@
 //! The machine of a scripted tracee: what comes next, worked out by hand from the script.
 
-use crate::{Case, Machine, Next};
 use std::alloc::Allocator;
 use std::test::Fail;
 use trace_options::{CallSet, Filter, Options, check};
 use trace_pages::Memory;
 use trace_record::{Death, Kind, Resume, Stop, StopRecord};
+use trace_script::{Case, Machine, Next};
 
 /// A write, a fork and an exit; the child exits at once.
 pub(crate) const FORK: &[u8] = b"tracee 100 100 77 0\npage 0x10000\ndata 0x10000 68690a\n\

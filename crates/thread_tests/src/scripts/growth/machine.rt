@@ -1,10 +1,10 @@
 //! Each growth of a machine refused in turn.
 
-use crate::tests::machine::{CONT, FORK, machine_of, no_calls, stops_made};
-use crate::{Case, Machine};
+use crate::scripts::machine::{CONT, FORK, machine_of, no_calls, stops_made};
 use refusing_allocator::RefusingAllocator;
 use std::alloc::Allocator;
 use trace_record::{Stop, StopRecord};
+use trace_script::{Case, Machine};
 
 /// A block with an image, a fill, an exec and its image.
 const EXEC: &[u8] =

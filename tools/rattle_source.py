@@ -50,9 +50,11 @@ class Function:
 
 @dataclasses.dataclass(frozen=True)
 class Place:
-    """Where a function stands in a text: the characters of its body, and its first and last line, counted from 1."""
+    """Where a function stands in a text: the end of its name, the characters of its body, and its first and last line,
+    counted from 1."""
 
     function: Function
+    named: int
     begin: int
     end: int
     first: int
@@ -135,17 +137,30 @@ def places(text, file):
             continue
         owner = next((named for begin, end, named in blocks if begin < it.start() < end), ("", ""))
         function = Function(file, *owner, it[1])
-        found.append(Place(function, *body, first_line(text, it.start()), code.count("\n", 0, body[1]) + 1))
+        found.append(Place(function, it.end(), *body, first_line(text, it.start()), code.count("\n", 0, body[1]) + 1))
     return found
 
 
+def is_public(code, place):
+    """Whether other crates can name the function: it is `pub`, or of a trait."""
+    blocks = [it for it in BLOCK.finditer(code) if it.end() <= place.begin < closing(code, it.end() - 1)]
+    is_of_trait = any(it[1] == "trait" or re.search(r"\bfor\b", without_generics(it[2])) for it in blocks)
+    return is_of_trait or bool(re.search(r"\bpub\s+(?:const\s+|unsafe\s+)*fn\s+\w+$", code[: place.named]))
+
+
 def contracts(text):
-    """What a caller of this file's functions can rest on: the text without bodies."""
-    found = places(text, "")
+    """What other crates can rest on of this file's functions: the text without bodies, and without the functions that no
+    other crate can name."""
+    code, found = blanked(text), places(text, "")
     outer = [it for it in found if not any(other.begin < it.begin < other.end for other in found)]
     for it in reversed(outer):
-        text = text[: it.begin] + text[it.end :]
-    return text
+        begin = it.begin if is_public(code, it) else code.rfind("\n", 0, it.named) + 1
+        text = text[:begin] + text[it.end :]
+    return without_blank_lines(text)
+
+
+def without_blank_lines(text):
+    return re.sub(r"\n(?:[ \t]*\n)+", "\n", text).strip()
 
 
 def deciding(text, file):
@@ -155,7 +170,7 @@ def deciding(text, file):
         text = re.sub(f"{TEST_MODULE}\n?", "", text)
     elif file.endswith(".antt"):
         text = re.sub(r"(?m)^[ \t]*--.*$", "", text)
-    return re.sub(r"\n(?:[ \t]*\n)+", "\n", text).strip()
+    return without_blank_lines(text)
 
 
 def test_modules(texts):

@@ -8,7 +8,7 @@ other edit is tried alone, and counts as `rt must-fail` would count it. The last
 status is 1 where an edit failed.
 
 tools/wrong_bodies.tried has a line for each crate whose edits were all refused: a digest of the crate's sources,
-definitions, proofs and edits, and of the contracts and definitions below it. Comments and tests decide nothing, and are
+definitions, proofs and edits, and of what it can see of the crates below. Comments and tests decide nothing, and are
 left out; whether each edit still applies is seen to in every run.
 """
 

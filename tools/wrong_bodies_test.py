@@ -183,6 +183,8 @@ class WrongBodies(unittest.TestCase):
         source = self.crate / "src" / "lib.rt"
         self.assertEqual(self.changed_by(source, "let second = x;", "let second = { x };"), ["sample"])
         self.assertEqual(self.changed_by(source, "second(x: u8)", "second(x: u16)"), ["sample", "upper"])
+        hidden = "fn hidden(x: u8) {}\n\npub fn second(x: u8)"
+        self.assertEqual(self.changed_by(source, "pub fn second(x: u8)", hidden), ["sample"])
         self.assertEqual(self.changed_by(self.crate / "specs" / "Lib.antt", "", "mod Numbers\n"), ["sample", "upper"])
         self.assertEqual(self.changed_by(self.crate / "proofs" / "Lib.antt", "", "mod Numbers\n"), ["sample"])
 

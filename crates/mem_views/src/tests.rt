@@ -1,9 +1,11 @@
 //! What the views of a stop's memory show, at the ends of pages, of strings and of the address space.
 
+mod compare;
 mod greatest;
 mod growth;
 
 use crate::laws::{numbers_are_fixed, pieces_join_to_the_bytes};
+use crate::tests::compare::{holds, same};
 use crate::{Cut, End, IOV_MAX, Iovecs, Item, Views};
 use std::alloc::Global;
 use std::test::Fail;
@@ -123,9 +125,10 @@ fn a_string_ends_where_its_page_ends(rt: HostRuntime) {
         let views = Views::of(record);
         assert!(rt; shows(views.c_string(0x10ffd, 33), &[b"ab"], 2, End::Nul));
         assert!(rt; shows(views.c_string(0x10ffd, 3), &[b"ab"], 2, End::Nul));
-        assert!(rt;
+        holds(
+            &rt,
             shows(views.c_string(0x20ffe, 33), &[b"cd"], 2, End::Nul),
-            "zero on the next page"
+            "zero on the next page",
         );
     }
 }
@@ -195,15 +198,20 @@ fn an_array_is_read_up_to_an_absent_entry(rt: HostRuntime) {
         items[256] = Item::Broken(End::Fault(0x12000));
         for (count, wanted) in [(1, &items[..1]), (1024, items.as_slice()), (0, &items[..0])] {
             let iovecs = views.iovecs(0x10ff8, count);
-            assert!(rt;
-                iovecs.is_ok_and(|iovecs| has_items(iovecs, wanted)),
-                "{count}"
+            same(
+                &rt,
+                &(count, iovecs.is_ok_and(|iovecs| has_items(iovecs, wanted))),
+                &(count, true),
             );
         }
         for count in [IOV_MAX + 1, u64::MAX] {
-            assert!(rt;
-                views.iovecs(0x10ff8, count).err() == Some(Errno::EINVAL),
-                "{count}"
+            same(
+                &rt,
+                &(
+                    count,
+                    views.iovecs(0x10ff8, count).err() == Some(Errno::EINVAL),
+                ),
+                &(count, true),
             );
         }
         let none = views.iovecs(0x50000, 0);

@@ -35,6 +35,7 @@ fn the_laws_are_there() {
     order_of_arrival_changes_no_answer();
 }
 
+pub(crate) mod compare;
 mod folder;
 mod piece_growth;
 mod refusals;

@@ -2,6 +2,7 @@
 
 mod board;
 mod board_words;
+mod compare;
 mod definitions;
 mod expected_words;
 mod families;

@@ -1,6 +1,7 @@
 //! The program with streams that fail, and with files that are named. Its words, statuses and texts are in
 //! tests/cases/program.cases.
 
+use crate::compare::same;
 use std::alloc::AllocError;
 use std::fs;
 use std::io::{self, ErrorKind, Read, Write};
@@ -128,9 +129,17 @@ fn standard_input_is_read_to_its_end_or_its_first_failure(rt: HostRuntime) -> Re
         for most in [1, 3, 4096] {
             let mut input = Source { rest, most, fault };
             let ended = run_with(&rt, &["replay"], &mut input)?;
-            assert_eq!(rt; ended.status, status, "{fault:?}, {most}");
-            assert_eq!(rt; ended.output.as_slice(), output, "{fault:?}, {most}");
-            assert_eq!(rt; ended.errors.as_slice(), errors, "{fault:?}, {most}");
+            same(&rt, &(fault, most, ended.status), &(fault, most, status));
+            same(
+                &rt,
+                &(fault, most, ended.output.as_slice()),
+                &(fault, most, output),
+            );
+            same(
+                &rt,
+                &(fault, most, ended.errors.as_slice()),
+                &(fault, most, errors),
+            );
         }
     }
     Ok(())
@@ -144,14 +153,22 @@ fn a_file_that_is_named_is_read_in_place_of_standard_input(rt: HostRuntime) -> R
         let there = run_with(&rt, &["replay", name], &mut input);
         fs::remove_file(&rt, name)?;
         let there = there?;
-        assert_eq!(rt; there.status, 0, "{name}");
-        assert_eq!(rt; there.output.as_slice(), b"exited\n".as_slice(), "{name}");
-        assert_eq!(rt; there.errors.as_slice(), [].as_slice(), "{name}");
+        same(&rt, &(name, there.status), &(name, 0));
+        same(
+            &rt,
+            &(name, there.output.as_slice()),
+            &(name, b"exited\n".as_slice()),
+        );
+        same(
+            &rt,
+            &(name, there.errors.as_slice()),
+            &(name, [].as_slice()),
+        );
         let gone = run_with(&rt, &["replay", name], &mut input)?;
-        assert_eq!(rt; gone.status, 3, "{name}");
-        assert_eq!(rt; gone.output.as_slice(), [].as_slice(), "{name}");
-        assert_eq!(rt; gone.errors.as_slice(), CANNOT_READ, "{name}");
-        assert_eq!(rt; input, FILE, "{name}");
+        same(&rt, &(name, gone.status), &(name, 3));
+        same(&rt, &(name, gone.output.as_slice()), &(name, [].as_slice()));
+        same(&rt, &(name, gone.errors.as_slice()), &(name, CANNOT_READ));
+        same(&rt, &(name, input), &(name, FILE));
     }
     Ok(())
 }
@@ -159,7 +176,7 @@ fn a_file_that_is_named_is_read_in_place_of_standard_input(rt: HostRuntime) -> R
 #[test]
 fn a_command_that_is_not_there_is_named(rt: HostRuntime) -> Result<(), Fail> {
     let ended = run_with(&rt, &["trace"], &mut FILE)?;
-    assert_eq!(rt; ended.errors.as_slice(), NO_COMMAND);
+    same(&rt, &ended.errors.as_slice(), &NO_COMMAND);
     Ok(())
 }
 
@@ -173,18 +190,22 @@ fn what_cannot_be_written_is_reported(rt: HostRuntime) -> Result<(), Fail> {
         (&["help"], 0, 3),
         (&["replay", "--help"], 20, 3),
     ] {
-        let words = command_line(&rt, words)?;
+        let line = command_line(&rt, words)?;
         let mut output = narrow(&rt, room);
         let mut errors = Vec::new(rt.alloc());
-        let ended = program(&rt, words.as_slice(), &mut FILE, &mut output, &mut errors);
-        assert_eq!(rt; ended, status, "{words:?}, {room}");
-        assert_eq!(rt; output.taken.len(), room, "{words:?}");
+        let ended = program(&rt, line.as_slice(), &mut FILE, &mut output, &mut errors);
+        same(&rt, &(words, room, ended), &(words, room, status));
+        same(&rt, &(words, output.taken.len()), &(words, room));
         let expected = if status == 0 {
             b"".as_slice()
         } else {
             CANNOT_WRITE
         };
-        assert_eq!(rt; errors.as_slice(), expected, "{words:?}, {room}");
+        same(
+            &rt,
+            &(words, room, errors.as_slice()),
+            &(words, room, expected),
+        );
     }
     Ok(())
 }
@@ -220,8 +241,12 @@ fn a_failed_write_to_standard_error_cuts_the_message_off(rt: HostRuntime) -> Res
     ] {
         for room in 0..=message.len() {
             let (ended, errors) = told(&rt, words, file, room)?;
-            assert_eq!(rt; ended, status, "{words:?}, {room}");
-            assert_eq!(rt; Some(errors.as_slice()), message.get(..room), "{words:?}");
+            same(&rt, &(words, room, ended), &(words, room, status));
+            same(
+                &rt,
+                &(words, Some(errors.as_slice())),
+                &(words, message.get(..room)),
+            );
         }
     }
     Ok(())
@@ -246,8 +271,8 @@ fn arguments_that_cannot_be_had_are_reported(rt: HostRuntime) {
             &mut output,
             &mut errors,
         );
-        assert_eq!(rt; ended, status);
+        same(&rt, &ended, &status);
         assert!(rt; output.is_empty());
-        assert_eq!(rt; errors.as_slice(), text.as_bytes(), "{kind:?}");
+        same(&rt, &(kind, errors.as_slice()), &(kind, text.as_bytes()));
     }
 }

@@ -2,6 +2,7 @@
 
 mod growth;
 
+use crate::compare::same;
 use std::test::Fail;
 use tracer_cli::replay_text;
 
@@ -14,6 +15,6 @@ pub(crate) const REPLIES: &[u8] =
 #[test]
 fn a_replay_prints_the_boards_answers(rt: HostRuntime) -> Result<(), Fail> {
     let text = replay_text(rt.alloc(), FILE)?;
-    assert_eq!(rt; text.as_slice(), REPLIES);
+    same(&rt, &text.as_slice(), &REPLIES);
     Ok(())
 }

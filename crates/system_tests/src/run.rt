@@ -1,5 +1,6 @@
 //! `tracer run`: files that are named, and streams that fail. Its options and texts are in tests/cases/runs.cases.
 
+use crate::compare::same;
 use crate::program::{CANNOT_WRITE, command_line, narrow, run_with};
 use std::fs;
 use std::test::Fail;
@@ -39,12 +40,13 @@ const SIGNAL: &str = "tracee 200 200 200 0\nsignal 15\nexit 0\nend\n";
 fn a_name_that_is_no_calls_is_told_before_the_file_is_read(rt: HostRuntime) -> Result<(), Fail> {
     let mut input = FORK.as_bytes();
     let ended = run_with(&rt, &["run", "-e", "write,foo"], &mut input)?;
-    assert_eq!(rt; ended.status, 2);
-    assert_eq!(rt;
-        ended.errors.as_slice(),
-        b"tracer: unknown call foo\n".as_slice()
+    same(&rt, &ended.status, &2);
+    same(
+        &rt,
+        &ended.errors.as_slice(),
+        &b"tracer: unknown call foo\n".as_slice(),
     );
-    assert_eq!(rt; input, FORK.as_bytes());
+    same(&rt, &input, &FORK.as_bytes());
     Ok(())
 }
 
@@ -54,8 +56,8 @@ fn a_case_file_that_is_named_is_read(rt: HostRuntime) -> Result<(), Fail> {
     let there = run_with(&rt, &["run", "-f", "a case"], &mut SIGNAL.as_bytes());
     fs::remove_file(&rt, "a case")?;
     let there = there?;
-    assert_eq!(rt; there.status, 0);
-    assert_eq!(rt; there.output.as_slice(), FORK_TEXT.as_bytes());
+    same(&rt, &there.status, &0);
+    same(&rt, &there.output.as_slice(), &FORK_TEXT.as_bytes());
     Ok(())
 }
 
@@ -72,14 +74,14 @@ fn a_text_that_cannot_be_written_is_reported(rt: HostRuntime) -> Result<(), Fail
         let mut errors = Vec::new(rt.alloc());
         let mut input = case.as_bytes();
         let ended = program(&rt, words.as_slice(), &mut input, &mut output, &mut errors);
-        assert_eq!(rt; ended, status, "{room}");
-        assert_eq!(rt; output.taken.len(), room);
+        same(&rt, &(room, ended), &(room, status));
+        same(&rt, &output.taken.len(), &room);
         let expected = if status == 0 {
             b"".as_slice()
         } else {
             CANNOT_WRITE
         };
-        assert_eq!(rt; errors.as_slice(), expected, "{room}");
+        same(&rt, &(room, errors.as_slice()), &(room, expected));
     }
     Ok(())
 }

@@ -1,4 +1,12 @@
 use super::*;
+use std::fmt::Debug;
+use std::process::Abort;
+
+/// Ends a test where two values differ, and says both. An `assert_eq!` is written out, and proved, wherever it stands,
+/// which takes most of the time of a test's proof.
+fn same<R: Abort, T: PartialEq + Debug>(rt: &R, found: &T, wanted: &T) {
+    assert_eq!(rt; found, wanted);
+}
 
 #[derive(Clone, Copy, Debug, PartialEq, Eq)]
 enum Beast {
@@ -14,13 +22,22 @@ const BEASTS: [(&str, Beast); 3] = [
 
 #[test]
 fn a_line_ends_with_a_line_feed_which_the_last_may_lack(rt: HostRuntime) {
-    assert_eq!(rt;
-        cut_line(b"one\n\ntwo"),
-        (b"one".as_slice(), b"\ntwo".as_slice())
+    same(
+        &rt,
+        &cut_line(b"one\n\ntwo"),
+        &(b"one".as_slice(), b"\ntwo".as_slice()),
     );
-    assert_eq!(rt; cut_line(b"\ntwo"), (b"".as_slice(), b"two".as_slice()));
-    assert_eq!(rt; cut_line(b"two"), (b"two".as_slice(), b"".as_slice()));
-    assert_eq!(rt; cut_line(b"two\n"), (b"two".as_slice(), b"".as_slice()));
+    same(
+        &rt,
+        &cut_line(b"\ntwo"),
+        &(b"".as_slice(), b"two".as_slice()),
+    );
+    same(&rt, &cut_line(b"two"), &(b"two".as_slice(), b"".as_slice()));
+    same(
+        &rt,
+        &cut_line(b"two\n"),
+        &(b"two".as_slice(), b"".as_slice()),
+    );
 }
 
 #[test]
@@ -34,7 +51,7 @@ fn a_line_feed_at_the_end_begins_no_line(rt: HostRuntime) {
         ("\n\n\nfour", 4),
     ];
     for (text, line) in &cases {
-        assert_eq!(rt; last_line(text.as_bytes()), *line);
+        same(&rt, &last_line(text.as_bytes()), &*line);
     }
 }
 
@@ -42,13 +59,13 @@ fn a_line_feed_at_the_end_begins_no_line(rt: HostRuntime) {
 fn words_are_separated_by_spaces_alone(rt: HostRuntime) {
     let mut words: [&[u8]; 3] = [&[]; 3];
     let count = first_words(b"  a\tb  c ", &mut words);
-    assert_eq!(rt; count, 2);
-    assert_eq!(rt; words[0], b"a\tb".as_slice());
-    assert_eq!(rt; words[1], b"c".as_slice());
+    same(&rt, &count, &2);
+    same(&rt, &words[0], &b"a\tb".as_slice());
+    same(&rt, &words[1], &b"c".as_slice());
     let mut words: [&[u8]; 2] = [&[]; 2];
     let count = first_words(b"a b c", &mut words);
-    assert_eq!(rt; count, 2);
-    assert_eq!(rt; words[1], b"b".as_slice());
+    same(&rt, &count, &2);
+    same(&rt, &words[1], &b"b".as_slice());
 }
 
 #[test]
@@ -57,17 +74,17 @@ fn the_first_line_is_cut_into_words(rt: HostRuntime) {
         b"call read 3 0x7ffd3a100010 4096 = 2 fill 0x7ffd3a100010 0011223344556677 # and more\nnext one";
     let mut words: [&[u8]; 3] = [&[]; 3];
     let (count, after) = cut_words(long, &mut words);
-    assert_eq!(rt; count, 3);
-    assert_eq!(rt; words[2], b"3".as_slice());
-    assert_eq!(rt; after, b"next one".as_slice());
+    same(&rt, &count, &3);
+    same(&rt, &words[2], &b"3".as_slice());
+    same(&rt, &after, &b"next one".as_slice());
     let mut words: [&[u8]; 14] = [&[]; 14];
     let (count, after) = cut_words(long, &mut words);
-    assert_eq!(rt; count, 13);
-    assert_eq!(rt; words[8], b"0x7ffd3a100010".as_slice());
-    assert_eq!(rt; words[12], b"more".as_slice());
-    assert_eq!(rt; after, b"next one".as_slice());
+    same(&rt, &count, &13);
+    same(&rt, &words[8], &b"0x7ffd3a100010".as_slice());
+    same(&rt, &words[12], &b"more".as_slice());
+    same(&rt, &after, &b"next one".as_slice());
     let (count, after) = cut_words(b"  \n", &mut words);
-    assert_eq!(rt; count, 0);
+    same(&rt, &count, &0);
     assert!(rt; after.is_empty());
 }
 
@@ -91,7 +108,7 @@ fn a_number_has_no_sign_and_fits_64_bits(rt: HostRuntime) {
         ("1\r", None),
     ];
     for (word, value) in &cases {
-        assert_eq!(rt; number(word.as_bytes()), *value);
+        same(&rt, &number(word.as_bytes()), &*value);
     }
 }
 
@@ -115,23 +132,35 @@ fn an_integer_is_decimal_with_a_minus_sign_or_none(rt: HostRuntime) {
         ("-0x10", None),
     ];
     for (word, value) in &cases {
-        assert_eq!(rt; integer(word.as_bytes()), *value);
+        same(&rt, &integer(word.as_bytes()), &*value);
     }
 }
 
 #[test]
 fn a_range_has_both_its_ends(rt: HostRuntime) {
-    assert_eq!(rt; number_between(1, 64, b"1"), Ok(1));
-    assert_eq!(rt; number_between(1, 64, b"0x40"), Ok(64));
-    assert_eq!(rt; number_between(1, 64, b"0"), Err(LineFault::BadNumber));
-    assert_eq!(rt; number_between(1, 64, b"65"), Err(LineFault::BadNumber));
-    assert_eq!(rt; number_between(1, 64, b"x"), Err(LineFault::BadNumber));
+    same(&rt, &number_between(1, 64, b"1"), &Ok(1));
+    same(&rt, &number_between(1, 64, b"0x40"), &Ok(64));
+    same(
+        &rt,
+        &number_between(1, 64, b"0"),
+        &Err(LineFault::BadNumber),
+    );
+    same(
+        &rt,
+        &number_between(1, 64, b"65"),
+        &Err(LineFault::BadNumber),
+    );
+    same(
+        &rt,
+        &number_between(1, 64, b"x"),
+        &Err(LineFault::BadNumber),
+    );
 }
 
 #[test]
 fn the_first_name_that_is_the_word_has_the_value(rt: HostRuntime) {
-    assert_eq!(rt; keyword(&BEASTS, b"cat"), Ok(Beast::Cat));
-    assert_eq!(rt; keyword(&BEASTS, b"dog"), Ok(Beast::Dog));
-    assert_eq!(rt; keyword(&BEASTS, b"do"), Err(LineFault::UnknownWord));
-    assert_eq!(rt; keyword(&BEASTS, b"Cat"), Err(LineFault::UnknownWord));
+    same(&rt, &keyword(&BEASTS, b"cat"), &Ok(Beast::Cat));
+    same(&rt, &keyword(&BEASTS, b"dog"), &Ok(Beast::Dog));
+    same(&rt, &keyword(&BEASTS, b"do"), &Err(LineFault::UnknownWord));
+    same(&rt, &keyword(&BEASTS, b"Cat"), &Err(LineFault::UnknownWord));
 }

@@ -7,6 +7,8 @@
 #[cfg(test)]
 mod cells;
 #[cfg(test)]
+mod compare;
+#[cfg(test)]
 mod rows;
 #[cfg(test)]
 mod scripts;

@@ -3,6 +3,19 @@ use super::ArgumentKind::{
 };
 use super::laws::{errors_rise, signals_have_names, syscalls_are_one_to_one};
 use super::*;
+use std::fmt::Debug;
+use std::process::Abort;
+
+/// Ends a test where two values differ, and says both. An `assert_eq!` is written out, and proved, wherever it stands,
+/// which takes most of the time of a test's proof.
+fn same<R: Abort, T: PartialEq + Debug>(rt: &R, found: &T, wanted: &T) {
+    assert_eq!(rt; found, wanted);
+}
+
+/// Ends a test where something does not hold, and says what should.
+fn holds<R: Abort>(rt: &R, is_so: bool, what: &str) {
+    assert!(rt; is_so, "{what}");
+}
 
 /// The events and their numbers, from ptrace(2) and `<sys/ptrace.h>`.
 const EVENTS: [(u8, Event); 8] = [
@@ -28,19 +41,25 @@ fn options_are_their_bits(rt: HostRuntime) {
         (0x40, Options::TRACEEXIT),
         (0x80, Options::TRACESECCOMP),
     ] {
-        assert_eq!(rt; Options::from_bits(bits), Some(option), "{bits:#x}");
-        assert_eq!(rt; option.bits(), bits);
+        same(
+            &rt,
+            &(bits, Options::from_bits(bits)),
+            &(bits, Some(option)),
+        );
+        same(&rt, &option.bits(), &bits);
     }
-    assert_eq!(rt;
-        Options::from_bits(0).map(|options| options.bits()),
-        Some(0)
+    same(
+        &rt,
+        &Options::from_bits(0).map(|options| options.bits()),
+        &Some(0),
     );
-    assert_eq!(rt;
-        Options::from_bits(0xff).map(|options| options.bits()),
-        Some(0xff)
+    same(
+        &rt,
+        &Options::from_bits(0xff).map(|options| options.bits()),
+        &Some(0xff),
     );
-    assert_eq!(rt; Options::from_bits(0x100), None);
-    assert_eq!(rt; Options::from_bits(0x8000_0001), None);
+    same(&rt, &Options::from_bits(0x100), &None);
+    same(&rt, &Options::from_bits(0x8000_0001), &None);
 }
 
 #[test]
@@ -50,11 +69,11 @@ fn options_are_added(rt: HostRuntime) {
     options.insert(Options::TRACEFORK);
     options.insert(Options::TRACECLONE);
     options.insert(Options::TRACEFORK);
-    assert_eq!(rt; options.bits(), 0xb);
+    same(&rt, &options.bits(), &0xb);
     assert!(rt; options.contains(Options::TRACEFORK));
     let mut more = Options::TRACEFORK;
     more.insert(Options::TRACEEXEC);
-    assert!(rt; !options.contains(more), "one of the two is not there");
+    holds(&rt, !options.contains(more), "one of the two is not there");
 }
 
 #[test]
@@ -68,14 +87,18 @@ fn wait_flags_are_their_bits(rt: HostRuntime) {
         (0x0100_0000, WaitFlags::WNOWAIT),
         (0x4000_0000, WaitFlags::WALL),
     ] {
-        assert_eq!(rt; WaitFlags::from_bits(bits), Some(flag), "{bits:#x}");
-        assert_eq!(rt; flag.bits(), bits);
+        same(
+            &rt,
+            &(bits, WaitFlags::from_bits(bits)),
+            &(bits, Some(flag)),
+        );
+        same(&rt, &flag.bits(), &bits);
     }
-    assert_eq!(rt; WaitFlags::from_bits(0x10), None);
-    assert_eq!(rt; WaitFlags::from_bits(0x8000_0000), None);
+    same(&rt, &WaitFlags::from_bits(0x10), &None);
+    same(&rt, &WaitFlags::from_bits(0x8000_0000), &None);
     let mut flags = WaitFlags::WEXITED;
     flags.insert(WaitFlags::WNOHANG);
-    assert_eq!(rt; flags.bits(), 5);
+    same(&rt, &flags.bits(), &5);
     assert!(rt; flags.contains(WaitFlags::WNOHANG));
     assert!(rt; !flags.contains(WaitFlags::WSTOPPED));
 }
@@ -83,11 +106,11 @@ fn wait_flags_are_their_bits(rt: HostRuntime) {
 #[test]
 fn an_event_is_its_number(rt: HostRuntime) {
     for (code, event) in EVENTS {
-        assert_eq!(rt; event.code(), code, "{event:?}");
-        assert_eq!(rt; Event::from_code(code), Some(event));
+        same(&rt, &(event, event.code()), &(event, code));
+        same(&rt, &Event::from_code(code), &Some(event));
     }
     for code in [0, 8, 127, 129, 255] {
-        assert_eq!(rt; Event::from_code(code), None, "{code}");
+        same(&rt, &(code, Event::from_code(code)), &(code, None));
     }
 }
 
@@ -107,10 +130,10 @@ fn a_tracer_takes_some_options(rt: HostRuntime) {
         (0x21, Err(Errno::EINVAL)),
         (0x65, Err(Errno::EINVAL)),
     ] {
-        assert_eq!(rt;
-            Options::from_bits(bits).map(check),
-            Some(answer),
-            "{bits:#x}"
+        same(
+            &rt,
+            &(bits, Options::from_bits(bits).map(check)),
+            &(bits, Some(answer)),
         );
     }
 }
@@ -118,8 +141,8 @@ fn a_tracer_takes_some_options(rt: HostRuntime) {
 #[test]
 fn the_set_of_all_calls_has_the_highest_too(rt: HostRuntime) {
     for nr in [0, 127, 128, u64::MAX] {
-        assert!(rt; CallSet::all().contains(nr), "{nr}");
-        assert!(rt; !CallSet::none().contains(nr), "{nr}");
+        same(&rt, &(nr, CallSet::all().contains(nr)), &(nr, true));
+        same(&rt, &(nr, !CallSet::none().contains(nr)), &(nr, true));
     }
 }
 
@@ -137,7 +160,7 @@ fn calls_are_added_one_by_one(rt: HostRuntime) {
         (128, false),
         (187, false),
     ] {
-        assert_eq!(rt; some.contains(nr), is_in, "{nr}");
+        same(&rt, &(nr, some.contains(nr)), &(nr, is_in));
     }
     let mut every = CallSet::none();
     for nr in 0..128 {
@@ -181,8 +204,12 @@ fn a_system_call_is_found_by_number_and_by_name(rt: HostRuntime) {
             name,
             arguments,
         });
-        assert_eq!(rt; Syscall::from_number(number), call, "{number}");
-        assert_eq!(rt; Syscall::from_name(name), call, "{number}");
+        same(
+            &rt,
+            &(number, Syscall::from_number(number)),
+            &(number, call),
+        );
+        same(&rt, &(number, Syscall::from_name(name)), &(number, call));
     }
 }
 
@@ -190,11 +217,15 @@ fn a_system_call_is_found_by_number_and_by_name(rt: HostRuntime) {
 fn what_is_no_known_call_is_not_found(rt: HostRuntime) {
     for number in (0..512).chain([u64::MAX]) {
         let known = CALLS.iter().any(|call| call.0 == number);
-        assert_eq!(rt; Syscall::from_number(number).is_some(), known, "{number}");
+        same(
+            &rt,
+            &(number, Syscall::from_number(number).is_some()),
+            &(number, known),
+        );
     }
     let names: [&[u8]; 6] = [b"", b"rea", b"reads", b"READ", b"open", b"syscall_2"];
     for name in names {
-        assert_eq!(rt; Syscall::from_name(name), None, "{name:?}");
+        same(&rt, &(name, Syscall::from_name(name)), &(name, None));
     }
 }
 
@@ -229,11 +260,15 @@ const NAMED_ERRORS: [(u16, &[u8]); 24] = [
 #[test]
 fn an_error_has_the_name_of_its_number(rt: HostRuntime) {
     for (number, name) in NAMED_ERRORS {
-        assert_eq!(rt; error_name(number), Some(name), "{number}");
+        same(&rt, &(number, error_name(number)), &(number, Some(name)));
     }
     for number in 0..4096 {
         let known = NAMED_ERRORS.iter().any(|error| error.0 == number);
-        assert_eq!(rt; error_name(number).is_some(), known, "{number}");
+        same(
+            &rt,
+            &(number, error_name(number).is_some()),
+            &(number, known),
+        );
     }
 }
 
@@ -275,10 +310,10 @@ const NAMED_SIGNALS: [(u8, &[u8]); 31] = [
 #[test]
 fn a_standard_signal_has_a_name(rt: HostRuntime) {
     for (number, name) in NAMED_SIGNALS {
-        assert_eq!(rt; signal_name(number), Some(name), "{number}");
+        same(&rt, &(number, signal_name(number)), &(number, Some(name)));
     }
     for number in [0, 32, LAST_SIGNAL, 65, 255] {
-        assert_eq!(rt; signal_name(number), None, "{number}");
+        same(&rt, &(number, signal_name(number)), &(number, None));
     }
 }
 

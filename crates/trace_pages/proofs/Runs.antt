@@ -321,11 +321,29 @@ module _ (old mid new : FlatMemory) (at done count : ℕ) (bytes : List ℕ) (wi
     ]
   ]
 
--- what was stored so far leaves the address after it
-pub byte_at-stored_before : (old mid : FlatMemory) (at done : ℕ) (bytes : List ℕ) → done ≤ length bytes
+-- what was stored so far leaves the addresses after it
+pub byte_at-stored_before : (old mid : FlatMemory) (at done k : ℕ) (bytes : List ℕ) → done ≤ length bytes → done ≤ k
     → ((a : ℕ) → byte_at mid a ≡ byte_after_store old at (take done bytes) a)
-    → byte_at mid (at + done) ≡ byte_at old (at + done)
-byte_at-stored_before old mid at done bytes within front =
-    let past : is_in_span at (length (take done bytes)) (at + done) ≡ false =
-    among_above at _ (at + done) (omega (arith, length-take-le done bytes within)) in
-    rw past at (front (at + done))
+    → byte_at mid (at + k) ≡ byte_at old (at + k)
+byte_at-stored_before old mid at done k bytes within behind front =
+    let past : is_in_span at (length (take done bytes)) (at + k) ≡ false =
+    among_above at _ (at + k) (omega (arith, length-take-le done bytes within)) in
+    rw past at (front (at + k))
+
+-- and so what is left of a run is mapped, as far as one likes
+pub run_end-stored_before : (old mid : FlatMemory) (at done count : ℕ) (bytes : List ℕ)
+    → run_end old at (length bytes) ≡ Full → done + count ≤ length bytes → 0 < count
+    → ((a : ℕ) → byte_at mid a ≡ byte_after_store old at (take done bytes) a)
+    → run_end mid (at + done) count ≡ Full
+run_end-stored_before old mid at done count bytes whole within some front =
+    let all : count ≡ count + 0 = omega arith in
+    let last = run_end-Full old at (length bytes) whole (done + count - 1) (omega arith) in
+    ap (run_end mid (at + done)) all
+    ∙ run_end-passed mid (at + done) count 0 (omega (arith, last.0)) there
+    ∙ run_end-none mid (at + done + count)
+  where
+    there : (j : ℕ) → j < count → (byte : ℕ) × (byte_at mid (at + done + j) ≡ Some byte)
+    there j h =
+        let on : at + done + j ≡ at + (done + j) = omega arith in
+        let kept = byte_at-stored_before old mid at done (done + j) bytes (omega arith) (omega arith) front in
+        some_is _ (rw (on, kept) (run_end-Full old at (length bytes) whole (done + j) (omega arith)).1)

@@ -106,8 +106,28 @@ impl<A: Allocator> Memory<A> {
         ensures ok { OnOk result (StoresBytes self.old self.new addr bytes.now) }
         ensures err { OnErr result (self.new ≡ self.old) }
     {
+        if bytes.len() <= rest_of_page(addr) {
+            return self.store_in_page(addr, bytes);
+        }
         self.check_run(addr, bytes.len())?;
         self.write_run(addr, bytes);
+        Ok(())
+    }
+
+    /// Writes bytes that end within the page of their address, or nothing where it is not mapped: with one search.
+    fn store_in_page(&mut self, addr: u64, bytes: &[u8]) -> Result<(), Fault>
+        requires { length bytes.now + addr % PAGE_SIZE ≤ PAGE_SIZE }
+        ensures answer { result ≡ store_answer (run_end self.old addr (length bytes.now)) }
+        ensures ok { OnOk result (StoresBytes self.old self.new addr bytes.now) }
+        ensures err { OnErr result (self.new ≡ self.old) }
+    {
+        let Ok(place) = place_of(self.addresses.as_slice(), addr) else {
+            if bytes.is_empty() {
+                return Ok(());
+            }
+            return Err(Fault { addr });
+        };
+        self.pages[place].write((addr % PAGE_SIZE) as usize, bytes);
         Ok(())
     }
 
@@ -177,21 +197,11 @@ impl<A: Allocator> Memory<A> {
         while done < bytes.len() {
             let at = addr + done as u64;
             let step = rest_of_page(at).min(bytes.len() - done);
-            self.write_in_page(at, &bytes[done..done + step]);
+            let Ok(()) = self.store_in_page(at, &bytes[done..done + step]) else {
+                unreachable!()
+            };
             done += step;
         }
-    }
-
-    /// Writes bytes that end within the page of an address that is mapped.
-    fn write_in_page(&mut self, addr: u64, bytes: &[u8])
-        requires mapped { IsSome (byte_at self.old addr) }
-        requires within { length bytes.now + addr % PAGE_SIZE ≤ PAGE_SIZE }
-        ensures { StoresBytes self.old self.new addr bytes.now }
-    {
-        let Ok(place) = place_of(self.addresses.as_slice(), addr) else {
-            unreachable!()
-        };
-        self.pages[place].write((addr % PAGE_SIZE) as usize, bytes);
     }
 }
 

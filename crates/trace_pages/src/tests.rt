@@ -3,7 +3,15 @@ use super::laws::{
     stores_keep_addresses,
 };
 use super::*;
+use std::fmt::Debug;
+use std::process::Abort;
 use std::test::Fail;
+
+/// Ends a test where two values differ, and says both. An `assert_eq!` is written out, and proved, wherever it stands,
+/// which takes most of the time of a test's proof.
+fn same<R: Abort, T: PartialEq + Debug>(rt: &R, found: &T, wanted: &T) {
+    assert_eq!(rt; found, wanted);
+}
 
 /// The last page of the address space.
 const TOP: u64 = 0xffff_ffff_ffff_f000;
@@ -11,16 +19,16 @@ const TOP: u64 = 0xffff_ffff_ffff_f000;
 #[test]
 fn a_page_is_mapped_once(rt: HostRuntime) {
     let mut memory = Memory::new(rt.alloc());
-    assert_eq!(rt; memory.byte(0x10000), None);
-    assert_eq!(rt; memory.map(0x10000), Ok(()));
-    assert_eq!(rt; memory.map(0x10000), Err(MapError::Mapped));
+    same(&rt, &memory.byte(0x10000), &None);
+    same(&rt, &memory.map(0x10000), &Ok(()));
+    same(&rt, &memory.map(0x10000), &Err(MapError::Mapped));
     for (addr, byte) in [
         (0xffff, None),
         (0x10000, Some(0)),
         (0x10fff, Some(0)),
         (0x11000, None),
     ] {
-        assert_eq!(rt; memory.byte(addr), byte, "{addr:#x}");
+        same(&rt, &(addr, memory.byte(addr)), &(addr, byte));
     }
 }
 
@@ -28,31 +36,33 @@ fn a_page_is_mapped_once(rt: HostRuntime) {
 fn there_are_at_most_256_pages(rt: HostRuntime) {
     let mut memory = Memory::new(rt.alloc());
     for at in 0..256u64 {
-        assert_eq!(rt; memory.map(at * 4096), Ok(()), "{at}");
+        same(&rt, &(at, memory.map(at * 4096)), &(at, Ok(())));
     }
-    assert_eq!(rt; memory.map(0x100000), Err(MapError::TooMany));
-    assert_eq!(rt; memory.map(0xff000), Err(MapError::Mapped));
-    assert_eq!(rt; memory.byte(0xfffff), Some(0));
-    assert_eq!(rt; memory.byte(0x100000), None);
+    same(&rt, &memory.map(0x100000), &Err(MapError::TooMany));
+    same(&rt, &memory.map(0xff000), &Err(MapError::Mapped));
+    same(&rt, &memory.byte(0xfffff), &Some(0));
+    same(&rt, &memory.byte(0x100000), &None);
 }
 
 #[test]
 fn a_store_that_meets_an_absent_page_changes_nothing(rt: HostRuntime) {
     let mut memory = Memory::new(rt.alloc());
     assert!(rt; memory.map(0x10000).is_ok());
-    assert_eq!(rt;
-        memory.store(0x10ffe, &[1, 2, 3, 4]),
-        Err(Fault { addr: 0x11000 })
+    same(
+        &rt,
+        &memory.store(0x10ffe, &[1, 2, 3, 4]),
+        &Err(Fault { addr: 0x11000 }),
     );
-    assert_eq!(rt; memory.byte(0x10ffe), Some(0));
-    assert_eq!(rt; memory.byte(0x10fff), Some(0));
-    assert_eq!(rt;
-        memory.store(0xfffe, &[1, 2, 3, 4]),
-        Err(Fault { addr: 0xfffe })
+    same(&rt, &memory.byte(0x10ffe), &Some(0));
+    same(&rt, &memory.byte(0x10fff), &Some(0));
+    same(
+        &rt,
+        &memory.store(0xfffe, &[1, 2, 3, 4]),
+        &Err(Fault { addr: 0xfffe }),
     );
-    assert_eq!(rt; memory.byte(0x10000), Some(0));
-    assert_eq!(rt; memory.store(0x10ffe, &[1, 2]), Ok(()));
-    assert_eq!(rt; memory.byte(0x10fff), Some(2));
+    same(&rt, &memory.byte(0x10000), &Some(0));
+    same(&rt, &memory.store(0x10ffe, &[1, 2]), &Ok(()));
+    same(&rt, &memory.byte(0x10fff), &Some(2));
 }
 
 #[test]
@@ -61,7 +71,7 @@ fn a_store_goes_over_two_pages(rt: HostRuntime) {
     assert!(rt; memory.map(0x11000).is_ok());
     assert!(rt; memory.map(0x20000).is_ok());
     assert!(rt; memory.map(0x10000).is_ok());
-    assert_eq!(rt; memory.store(0x10ffe, &[1, 2, 3, 4]), Ok(()));
+    same(&rt, &memory.store(0x10ffe, &[1, 2, 3, 4]), &Ok(()));
     for (addr, byte) in [
         (0x10ffd, 0),
         (0x10ffe, 1),
@@ -72,7 +82,7 @@ fn a_store_goes_over_two_pages(rt: HostRuntime) {
         (0x20000, 0),
         (0x20001, 0),
     ] {
-        assert_eq!(rt; memory.byte(addr), Some(byte), "{addr:#x}");
+        same(&rt, &(addr, memory.byte(addr)), &(addr, Some(byte)));
     }
 }
 
@@ -82,18 +92,19 @@ fn a_store_ends_at_the_last_address(rt: HostRuntime) {
     assert!(rt; memory.map(TOP).is_ok());
     assert!(rt; memory.map(0).is_ok());
     let end = Err(Fault { addr: u64::MAX });
-    assert_eq!(rt; memory.store(u64::MAX - 1, &[7, 8, 9]), end);
-    assert_eq!(rt; memory.byte(u64::MAX - 1), Some(0));
-    assert_eq!(rt; memory.byte(0), Some(0), "it does not go on at address 0");
-    assert_eq!(rt; memory.store(u64::MAX - 1, &[7, 8]), Ok(()));
-    assert_eq!(rt; memory.byte(u64::MAX), Some(8));
+    same(&rt, &memory.store(u64::MAX - 1, &[7, 8, 9]), &end);
+    same(&rt, &memory.byte(u64::MAX - 1), &Some(0));
+    // It does not go on at address 0.
+    same(&rt, &memory.byte(0), &Some(0));
+    same(&rt, &memory.store(u64::MAX - 1, &[7, 8]), &Ok(()));
+    same(&rt, &memory.byte(u64::MAX), &Some(8));
 }
 
 #[test]
 fn a_store_of_no_bytes_is_done_anywhere(rt: HostRuntime) {
     let mut memory = Memory::new(rt.alloc());
-    assert_eq!(rt; memory.store(0x12345, &[]), Ok(()));
-    assert_eq!(rt; memory.store(u64::MAX, &[]), Ok(()));
+    same(&rt, &memory.store(0x12345, &[]), &Ok(()));
+    same(&rt, &memory.store(u64::MAX, &[]), &Ok(()));
 }
 
 #[test]
@@ -102,10 +113,14 @@ fn a_piece_ends_with_its_page(rt: HostRuntime) {
     assert!(rt; memory.map(0x10000).is_ok());
     assert!(rt; memory.map(0x20000).is_ok());
     assert!(rt; memory.store(0x10ffd, &[1, 2, 3]).is_ok());
-    assert_eq!(rt; memory.piece(0x10ffd), Some([1, 2, 3].as_slice()));
-    assert_eq!(rt; memory.piece(0x10000).map(|piece| piece.len()), Some(4096));
-    assert_eq!(rt; memory.piece(0x11000), None);
-    assert_eq!(rt; memory.piece(0xffff), None);
+    same(&rt, &memory.piece(0x10ffd), &Some([1, 2, 3].as_slice()));
+    same(
+        &rt,
+        &memory.piece(0x10000).map(|piece| piece.len()),
+        &Some(4096),
+    );
+    same(&rt, &memory.piece(0x11000), &None);
+    same(&rt, &memory.piece(0xffff), &None);
 }
 
 #[test]
@@ -126,14 +141,14 @@ fn a_copy_has_the_same_bytes_and_its_own(rt: HostRuntime) -> Result<(), Fail> {
         TOP,
         u64::MAX,
     ] {
-        assert_eq!(rt; copy.byte(addr), memory.byte(addr), "{addr:#x}");
+        same(&rt, &(addr, copy.byte(addr)), &(addr, memory.byte(addr)));
     }
     assert!(rt; copy.store(0x10010, b"J").is_ok());
     assert!(rt; memory.store(0x10014, b"!").is_ok());
     assert!(rt; memory.map(0x11000).is_ok());
-    assert_eq!(rt; memory.byte(0x10010), Some(b'h'));
-    assert_eq!(rt; copy.byte(0x10014), Some(b'o'));
-    assert_eq!(rt; copy.byte(0x11000), None);
+    same(&rt, &memory.byte(0x10010), &Some(b'h'));
+    same(&rt, &copy.byte(0x10014), &Some(b'o'));
+    same(&rt, &copy.byte(0x11000), &None);
     Ok(())
 }
 
@@ -152,9 +167,13 @@ fn a_look_ahead_answers_as_the_store_would(rt: HostRuntime) {
         (u64::MAX, 1, Ok(())),
         (u64::MAX, 2, Err(Fault { addr: u64::MAX })),
     ] {
-        assert_eq!(rt; memory.check_run(addr, len), answer, "{addr:#x} {len}");
+        same(
+            &rt,
+            &(addr, len, memory.check_run(addr, len)),
+            &(addr, len, answer),
+        );
     }
-    assert_eq!(rt; memory.byte(0x10ffe), Some(0));
+    same(&rt, &memory.byte(0x10ffe), &Some(0));
 }
 
 #[test]

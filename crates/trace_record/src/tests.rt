@@ -1,7 +1,15 @@
 use super::laws::{a_status_reports_one_death, statuses_are_encoded};
 use super::*;
+use std::fmt::Debug;
+use std::process::Abort;
 use trace_regs::Regs;
 use trace_status::{Part, SyscallInfo, WaitStatus, decode};
+
+/// Ends a test where two values differ, and says both. An `assert_eq!` is written out, and proved, wherever it stands,
+/// which takes most of the time of a test's proof.
+fn same<R: Abort, T: PartialEq + Debug>(rt: &R, found: &T, wanted: &T) {
+    assert_eq!(rt; found, wanted);
+}
 
 /// Killed by SIGTERM.
 const TERMINATED: Death = Death::Signaled {
@@ -42,37 +50,45 @@ fn a_stop_decodes_as_its_name_says(rt: HostRuntime) {
             WaitStatus::PtraceEvent(9, 5, 6),
         ),
     ] {
-        assert_eq!(rt; stop.status(), raw, "{stop:?}");
-        assert_eq!(rt; decode(9, raw), Some(status), "{stop:?}");
+        same(&rt, &(stop, stop.status()), &(stop, raw));
+        same(&rt, &(stop, decode(9, raw)), &(stop, Some(status)));
     }
 }
 
 #[test]
 fn a_birth_names_its_child(rt: HostRuntime) {
-    assert_eq!(rt; Stop::Fork(10).child(), Some(10));
-    assert_eq!(rt; Stop::Clone(11).child(), Some(11));
-    assert_eq!(rt; Stop::Exec(12).child(), None);
-    assert_eq!(rt; Stop::Start.child(), None);
-    assert_eq!(rt; Stop::Ending(Death::Exited(13)).child(), None);
+    same(&rt, &Stop::Fork(10).child(), &Some(10));
+    same(&rt, &Stop::Clone(11).child(), &Some(11));
+    same(&rt, &Stop::Exec(12).child(), &None);
+    same(&rt, &Stop::Start.child(), &None);
+    same(&rt, &Stop::Ending(Death::Exited(13)).child(), &None);
 }
 
 #[test]
 fn a_death_decodes_as_its_name_says(rt: HostRuntime) {
     let exited = Death::Exited(3);
-    assert_eq!(rt; exited.status(), 0x0300);
-    assert_eq!(rt; decode(9, 0x0300), Some(WaitStatus::Exited(9, 3)));
+    same(&rt, &exited.status(), &0x0300);
+    same(&rt, &decode(9, 0x0300), &Some(WaitStatus::Exited(9, 3)));
     let killed = Death::Signaled {
         signal: 15,
         core: false,
     };
-    assert_eq!(rt; killed.status(), 0x000f);
-    assert_eq!(rt; decode(9, 0x000f), Some(WaitStatus::Signaled(9, 15, false)));
+    same(&rt, &killed.status(), &0x000f);
+    same(
+        &rt,
+        &decode(9, 0x000f),
+        &Some(WaitStatus::Signaled(9, 15, false)),
+    );
     let dumped = Death::Signaled {
         signal: 11,
         core: true,
     };
-    assert_eq!(rt; dumped.status(), 0x008b);
-    assert_eq!(rt; decode(9, 0x008b), Some(WaitStatus::Signaled(9, 11, true)));
+    same(&rt, &dumped.status(), &0x008b);
+    same(
+        &rt,
+        &decode(9, 0x008b),
+        &Some(WaitStatus::Signaled(9, 11, true)),
+    );
 }
 
 #[test]
@@ -108,7 +124,7 @@ fn a_death_is_read_from_its_raw_status(rt: HostRuntime) {
         (0x857f, None),
         (0x80057f, None),
     ] {
-        assert_eq!(rt; Death::from_status(raw), death, "{raw:#x}");
+        same(&rt, &(raw, Death::from_status(raw)), &(raw, death));
     }
 }
 
@@ -118,8 +134,8 @@ fn a_death_out_of_range_has_a_status_that_reports_none(rt: HostRuntime) {
         signal: 255,
         core: true,
     };
-    assert_eq!(rt; none.status(), 0x17f);
-    assert_eq!(rt; Death::from_status(0x17f), None);
+    same(&rt, &none.status(), &0x17f);
+    same(&rt, &Death::from_status(0x17f), &None);
 }
 
 #[test]
@@ -188,15 +204,15 @@ fn a_record_shows_its_stop(rt: HostRuntime) {
         (Stop::Ending(DUMPED), 0x6057f, Part::Quiet, 139),
     ] {
         record.stop = stop;
-        assert_eq!(rt; record.status(), raw, "{stop:?}");
-        assert_eq!(rt; record.event_message(), message, "{stop:?}");
+        same(&rt, &(stop, record.status()), &(stop, raw));
+        same(&rt, &(stop, record.event_message()), &(stop, message));
         let info = SyscallInfo {
             arch: 0xC000003E,
             ip: 0x401002,
             sp: 0x7ff000,
             part,
         };
-        assert_eq!(rt; record.info(), info, "{stop:?}");
+        same(&rt, &(stop, record.info()), &(stop, info));
     }
 }
 
@@ -212,7 +228,7 @@ fn the_last_4095_answers_are_errors(rt: HostRuntime) {
     ] {
         record.regs.rax = rax;
         let part = Part::Exit { rval, is_error };
-        assert_eq!(rt; record.info().part, part, "{rax:#x}");
+        same(&rt, &(rax, record.info().part), &(rax, part));
     }
 }
 
@@ -222,20 +238,20 @@ fn an_exit_stop_has_the_bytes_of_its_layout(rt: HostRuntime) {
     record.stop = Stop::Exit;
     record.regs = CALL;
     let mut buffer = [0xaa; 33];
-    assert_eq!(rt; record.info().write_to(&mut buffer), 33);
+    same(&rt, &record.info().write_to(&mut buffer), &33);
     let bytes = [
         2, 0, 0, 0, 0x3e, 0, 0, 0xc0, 0x02, 0x10, 0x40, 0, 0, 0, 0, 0, 0, 0xf0, 0x7f, 0, 0, 0, 0,
         0, 3, 0, 0, 0, 0, 0, 0, 0, 0,
     ];
-    assert_eq!(rt; buffer, bytes);
+    same(&rt, &buffer, &bytes);
 }
 
 #[test]
 fn an_empty_record_has_no_memory(rt: HostRuntime) {
     let record = StopRecord::empty(rt.alloc(), 9);
-    assert_eq!(rt; record.tid, 9);
-    assert_eq!(rt; record.number, 0);
-    assert_eq!(rt; record.stop, Stop::Start);
-    assert_eq!(rt; record.regs, Regs::default());
-    assert_eq!(rt; record.memory.byte(0), None);
+    same(&rt, &record.tid, &9);
+    same(&rt, &record.number, &0);
+    same(&rt, &record.stop, &Stop::Start);
+    same(&rt, &record.regs, &Regs::default());
+    same(&rt, &record.memory.byte(0), &None);
 }

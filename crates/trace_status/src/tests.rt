@@ -1,5 +1,13 @@
 use super::laws::{fields_are_in_place, one_to_one};
 use super::*;
+use std::fmt::Debug;
+use std::process::Abort;
+
+/// Ends a test where two values differ, and says both. An `assert_eq!` is written out, and proved, wherever it stands,
+/// which takes most of the time of a test's proof.
+fn same<R: Abort, T: PartialEq + Debug>(rt: &R, found: &T, wanted: &T) {
+    assert_eq!(rt; found, wanted);
+}
 
 /// Raw values of pid 9, worked out by hand from wait(2) and ptrace(2).
 const TABLE: [(u32, WaitStatus); 7] = [
@@ -15,7 +23,7 @@ const TABLE: [(u32, WaitStatus); 7] = [
 #[test]
 fn a_raw_value_tells_its_status(rt: HostRuntime) {
     for (raw, status) in TABLE {
-        assert_eq!(rt; decode(9, raw), Some(status), "{raw:#x}");
+        same(&rt, &(raw, decode(9, raw)), &(raw, Some(status)));
     }
 }
 
@@ -24,14 +32,14 @@ fn a_value_of_no_status_is_refused(rt: HostRuntime) {
     for raw in [
         0xffff, 0x0080, 0x9057f, 0x007f, 0x417f, 0x10000, 0x0041, 0x1057f00,
     ] {
-        assert_eq!(rt; decode(9, raw), None, "{raw:#x}");
+        same(&rt, &(raw, decode(9, raw)), &(raw, None));
     }
 }
 
 #[test]
 fn a_status_has_its_raw_value(rt: HostRuntime) {
     for (raw, status) in TABLE {
-        assert_eq!(rt; encode(&status), Some(raw), "{status:?}");
+        same(&rt, &(status, encode(&status)), &(status, Some(raw)));
     }
 }
 
@@ -45,7 +53,7 @@ fn what_has_no_raw_value_is_refused(rt: HostRuntime) {
         WaitStatus::PtraceEvent(9, 15, 3),
         WaitStatus::PtraceEvent(9, 5, 8),
     ] {
-        assert_eq!(rt; encode(&status), None, "{status:?}");
+        same(&rt, &(status, encode(&status)), &(status, None));
     }
 }
 
@@ -76,35 +84,39 @@ const EXIT_BYTES: [u8; 33] = [
 fn the_layout_is_cut_to_the_buffer(rt: HostRuntime) {
     for long in [0, 24, 32, 33, 84] {
         let mut buffer = [0xaa; 84];
-        assert_eq!(rt; EXIT.write_to(&mut buffer[..long]), 33, "{long}");
+        same(
+            &rt,
+            &(long, EXIT.write_to(&mut buffer[..long])),
+            &(long, 33),
+        );
         let cut = long.min(33);
-        assert_eq!(rt; &buffer[..cut], &EXIT_BYTES[..cut], "{long}");
+        same(&rt, &(long, &buffer[..cut]), &(long, &EXIT_BYTES[..cut]));
         for at in cut..84 {
-            assert_eq!(rt; buffer[at], 0xaa, "{long} {at}");
+            same(&rt, &(long, at, buffer[at]), &(long, at, 0xaa));
         }
     }
 }
 
 #[test]
 fn a_whole_layout_is_read(rt: HostRuntime) {
-    assert_eq!(rt; SyscallInfo::read(&EXIT_BYTES), Some(EXIT));
+    same(&rt, &SyscallInfo::read(&EXIT_BYTES), &Some(EXIT));
 }
 
 #[test]
 fn what_is_no_whole_layout_is_refused(rt: HostRuntime) {
-    assert_eq!(rt; SyscallInfo::read(&EXIT_BYTES[..32]), None);
+    same(&rt, &SyscallInfo::read(&EXIT_BYTES[..32]), &None);
     let mut longer = [0; 34];
     longer[..33].copy_from_slice(&EXIT_BYTES);
-    assert_eq!(rt; SyscallInfo::read(&longer), None);
+    same(&rt, &SyscallInfo::read(&longer), &None);
     let mut padded = EXIT_BYTES;
     padded[1] = 1;
-    assert_eq!(rt; SyscallInfo::read(&padded), None);
+    same(&rt, &SyscallInfo::read(&padded), &None);
     let mut other = EXIT_BYTES;
     other[32] = 2;
-    assert_eq!(rt; SyscallInfo::read(&other), None);
+    same(&rt, &SyscallInfo::read(&other), &None);
     let mut entry = EXIT_BYTES;
     entry[0] = 1;
-    assert_eq!(rt; SyscallInfo::read(&entry), None);
+    same(&rt, &SyscallInfo::read(&entry), &None);
 }
 
 #[test]
@@ -133,9 +145,13 @@ fn each_part_has_its_length(rt: HostRuntime) {
     ] {
         let info = SyscallInfo { part, ..EXIT };
         let mut buffer = [0; 84];
-        assert_eq!(rt; info.write_to(&mut buffer), long, "{part:?}");
-        assert_eq!(rt; buffer[0], op, "{part:?}");
-        assert_eq!(rt; SyscallInfo::read(&buffer[..long]), Some(info), "{part:?}");
+        same(&rt, &(part, info.write_to(&mut buffer)), &(part, long));
+        same(&rt, &(part, buffer[0]), &(part, op));
+        same(
+            &rt,
+            &(part, SyscallInfo::read(&buffer[..long])),
+            &(part, Some(info)),
+        );
     }
 }
 
@@ -150,7 +166,11 @@ fn a_seccomp_stop_fills_a_short_buffer(rt: HostRuntime) {
         ..EXIT
     };
     let mut buffer = [0xaa; 33];
-    assert_eq!(rt; info.write_to(&mut buffer), 84);
-    assert_eq!(rt; &buffer[..4], [3, 0, 0, 0].as_slice());
-    assert_eq!(rt; &buffer[24..33], [0x3c, 0, 0, 0, 0, 0, 0, 0, 7].as_slice());
+    same(&rt, &info.write_to(&mut buffer), &84);
+    same(&rt, &&buffer[..4], &[3, 0, 0, 0].as_slice());
+    same(
+        &rt,
+        &&buffer[24..33],
+        &[0x3c, 0, 0, 0, 0, 0, 0, 0, 7].as_slice(),
+    );
 }

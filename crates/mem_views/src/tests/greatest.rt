@@ -1,5 +1,6 @@
 //! A tracee's memory at its greatest size.
 
+use crate::tests::compare::same;
 use std::alloc::Allocator;
 use std::test::Fail;
 use trace_pages::{MapError, Memory};
@@ -34,8 +35,8 @@ fn is_full<A: Allocator>(memory: &Memory<A>) -> bool {
 fn a_copy_has_256_pages(rt: HostRuntime) -> Result<(), Fail> {
     let mut memory = Memory::new(rt.alloc());
     assert!(rt; fill(&mut memory));
-    assert_eq!(rt; memory.map(PAGES * 4096), Err(MapError::TooMany));
-    assert_eq!(rt; memory.map(0), Err(MapError::Mapped));
+    same(&rt, &memory.map(PAGES * 4096), &Err(MapError::TooMany));
+    same(&rt, &memory.map(0), &Err(MapError::Mapped));
     let copy = memory.copy()?;
     assert!(rt; is_full(&memory));
     assert!(rt; is_full(&copy));

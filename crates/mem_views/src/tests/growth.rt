@@ -2,6 +2,7 @@
 
 ghost use Rattle.std.specs.Prelude.{◌≡◌, ◌%◌};
 
+use crate::tests::compare::{holds, same};
 use crate::tests::greatest::fill;
 use crate::{Cut, End, Views};
 use refusing_allocator::RefusingAllocator;
@@ -56,23 +57,18 @@ fn a_map_that_is_refused_leaves_the_memory_as_it_was(rt: HostRuntime) {
         let heap = RefusingAllocator::new(rt.alloc(), granted);
         let mut memory = Memory::new(&heap);
         let pages = map_pages(&mut memory);
-        assert_eq!(rt; heap.has_refused(), pages < 64, "{granted}");
+        same(&rt, &(granted, heap.has_refused()), &(granted, pages < 64));
         assert!(rt; mark_pages(&mut memory, pages));
-        assert!(rt; has_pages(&memory, pages), "{granted}");
+        same(&rt, &(granted, has_pages(&memory, pages)), &(granted, true));
         if pages == 64 {
             break;
         }
         refused = refused.wrapping_add(1);
-        assert_eq!(rt;
-            memory.map(pages.min(63) * 4096),
-            Ok(()),
-            "it is granted the next time"
-        );
+        // It is granted the next time.
+        same(&rt, &memory.map(pages.min(63) * 4096), &Ok(()));
     }
-    assert!(rt;
-        refused > 64 + 2,
-        "64 boxes, and each of two lists grows more than once: {refused}"
-    );
+    // 64 boxes, and each of two lists grows more than once.
+    same(&rt, &(refused, refused > 64 + 2), &(refused, true));
     assert!(rt; refused < 128);
 }
 
@@ -117,17 +113,25 @@ fn a_string_over_two_pages_is_mapped_and_copied(rt: HostRuntime) -> Result<(), F
     for granted in 0..GROWTHS {
         let heap = RefusingAllocator::new(rt.alloc(), granted);
         let mut record = StopRecord::empty(&heap, 100);
-        assert!(rt; maps(&heap, &mut record.memory, 0x10000), "{granted}");
-        assert!(rt; maps(&heap, &mut record.memory, 0x11000), "{granted}");
+        same(
+            &rt,
+            &(granted, maps(&heap, &mut record.memory, 0x10000)),
+            &(granted, true),
+        );
+        same(
+            &rt,
+            &(granted, maps(&heap, &mut record.memory, 0x11000)),
+            &(granted, true),
+        );
         assert!(rt; record.memory.store(0x10ffe, b"ab").is_ok());
         assert!(rt; record.memory.store(0x11000, b"c\0").is_ok());
         let was_refused = heap.has_refused();
         let first = record.memory.copy();
-        assert!(rt; shows_string(&record), "{granted}");
-        assert_eq!(rt;
-            first.is_err(),
-            heap.has_refused() != was_refused,
-            "{granted}"
+        same(&rt, &(granted, shows_string(&record)), &(granted, true));
+        same(
+            &rt,
+            &(granted, first.is_err()),
+            &(granted, heap.has_refused() != was_refused),
         );
         record.memory = match first {
             Ok(copy) => copy,
@@ -136,14 +140,16 @@ fn a_string_over_two_pages_is_mapped_and_copied(rt: HostRuntime) -> Result<(), F
                 record.memory.copy()?
             }
         };
-        assert!(rt; shows_string(&record), "{granted}");
+        same(&rt, &(granted, shows_string(&record)), &(granted, true));
         if !heap.has_refused() {
             break;
         }
         refused = refused.wrapping_add(1);
     }
-    assert_eq!(rt; copies, 4, "a copy has two lists and two boxes");
-    assert_eq!(rt; refused, 8, "and so have the two pages");
+    // A copy has two lists and two boxes.
+    same(&rt, &copies, &4);
+    // And so have the two pages.
+    same(&rt, &refused, &8);
     Ok(())
 }
 
@@ -158,13 +164,13 @@ fn a_page_that_cannot_be_mapped_needs_no_growth(rt: HostRuntime) {
             continue;
         }
         // What is granted is spent, and the next growth is the one that is refused.
-        assert_eq!(rt; memory.map(0), Err(MapError::Mapped));
-        assert_eq!(rt; memory.map(256 * 4096), Err(MapError::TooMany));
+        same(&rt, &memory.map(0), &Err(MapError::Mapped));
+        same(&rt, &memory.map(256 * 4096), &Err(MapError::TooMany));
         assert!(rt; !heap.has_refused());
         assert!(rt; memory.copy().is_err());
         assert!(rt; heap.has_refused());
         spent = true;
         break;
     }
-    assert!(rt; spent, "256 pages were never granted");
+    holds(&rt, spent, "256 pages were never granted");
 }

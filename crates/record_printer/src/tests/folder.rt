@@ -5,6 +5,7 @@ ghost use Rattle.stop_history.specs.declared.limits.TheConstants.{LAST_NUMBER};
 
 use crate::call::parts::{CallEnd, CallStart};
 use crate::piece::note::Note;
+use crate::tests::compare::{holds, same};
 use crate::{FoldError, Folder, Piece, death_piece};
 use std::alloc::{AllocError, Allocator};
 use std::test::Fail;
@@ -126,10 +127,10 @@ fn a_row_has_its_lines_in_whatever_order_its_pieces_come(rt: HostRuntime) -> Res
             let mut folder = Folder::new(alloc, &roster)?;
             for number in order(which) {
                 let added = folder.add(middle.piece(alloc, number)?);
-                assert_eq!(rt; added, Ok(()));
+                same(&rt, &added, &Ok(()));
             }
             let text = folder.finish()?;
-            assert_eq!(rt; text.as_bytes(), middle.text().as_bytes());
+            same(&rt, &text.as_bytes(), &middle.text().as_bytes());
         }
     }
     Ok(())
@@ -160,15 +161,16 @@ fn a_killed_row_has_its_lines(rt: HostRuntime) -> Result<(), Fail> {
     let roster = Roster::new(alloc, &[root(200)])?;
     let mut folder = Folder::new(alloc, &roster)?;
     for number in [0, 2, 1] {
-        assert_eq!(rt; folder.add(killed(alloc, number)?), Ok(()));
+        same(&rt, &folder.add(killed(alloc, number)?), &Ok(()));
     }
-    assert_eq!(rt; folder.add(killed(alloc, 2)?), Err(FoldError::Twice));
-    assert_eq!(rt;
-        folder.add(stop(999, 1, Note::Quiet)),
-        Err(FoldError::Stranger)
+    same(&rt, &folder.add(killed(alloc, 2)?), &Err(FoldError::Twice));
+    same(
+        &rt,
+        &folder.add(stop(999, 1, Note::Quiet)),
+        &Err(FoldError::Stranger),
     );
     let text = folder.finish()?;
-    assert_eq!(rt; text.as_bytes(), KILLED_TEXT.as_bytes());
+    same(&rt, &text.as_bytes(), &KILLED_TEXT.as_bytes());
     Ok(())
 }
 
@@ -186,16 +188,17 @@ fn what_is_missing_is_lost(rt: HostRuntime) -> Result<(), Fail> {
     ] {
         let mut folder = Folder::new(alloc, &roster)?;
         for number in numbers {
-            assert_eq!(rt; folder.add(killed(alloc, *number)?), Ok(()));
+            same(&rt, &folder.add(killed(alloc, *number)?), &Ok(()));
         }
         match folder.finish() {
-            Ok(_) => assert!(rt; false, "a text"),
-            Err(fault) => assert_eq!(rt;
-                fault,
-                FoldError::Lost {
+            Ok(_) => holds(&rt, false, "a text"),
+            Err(fault) => same(
+                &rt,
+                &fault,
+                &FoldError::Lost {
                     row: 0,
-                    number: lost
-                }
+                    number: lost,
+                },
             ),
         }
     }
@@ -208,26 +211,30 @@ fn a_piece_is_refused_by_its_number(rt: HostRuntime) -> Result<(), Fail> {
     let roster = Roster::new(alloc, &[root(200)])?;
     let died = |number| death_piece(200, number, Death::Exited(0));
     let mut folder = Folder::new(alloc, &roster)?;
-    assert_eq!(rt;
-        folder.add(stop(200, 0, Note::Quiet)),
-        Err(FoldError::Stranger)
+    same(
+        &rt,
+        &folder.add(stop(200, 0, Note::Quiet)),
+        &Err(FoldError::Stranger),
     );
-    assert_eq!(rt; folder.add(stop(200, 3, Note::Quiet)), Ok(()));
-    assert_eq!(rt; folder.add(died(2)), Err(FoldError::Stranger));
-    assert_eq!(rt; folder.add(died(4)), Ok(()));
-    assert_eq!(rt; folder.add(died(4)), Err(FoldError::Twice));
-    assert_eq!(rt;
-        folder.add(stop(200, 5, Note::Quiet)),
-        Err(FoldError::Stranger)
+    same(&rt, &folder.add(stop(200, 3, Note::Quiet)), &Ok(()));
+    same(&rt, &folder.add(died(2)), &Err(FoldError::Stranger));
+    same(&rt, &folder.add(died(4)), &Ok(()));
+    same(&rt, &folder.add(died(4)), &Err(FoldError::Twice));
+    same(
+        &rt,
+        &folder.add(stop(200, 5, Note::Quiet)),
+        &Err(FoldError::Stranger),
     );
-    assert_eq!(rt;
-        folder.add(stop(200, 3, Note::Quiet)),
-        Err(FoldError::Twice)
+    same(
+        &rt,
+        &folder.add(stop(200, 3, Note::Quiet)),
+        &Err(FoldError::Twice),
     );
-    assert_eq!(rt; folder.add(stop(200, 1, Note::Quiet)), Ok(()));
-    assert_eq!(rt;
-        folder.add(stop(200, 1, Note::Quiet)),
-        Err(FoldError::Twice)
+    same(&rt, &folder.add(stop(200, 1, Note::Quiet)), &Ok(()));
+    same(
+        &rt,
+        &folder.add(stop(200, 1, Note::Quiet)),
+        &Err(FoldError::Twice),
     );
     Ok(())
 }
@@ -251,39 +258,45 @@ fn a_child_that_was_created_must_be_whole(rt: HostRuntime) -> Result<(), Fail> {
     let alloc = rt.alloc();
     let roster = Roster::new(alloc, &[PARENT, CHILD])?;
     let mut folder = Folder::new(alloc, &roster)?;
-    assert_eq!(rt; folder.add(death_piece(100, 1, Death::Exited(3))), Ok(()));
-    assert_eq!(rt; folder.add(stop(100, 1, Note::Birth(101))), Ok(()));
+    same(
+        &rt,
+        &folder.add(death_piece(100, 1, Death::Exited(3))),
+        &Ok(()),
+    );
+    same(&rt, &folder.add(stop(100, 1, Note::Birth(101))), &Ok(()));
     match folder.finish() {
-        Ok(_) => assert!(rt; false, "a text"),
-        Err(fault) => assert_eq!(rt; fault, FoldError::Lost { row: 1, number: 1 }),
+        Ok(_) => holds(&rt, false, "a text"),
+        Err(fault) => same(&rt, &fault, &FoldError::Lost { row: 1, number: 1 }),
     }
     let mut folder = Folder::new(alloc, &roster)?;
-    assert_eq!(rt;
-        folder.add(death_piece(
+    same(
+        &rt,
+        &folder.add(death_piece(
             101,
             0,
             Death::Signaled {
                 signal: 11,
-                core: true
-            }
+                core: true,
+            },
         )),
-        Ok(())
+        &Ok(()),
     );
-    assert_eq!(rt; folder.add(stop(100, 1, Note::Birth(101))), Ok(()));
-    assert_eq!(rt;
-        folder.add(death_piece(
+    same(&rt, &folder.add(stop(100, 1, Note::Birth(101))), &Ok(()));
+    same(
+        &rt,
+        &folder.add(death_piece(
             100,
             1,
             Death::Signaled {
                 signal: 33,
-                core: false
-            }
+                core: false,
+            },
         )),
-        Ok(())
+        &Ok(()),
     );
     let text = folder.finish()?;
     let lines = "100 +++ killed by SIG_33 +++\n101 +++ killed by SIGSEGV (core dumped) +++\n";
-    assert_eq!(rt; text.as_bytes(), lines.as_bytes());
+    same(&rt, &text.as_bytes(), &lines.as_bytes());
     Ok(())
 }
 
@@ -292,11 +305,16 @@ fn a_child_that_was_not_created_has_no_line(rt: HostRuntime) -> Result<(), Fail>
     let alloc = rt.alloc();
     let roster = Roster::new(alloc, &[PARENT, CHILD])?;
     let mut folder = Folder::new(alloc, &roster)?;
-    assert_eq!(rt; folder.add(death_piece(100, 0, Death::Exited(255))), Ok(()));
+    same(
+        &rt,
+        &folder.add(death_piece(100, 0, Death::Exited(255))),
+        &Ok(()),
+    );
     let text = folder.finish()?;
-    assert_eq!(rt;
-        text.as_bytes(),
-        b"100 +++ exited with 255 +++\n".as_slice()
+    same(
+        &rt,
+        &text.as_bytes(),
+        &b"100 +++ exited with 255 +++\n".as_slice(),
     );
     Ok(())
 }
@@ -337,11 +355,15 @@ fn bytes_come_out_of_their_own_call(rt: HostRuntime) -> Result<(), Fail> {
     assert!(rt; add_read(alloc, &mut folder, 1, read_start(alloc, 0)?)?);
     assert!(rt; add_read(alloc, &mut folder, 3, read_start(alloc, 1)?)?);
     assert!(rt; add_read(alloc, &mut folder, 5, CallStart::hidden(alloc, 0))?);
-    assert_eq!(rt; folder.add(death_piece(100, 6, Death::Exited(0))), Ok(()));
+    same(
+        &rt,
+        &folder.add(death_piece(100, 6, Death::Exited(0))),
+        &Ok(()),
+    );
     let text = folder.finish()?;
     let lines =
         "100 read(0, \"hi\", 2) = 2\n100 read(0, 0x10000, 2) = 2\n100 +++ exited with 0 +++\n";
-    assert_eq!(rt; text.as_bytes(), lines.as_bytes());
+    same(&rt, &text.as_bytes(), &lines.as_bytes());
     Ok(())
 }
 
@@ -358,12 +380,12 @@ fn stops_that_come_far_too_early_are_kept(rt: HostRuntime) -> Result<(), Fail> {
     for before in 0..FALLING {
         expected.extend_from_slice(line.as_bytes())?;
         let note = signal(alloc, line)?;
-        assert_eq!(rt; folder.add(stop(100, FALLING - before, note)), Ok(()));
+        same(&rt, &folder.add(stop(100, FALLING - before, note)), &Ok(()));
     }
     expected.extend_from_slice(b"100 +++ exited with 0 +++\n".as_slice())?;
     let death = death_piece(100, FALLING, Death::Exited(0));
-    assert_eq!(rt; folder.add(death), Ok(()));
+    same(&rt, &folder.add(death), &Ok(()));
     let text = folder.finish()?;
-    assert_eq!(rt; text.as_bytes(), expected.as_slice());
+    same(&rt, &text.as_bytes(), &expected.as_slice());
     Ok(())
 }

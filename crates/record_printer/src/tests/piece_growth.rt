@@ -1,5 +1,6 @@
 //! Each growth of the piece of a stop refused in turn.
 
+use crate::tests::compare::same;
 use crate::{Show, piece_of};
 use refusing_allocator::RefusingAllocator;
 use std::test::Fail;
@@ -16,7 +17,7 @@ fn a_piece_that_is_refused_a_growth_is_not_made(rt: HostRuntime) -> Result<(), F
         calls: CallSet::all(),
     };
     let mut record = StopRecord::empty(rt.alloc(), 200);
-    assert_eq!(rt; record.memory.map(0x10000), Ok::<(), MapError>(()));
+    same(&rt, &record.memory.map(0x10000), &Ok::<(), MapError>(()));
     assert!(rt; record.memory.store(0x10000, b"hi\n").is_ok());
     record.number = 2;
     record.regs.rsi = 0x10000;
@@ -38,20 +39,22 @@ fn a_piece_that_is_refused_a_growth_is_not_made(rt: HostRuntime) -> Result<(), F
             let heap = RefusingAllocator::new(rt.alloc(), granted);
             assert!(rt; record.number <= LAST_NUMBER);
             let made = piece_of(&heap, &record, &show).is_ok();
-            assert_eq!(rt; heap.has_refused(), !made, "{stop:?} {granted}");
+            same(
+                &rt,
+                &(stop, granted, heap.has_refused()),
+                &(stop, granted, !made),
+            );
             if made {
                 break;
             }
             assert!(rt; record.number <= LAST_NUMBER);
             let again = piece_of(&heap, &record, &show);
-            assert!(rt;
-                again.is_ok(),
-                "{stop:?} {granted}: it is granted the next time"
-            );
+            // It is granted the next time.
+            same(&rt, &(stop, granted, again.is_ok()), &(stop, granted, true));
             refused = refused.saturating_add(1);
         }
-        assert!(rt; refused < 64, "{stop:?} {refused}");
-        assert_eq!(rt; refused > 0, grows, "{stop:?} {refused}");
+        same(&rt, &(stop, refused, refused < 64), &(stop, refused, true));
+        same(&rt, &(stop, refused, refused > 0), &(stop, refused, grows));
     }
     Ok(())
 }

@@ -2,6 +2,7 @@
 //! that was refused can be added again.
 
 use super::folder::{KILLED_TEXT, Middle, killed, order, root};
+use crate::tests::compare::same;
 use crate::{FoldError, Folder, Piece};
 use refusing_allocator::RefusingAllocator;
 use std::alloc::{AllocError, Allocator, Global};
@@ -92,13 +93,14 @@ fn a_piece_that_was_refused_can_be_added(rt: HostRuntime) -> Result<(), Fail> {
         let mut was_refused = true;
         for granted in 0..MOST {
             let heap = RefusingAllocator::new(rt.alloc(), granted);
-            assert!(rt;
-                folds(&heap, &roster, tid, numbers, text)?,
-                "{tid} {granted}"
+            same(
+                &rt,
+                &(tid, granted, folds(&heap, &roster, tid, numbers, text)?),
+                &(tid, granted, true),
             );
             was_refused = heap.has_refused();
         }
-        assert!(rt; !was_refused, "{tid}");
+        same(&rt, &(tid, !was_refused), &(tid, true));
     }
     Ok(())
 }

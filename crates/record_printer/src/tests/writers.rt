@@ -1,5 +1,6 @@
 //! Writers that take a byte at a time, and that fail.
 
+use crate::tests::compare::same;
 use crate::text_tests::rows::{FORK_TEXT, fork_text};
 use crate::{WriteFault, write_text};
 use std::io::{self, ErrorKind, Write};
@@ -45,8 +46,8 @@ fn make_sink(rt: &impl AllocGlobal, before: usize, fails: bool) -> Sink {
 fn a_text_is_written_byte_by_byte(rt: HostRuntime) -> Result<(), Fail> {
     let text = fork_text(rt.alloc())?;
     let mut out = make_sink(&rt, usize::MAX, true);
-    assert_eq!(rt; write_text(&text, &mut out), Ok(()));
-    assert_eq!(rt; out.taken.as_slice(), FORK_TEXT.as_bytes());
+    same(&rt, &write_text(&text, &mut out), &Ok(()));
+    same(&rt, &out.taken.as_slice(), &FORK_TEXT.as_bytes());
     Ok(())
 }
 
@@ -59,8 +60,8 @@ fn a_fault_reports_what_was_written(rt: HostRuntime) -> Result<(), Fail> {
             let fault = WriteFault {
                 written: before as u64,
             };
-            assert_eq!(rt; write_text(&text, &mut out), Err(fault));
-            assert_eq!(rt; out.taken.as_slice(), &FORK_TEXT.as_bytes()[..before]);
+            same(&rt, &write_text(&text, &mut out), &Err(fault));
+            same(&rt, &out.taken.as_slice(), &&FORK_TEXT.as_bytes()[..before]);
         }
     }
     Ok(())

@@ -1,6 +1,7 @@
 //! Arguments that are arrays of iovecs.
 
 use super::{Call, Scene, TOP, line_of};
+use crate::tests::compare::same;
 use std::test::Fail;
 
 /// Two entries, of "ab" at 0x10ffe and of "c" at 0x10002 by their bytes before the exit.
@@ -92,7 +93,7 @@ fn an_array_is_printed_by_its_entries(rt: HostRuntime) -> Result<(), Fail> {
         ),
     ] {
         let made = line_of(rt.alloc(), &scene, limit, &Call(20, args, 3, line))?;
-        assert_eq!(rt; made.as_slice(), line.as_bytes());
+        same(&rt, &made.as_slice(), &line.as_bytes());
     }
     Ok(())
 }
@@ -139,7 +140,7 @@ fn entries_share_the_bytes_that_come_out(rt: HostRuntime) -> Result<(), Fail> {
     ] {
         let call = Call(19, [0, 0x10200, count], answer, line);
         let made = line_of(rt.alloc(), &scene, limit, &call)?;
-        assert_eq!(rt; made.as_slice(), line.as_bytes());
+        same(&rt, &made.as_slice(), &line.as_bytes());
     }
     Ok(())
 }
@@ -182,7 +183,7 @@ fn what_goes_over_two_pages_is_printed(rt: HostRuntime) -> Result<(), Fail> {
         Call(1, [1, 0x10fff, 2], 2, "100 write(1, \"\\000\\002\", 2) = 2"),
     ] {
         let line = line_of(rt.alloc(), &scene, 300, &call)?;
-        assert_eq!(rt; line.as_slice(), call.3.as_bytes());
+        same(&rt, &line.as_slice(), &call.3.as_bytes());
     }
     Ok(())
 }

@@ -1,6 +1,7 @@
 //! Arguments that show memory: strings and buffers.
 
 use super::{Call, Scene, TOP, line_of};
+use crate::tests::compare::same;
 use std::test::Fail;
 
 /// Strings before an absent page, at the last page, and at page 0, which a string that ends with the address space
@@ -59,7 +60,7 @@ fn a_path_is_printed_where_it_is_all_there(rt: HostRuntime) -> Result<(), Fail> 
         (32, Call(84, [0x10000, 0, 0], 0, "100 rmdir(\"ab\") = 0")),
     ] {
         let line = line_of(rt.alloc(), &scene, limit, &call)?;
-        assert_eq!(rt; line.as_slice(), call.3.as_bytes());
+        same(&rt, &line.as_slice(), &call.3.as_bytes());
     }
     Ok(())
 }
@@ -78,7 +79,7 @@ fn an_absent_path_at_address_0_is_null(rt: HostRuntime) -> Result<(), Fail> {
         Call(0, [0, 0, 1], -14, "100 read(0, NULL, 1) = -1 EFAULT"),
     ] {
         let line = line_of(rt.alloc(), &scene, 32, &call)?;
-        assert_eq!(rt; line.as_slice(), call.3.as_bytes());
+        same(&rt, &line.as_slice(), &call.3.as_bytes());
     }
     Ok(())
 }
@@ -141,7 +142,7 @@ fn a_buffer_is_printed_where_its_first_bytes_are_there(rt: HostRuntime) -> Resul
         ),
     ] {
         let line = line_of(rt.alloc(), &scene, limit, &call)?;
-        assert_eq!(rt; line.as_slice(), call.3.as_bytes());
+        same(&rt, &line.as_slice(), &call.3.as_bytes());
     }
     Ok(())
 }
@@ -218,7 +219,7 @@ fn a_buffer_that_comes_out_is_that_of_the_exit(rt: HostRuntime) -> Result<(), Fa
         ),
     ] {
         let line = line_of(rt.alloc(), &scene, limit, &call)?;
-        assert_eq!(rt; line.as_slice(), call.3.as_bytes());
+        same(&rt, &line.as_slice(), &call.3.as_bytes());
     }
     Ok(())
 }

@@ -1,6 +1,7 @@
 //! Arguments that are numbers, and results.
 
 use super::{Call, Scene, line_of};
+use crate::tests::compare::same;
 use std::test::Fail;
 
 #[test]
@@ -39,7 +40,7 @@ fn numbers_are_printed_by_their_kinds(rt: HostRuntime) -> Result<(), Fail> {
         ),
     ] {
         let line = line_of(rt.alloc(), &scene, 32, &call)?;
-        assert_eq!(rt; line.as_slice(), call.3.as_bytes());
+        same(&rt, &line.as_slice(), &call.3.as_bytes());
     }
     Ok(())
 }
@@ -83,7 +84,7 @@ fn results_are_values_or_errors(rt: HostRuntime) -> Result<(), Fail> {
         ),
     ] {
         let line = line_of(rt.alloc(), &scene, 32, &call)?;
-        assert_eq!(rt; line.as_slice(), call.3.as_bytes());
+        same(&rt, &line.as_slice(), &call.3.as_bytes());
     }
     Ok(())
 }

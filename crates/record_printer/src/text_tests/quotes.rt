@@ -2,6 +2,7 @@
 
 use super::{Call, Scene, line_of};
 use crate::laws::quotes_are_one_to_one;
+use crate::tests::compare::same;
 use std::test::Fail;
 
 /// All byte values, sixteen a line, as they are in quotes.
@@ -41,7 +42,7 @@ fn all_bytes_are_quoted(rt: HostRuntime) -> Result<(), Fail> {
         let line = format!(in rt.alloc(); "100 write(1, \"{quoted}\", 16) = 16")?;
         let call = Call(1, [1, 0x10000, 16], 16, line.as_str());
         let made = line_of(rt.alloc(), &scene, 16, &call)?;
-        assert_eq!(rt; made.as_slice(), line.as_bytes());
+        same(&rt, &made.as_slice(), &line.as_bytes());
     }
     Ok(())
 }

@@ -1,6 +1,7 @@
 //! The texts of whole traces, from the records of their stops.
 
 use super::{Call, Scene, memory, stopped};
+use crate::tests::compare::same;
 use crate::{FoldError, Folder, Show, Text, death_piece, piece_of};
 use std::alloc::Global;
 use std::test::Fail;
@@ -145,7 +146,7 @@ pub(crate) fn fork_text(alloc: Global) -> Result<Text, Fail> {
 #[test]
 fn a_fork_is_printed_with_and_without_a_filter(rt: HostRuntime) -> Result<(), Fail> {
     let alloc = rt.alloc();
-    assert_eq!(rt; fork_text(alloc)?.as_bytes(), FORK_TEXT.as_bytes());
+    same(&rt, &fork_text(alloc)?.as_bytes(), &FORK_TEXT.as_bytes());
     let roster = Roster::new(alloc, &FAMILY)?;
     let short = of_calls(2, CallSet::all());
     let writes = of_calls(32, write_alone());
@@ -153,13 +154,13 @@ fn a_fork_is_printed_with_and_without_a_filter(rt: HostRuntime) -> Result<(), Fa
     let line =
         "100 write(1, \"hi\"..., 3) = 3\n100 fork() = 101\n100 exit(3) = ?\n100 +++ exited with 3 +++\n\
         101 exit(0) = ?\n101 +++ exited with 0 +++\n";
-    assert_eq!(rt; made.as_bytes(), line.as_bytes());
+    same(&rt, &made.as_bytes(), &line.as_bytes());
     let line =
         "100 write(1, \"hi\\n\", 3) = 3\n100 +++ exited with 3 +++\n101 +++ exited with 0 +++\n";
     let made = text_of(alloc, &roster, &writes, &HI, &FORKS, &PLAIN_DEATHS)?;
-    assert_eq!(rt; made.as_bytes(), line.as_bytes());
+    same(&rt, &made.as_bytes(), &line.as_bytes());
     let made = text_of(alloc, &roster, &writes, &HI, &FILTERED, &FILTERED_DEATHS)?;
-    assert_eq!(rt; made.as_bytes(), line.as_bytes());
+    same(&rt, &made.as_bytes(), &line.as_bytes());
     Ok(())
 }
 
@@ -185,7 +186,7 @@ fn a_thread_is_printed(rt: HostRuntime) -> Result<(), Fail> {
     let made = text_of(alloc, &roster, &all, &HI, &stops, &deaths)?;
     let text = "100 clone(0x10900) = 101\n100 exit(3) = ?\n100 +++ exited with 3 +++\n\
         101 getpid() = 100\n101 exit(0) = ?\n101 +++ exited with 0 +++\n";
-    assert_eq!(rt; made.as_bytes(), text.as_bytes());
+    same(&rt, &made.as_bytes(), &text.as_bytes());
     Ok(())
 }
 
@@ -215,7 +216,7 @@ fn a_signal_is_printed_before_what_follows_it(rt: HostRuntime) -> Result<(), Fai
     };
     let made = text_of(alloc, &roster, &all, &HI, &stops[..2], &[(200, 2, term)])?;
     let text = "200 --- SIGTERM ---\n200 +++ killed by SIGTERM +++\n";
-    assert_eq!(rt; made.as_bytes(), text.as_bytes());
+    same(&rt, &made.as_bytes(), &text.as_bytes());
     let made = text_of(
         alloc,
         &roster,
@@ -225,7 +226,7 @@ fn a_signal_is_printed_before_what_follows_it(rt: HostRuntime) -> Result<(), Fai
         &[(200, 3, Death::Exited(0))],
     )?;
     let text = "200 --- SIGTERM ---\n200 exit(0) = ?\n200 +++ exited with 0 +++\n";
-    assert_eq!(rt; made.as_bytes(), text.as_bytes());
+    same(&rt, &made.as_bytes(), &text.as_bytes());
     Ok(())
 }
 
@@ -286,7 +287,7 @@ fn bytes_are_printed_as_they_were_at_the_stops(rt: HostRuntime) -> Result<(), Fa
         300 read(0, \"hi\\t\\n\\377\", 16) = 5\n\
         300 rename(\"ab\", 0x50000) = 0\n\
         300 +++ exited with 0 +++\n";
-    assert_eq!(rt; made.as_bytes(), text.as_bytes());
+    same(&rt, &made.as_bytes(), &text.as_bytes());
     Ok(())
 }
 
@@ -331,6 +332,6 @@ fn an_execve_is_printed_by_the_memory_before_it(rt: HostRuntime) -> Result<(), F
     let made = folder.finish()?;
     let text = "400 execve(\"/x\", NULL, NULL) = 0\n400 unlink(\"\") = 0\n400 exit(0) = ?\n\
         400 +++ exited with 0 +++\n";
-    assert_eq!(rt; made.as_bytes(), text.as_bytes());
+    same(&rt, &made.as_bytes(), &text.as_bytes());
     Ok(())
 }

@@ -4,6 +4,7 @@ use super::{Call, stopped};
 use crate::call::parts::CallStart;
 use crate::piece::note::Note;
 use crate::piece::stop_note::stop_note;
+use crate::tests::compare::same;
 use crate::{Show, piece_of};
 use std::alloc::Global;
 use std::test::Fail;
@@ -29,7 +30,11 @@ fn a_signal_has_its_line(rt: HostRuntime) -> Result<(), Fail> {
         (64, "100 --- SIG_64 ---\n"),
     ] {
         let note = note_at(rt.alloc(), Stop::Signal(signal), CallSet::none())?;
-        assert!(rt; is_signal(&note, line.as_bytes()), "{signal}");
+        same(
+            &rt,
+            &(signal, is_signal(&note, line.as_bytes())),
+            &(signal, true),
+        );
     }
     Ok(())
 }

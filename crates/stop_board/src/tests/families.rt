@@ -1,5 +1,6 @@
 //! What the rows of a roster are to each other, and rosters that grow row by row.
 
+use crate::tests::compare::same;
 use crate::tests::rows::{ROOT, THREAD, family as children, roots, row};
 use std::alloc::Allocator;
 use std::test::Fail;
@@ -24,7 +25,7 @@ fn each_row_has_its_parent_its_rank_and_its_leader(rt: HostRuntime) -> Result<()
         grown.push(row)?;
     }
     let copied = Roster::copy(rt.alloc(), &grown)?;
-    assert_eq!(rt; copied.rows(), family().as_slice());
+    same(&rt, &copied.rows(), &family().as_slice());
     for (at, parent, place, leads) in [
         (0usize, None, 0usize, true),
         (1, Some(0usize), 0, false),
@@ -34,9 +35,9 @@ fn each_row_has_its_parent_its_rank_and_its_leader(rt: HostRuntime) -> Result<()
     ] {
         for roster in [&made, &grown, &copied] {
             if at < roster.rows().len() {
-                assert_eq!(rt; roster.parent_place(at), parent, "{at}");
-                assert_eq!(rt; roster.rank(at), place, "{at}");
-                assert_eq!(rt; is_leader(roster.rows()[at]), leads, "{at}");
+                same(&rt, &(at, roster.parent_place(at)), &(at, parent));
+                same(&rt, &(at, roster.rank(at)), &(at, place));
+                same(&rt, &(at, is_leader(roster.rows()[at])), &(at, leads));
             }
         }
     }
@@ -60,14 +61,18 @@ fn parents_and_ranks_go_up_to_255(rt: HostRuntime) -> Result<(), Fail> {
     let roster = Roster::new(rt.alloc(), rows.as_slice())?;
     let copied = Roster::copy(rt.alloc(), &roster)?;
     for at in [0usize, 63, 64, 254, 255] {
-        assert!(rt; has_family(&roster, at, None, at), "{at}");
-        assert!(rt; has_family(&copied, at, None, at), "{at}");
+        same(&rt, &(at, has_family(&roster, at, None, at)), &(at, true));
+        same(&rt, &(at, has_family(&copied, at, None, at)), &(at, true));
     }
     // The last of a root's 255 children has 254 before it.
     let rows = children(rt.alloc(), 255)?;
     let roster = Roster::new(rt.alloc(), rows.as_slice())?;
     for (at, rank) in [(1usize, 0usize), (64, 63), (65, 64), (255, 254)] {
-        assert!(rt; has_family(&roster, at, Some(0), rank), "{at}");
+        same(
+            &rt,
+            &(at, has_family(&roster, at, Some(0), rank)),
+            &(at, true),
+        );
     }
     // The last row may be a child of the one before it.
     let mut rows = roots(rt.alloc(), 255)?;
@@ -80,12 +85,12 @@ fn parents_and_ranks_go_up_to_255(rt: HostRuntime) -> Result<(), Fail> {
 #[test]
 fn a_roster_grows_row_by_row(rt: HostRuntime) -> Result<(), Fail> {
     let mut roster = Roster::empty(rt.alloc());
-    assert_eq!(rt; roster.len(), 0);
+    same(&rt, &roster.len(), &0);
     for row in family() {
         roster.push(row)?;
     }
-    assert_eq!(rt; roster.len(), 5);
-    assert_eq!(rt; roster.rows(), family().as_slice());
+    same(&rt, &roster.len(), &5);
+    same(&rt, &roster.rows(), &family().as_slice());
     Ok(())
 }
 
@@ -99,8 +104,8 @@ fn a_refused_row_leaves_the_roster_as_it_was(rt: HostRuntime) -> Result<(), Fail
         (row(101, 101, 77, 102), RosterError::ParentLater(1)),
         (row(101, 100, 78, 100), RosterError::GroupMismatch(1)),
     ] {
-        assert_eq!(rt; roster.push(row), Err(fault), "{row:?}");
-        assert_eq!(rt; roster.rows(), [ROOT].as_slice());
+        same(&rt, &(row, roster.push(row)), &(row, Err(fault)));
+        same(&rt, &roster.rows(), &[ROOT].as_slice());
     }
     Ok(())
 }
@@ -111,13 +116,18 @@ fn a_257th_row_has_its_own_fault_first(rt: HostRuntime) -> Result<(), Fail> {
     let mut roster = Roster::new(rt.alloc(), rows.as_slice())?;
     rows.push(row(256, 256, 77, 0))?;
     roster.push(row(256, 256, 77, 0))?;
-    assert_eq!(rt; roster.rows(), rows.as_slice());
-    assert_eq!(rt; roster.push(row(1, 1, 77, 0)), Err(RosterError::Twice(256)));
-    assert_eq!(rt;
-        roster.push(row(257, 257, 77, 0)),
-        Err(RosterError::TooMany)
+    same(&rt, &roster.rows(), &rows.as_slice());
+    same(
+        &rt,
+        &roster.push(row(1, 1, 77, 0)),
+        &Err(RosterError::Twice(256)),
     );
-    assert_eq!(rt; roster.len(), 256);
+    same(
+        &rt,
+        &roster.push(row(257, 257, 77, 0)),
+        &Err(RosterError::TooMany),
+    );
+    same(&rt, &roster.len(), &256);
     // All at once there are too many before any row is looked at.
     rows.push(row(1, 1, 77, 0))?;
     let all = Roster::new(rt.alloc(), rows.as_slice());

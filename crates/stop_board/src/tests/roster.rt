@@ -1,5 +1,6 @@
 //! Rosters that are accepted, and each fault at its place.
 
+use crate::tests::compare::{holds, same};
 use crate::tests::rows::{ROOT, THREAD, roots, row};
 use crate::{Roster, RosterError, fault_after, place_of};
 use std::test::Fail;
@@ -7,13 +8,13 @@ use std::test::Fail;
 #[test]
 fn a_roster_gives_its_rows_back(rt: HostRuntime) -> Result<(), Fail> {
     let roster = Roster::new(rt.alloc(), &[ROOT, THREAD, row(4194303, 4194303, 77, 101)])?;
-    assert_eq!(rt; roster.len(), 3);
-    assert_eq!(rt; roster.rows().len(), 3);
-    assert_eq!(rt; roster.row_of(101), Some(1));
-    assert_eq!(rt; roster.row_of(4194303), Some(2));
-    assert_eq!(rt; roster.row_of(77), None);
-    assert_eq!(rt; roster.row_of(0), None);
-    assert_eq!(rt; roster.rows().first().copied(), Some(ROOT));
+    same(&rt, &roster.len(), &3);
+    same(&rt, &roster.rows().len(), &3);
+    same(&rt, &roster.row_of(101), &Some(1));
+    same(&rt, &roster.row_of(4194303), &Some(2));
+    same(&rt, &roster.row_of(77), &None);
+    same(&rt, &roster.row_of(0), &None);
+    same(&rt, &roster.rows().first().copied(), &Some(ROOT));
     Ok(())
 }
 
@@ -21,11 +22,11 @@ fn a_roster_gives_its_rows_back(rt: HostRuntime) -> Result<(), Fail> {
 fn a_row_is_read_at_its_place(rt: HostRuntime) -> Result<(), Fail> {
     let roster = Roster::new(rt.alloc(), &[ROOT, THREAD])?;
     if 1 < roster.len() {
-        assert_eq!(rt; roster.row(0), ROOT);
-        assert_eq!(rt; roster.row(1), THREAD);
+        same(&rt, &roster.row(0), &ROOT);
+        same(&rt, &roster.row(1), &THREAD);
         return Ok(());
     }
-    assert!(rt; false, "there are two rows");
+    holds(&rt, false, "there are two rows");
     Ok(())
 }
 
@@ -49,8 +50,8 @@ fn each_fault_is_reported_at_its_place(rt: HostRuntime) {
         (row(101, 102, 78, 103), RosterError::ParentLater(1)),
     ] {
         match Roster::new(rt.alloc(), &[ROOT, second]) {
-            Ok(_) => assert!(rt; false, "accepted: {second:?}"),
-            Err(told) => assert_eq!(rt; told, fault, "{second:?}"),
+            Ok(_) => same(&rt, &None, &Some((second, fault))),
+            Err(told) => same(&rt, &(second, told), &(second, fault)),
         }
     }
 }
@@ -68,9 +69,9 @@ fn no_more_than_256_rows_are_accepted(rt: HostRuntime) -> Result<(), Fail> {
     for (count, last, next) in [(255, 254, 256), (256, 255, 257)] {
         let rows = roots(rt.alloc(), count)?;
         let roster = Roster::new(rt.alloc(), rows.as_slice())?;
-        assert_eq!(rt; roster.len(), count);
-        assert_eq!(rt; roster.row_of(count), Some(last));
-        assert_eq!(rt; roster.row_of(next), None);
+        same(&rt, &roster.len(), &count);
+        same(&rt, &roster.row_of(count), &Some(last));
+        same(&rt, &roster.row_of(next), &None);
     }
     let rows = roots(rt.alloc(), 257)?;
     assert!(rt;
@@ -85,15 +86,17 @@ fn no_more_than_256_rows_are_accepted(rt: HostRuntime) -> Result<(), Fail> {
 #[test]
 fn one_more_row_is_tested_behind_others(rt: HostRuntime) {
     let rows = [ROOT, THREAD];
-    assert_eq!(rt; fault_after(&rows, row(102, 100, 77, 101)), None);
-    assert_eq!(rt;
-        fault_after(&rows, row(101, 101, 77, 100)),
-        Some(RosterError::Twice(2))
+    same(&rt, &fault_after(&rows, row(102, 100, 77, 101)), &None);
+    same(
+        &rt,
+        &fault_after(&rows, row(101, 101, 77, 100)),
+        &Some(RosterError::Twice(2)),
     );
-    assert_eq!(rt;
-        fault_after(&[], row(101, 101, 77, 100)),
-        Some(RosterError::ParentLater(0))
+    same(
+        &rt,
+        &fault_after(&[], row(101, 101, 77, 100)),
+        &Some(RosterError::ParentLater(0)),
     );
-    assert_eq!(rt; place_of(&rows, 101), Some(1));
-    assert_eq!(rt; place_of(&rows, 102), None);
+    same(&rt, &place_of(&rows, 101), &Some(1));
+    same(&rt, &place_of(&rows, 102), &None);
 }

@@ -1,5 +1,6 @@
 //! The packed word, by values worked out by hand from its table of bits.
 
+use crate::tests::compare::same;
 use crate::tests::expected_words::{OPENING, dead, stopped_at_start};
 use crate::{Phase, Word};
 use std::test::Fail;
@@ -51,8 +52,8 @@ fn a_word_has_the_bits_of_its_table(rt: HostRuntime) -> Result<(), Fail> {
         (after_births(255), 0x000000000007fffa),
     ];
     for (word, raw) in table {
-        assert_eq!(rt; word.pack(), raw);
-        assert_eq!(rt; Word::unpack(raw), Some(word));
+        same(&rt, &word.pack(), &raw);
+        same(&rt, &Word::unpack(raw), &Some(word));
     }
     Ok(())
 }
@@ -60,15 +61,15 @@ fn a_word_has_the_bits_of_its_table(rt: HostRuntime) -> Result<(), Fail> {
 #[test]
 fn the_bits_of_a_word_are_taken_apart(rt: HostRuntime) -> Result<(), Fail> {
     for word in [OPENING, CLAIMED, RESUMED, GREATEST] {
-        assert_eq!(rt; Word::unpack_known(word.pack()), word);
+        same(&rt, &Word::unpack_known(word.pack()), &word);
     }
     Ok(())
 }
 
 #[test]
 fn the_opening_word_is_zero(rt: HostRuntime) -> Result<(), Fail> {
-    assert_eq!(rt; OPENING.pack(), 0);
-    assert_eq!(rt; Word::unpack(0), Some(OPENING));
+    same(&rt, &OPENING.pack(), &0);
+    same(&rt, &Word::unpack(0), &Some(OPENING));
     Ok(())
 }
 
@@ -99,7 +100,7 @@ fn bits_of_no_word_are_refused(rt: HostRuntime) -> Result<(), Fail> {
         0x0000020800000005,
     ];
     for raw in table {
-        assert_eq!(rt; Word::unpack(raw), None);
+        same(&rt, &Word::unpack(raw), &None);
     }
     Ok(())
 }

@@ -3,6 +3,7 @@
 ghost use Rattle.std.specs.Prelude.{◌≤◌};
 ghost use Rattle.stop_history.specs.declared.limits.TheConstants.{LAST_NUMBER};
 
+use crate::tests::compare::same;
 use crate::tests::expected_words::{OPENING, dead, stopped_at_fork, stopped_at_start};
 use stop_history::{
     Phase, Refused, Word, claimed, died, published, restart_in, restarted, taken_up,
@@ -22,21 +23,27 @@ fn claimed_by_2(births: u8, number: u32) -> Word
 
 #[test]
 fn a_publish_counts_its_stop_and_its_child(rt: HostRuntime) {
-    assert_eq!(rt;
-        published(taken_up(OPENING), Stop::Start),
-        stopped_at_start()
+    same(
+        &rt,
+        &published(taken_up(OPENING), Stop::Start),
+        &stopped_at_start(),
     );
-    assert_eq!(rt;
-        published(taken_up(OPENING), Stop::Fork(101)),
-        stopped_at_fork()
+    same(
+        &rt,
+        &published(taken_up(OPENING), Stop::Fork(101)),
+        &stopped_at_fork(),
     );
-    assert_eq!(rt; stopped_at_fork().pack(), 0x000008280000080b);
+    same(&rt, &stopped_at_fork().pack(), &0x000008280000080b);
 }
 
 #[test]
 fn a_claim_takes_a_stop_and_reaps_a_death(rt: HostRuntime) {
-    assert_eq!(rt; claimed(stopped_at_start(), 2).pack(), 0x1000000000000804);
-    assert_eq!(rt; claimed(dead(), 2).pack(), 0x100e);
+    same(
+        &rt,
+        &claimed(stopped_at_start(), 2).pack(),
+        &0x1000000000000804,
+    );
+    same(&rt, &claimed(dead(), 2).pack(), &0x100e);
 }
 
 #[test]
@@ -46,25 +53,27 @@ fn a_resume_keeps_its_restart_until_it_is_taken_up(rt: HostRuntime) {
         signal: 15,
     };
     let resumed = restarted(claimed_by_2(0, 4), how);
-    assert_eq!(rt; resumed.pack(), 0x00f8000000002001);
-    assert_eq!(rt; restart_in(resumed.phase), Ok(how));
-    assert_eq!(rt; taken_up(resumed).pack(), 0x2002);
-    assert_eq!(rt;
-        restart_in(taken_up(resumed).phase),
-        Err(Refused::NotRunning)
+    same(&rt, &resumed.pack(), &0x00f8000000002001);
+    same(&rt, &restart_in(resumed.phase), &Ok(how));
+    same(&rt, &taken_up(resumed).pack(), &0x2002);
+    same(
+        &rt,
+        &restart_in(taken_up(resumed).phase),
+        &Err(Refused::NotRunning),
     );
     let first = Resume {
         kind: Kind::Cont,
         signal: 0,
     };
-    assert_eq!(rt; restart_in(Phase::Fresh), Ok(first));
+    same(&rt, &restart_in(Phase::Fresh), &Ok(first));
 }
 
 #[test]
 fn an_exit_keeps_the_status_of_the_death(rt: HostRuntime) {
-    assert_eq!(rt;
-        died(taken_up(claimed_by_2(1, 2)), Death::Exited(3)),
-        dead()
+    same(
+        &rt,
+        &died(taken_up(claimed_by_2(1, 2)), Death::Exited(3)),
+        &dead(),
     );
-    assert_eq!(rt; dead().pack(), 0x000018000000100d);
+    same(&rt, &dead().pack(), &0x000018000000100d);
 }

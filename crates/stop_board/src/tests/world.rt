@@ -4,6 +4,7 @@ ghost use Rattle.std.specs.Prelude.{All, IfOk};
 ghost use Rattle.stop_board.specs.Action.{IsAction};
 ghost use Rattle.trace_record.specs.Resume.{IsResume};
 
+use crate::tests::compare::same;
 use crate::tests::expected_words::{
     OPENING, dead_before_any_stop, stopped_at_fork, stopped_at_start,
 };
@@ -38,8 +39,8 @@ fn a_claim_of_a_word_that_has_changed_misses(rt: HostRuntime) -> Result<(), Fail
     let roster = Roster::new(rt.alloc(), &[ROOT])?;
     let mut world = World::new(rt.alloc(), &roster, 2)?;
     let stopped = stopped_at_start();
-    assert_eq!(rt; stopped.pack(), 0x0004002800000803);
-    assert_eq!(rt; CLAIMED.pack(), 0x0800000000000804);
+    same(&rt, &stopped.pack(), &0x0004002800000803);
+    same(&rt, &CLAIMED.pack(), &0x0800000000000804);
     let table = [
         (0u32, Action::TakeUp, Reply::Took(CONT)),
         (0, Action::Publish(Stop::Start), Reply::Number(1)),
@@ -65,10 +66,10 @@ fn a_claim_of_a_word_that_has_changed_misses(rt: HostRuntime) -> Result<(), Fail
         ),
     ];
     for (actor, action, reply) in table {
-        assert_eq!(rt; world.step(actor, action), reply);
+        same(&rt, &world.step(actor, action), &reply);
     }
-    assert_eq!(rt; world.state(0), State::Running);
-    assert_eq!(rt; world.state(1), State::Absent);
+    same(&rt, &world.state(0), &State::Running);
+    same(&rt, &world.state(1), &State::Absent);
     Ok(())
 }
 
@@ -97,9 +98,9 @@ fn what_a_tracer_saw_decides_its_claim(rt: HostRuntime) -> Result<(), Fail> {
         (0, Action::TakeUp, Reply::Refused(Refused::NotRunning)),
     ];
     for (actor, action, reply) in table {
-        assert_eq!(rt; world.step(actor, action), reply);
+        same(&rt, &world.step(actor, action), &reply);
     }
-    assert_eq!(rt; world.state(0), State::Dead(1, 0x300));
+    same(&rt, &world.state(0), &State::Dead(1, 0x300));
     Ok(())
 }
 
@@ -133,9 +134,9 @@ fn a_death_is_reaped_once(rt: HostRuntime) -> Result<(), Fail> {
         ),
     ];
     for (actor, action, reply) in table {
-        assert_eq!(rt; world.step(actor, action), reply);
+        same(&rt, &world.step(actor, action), &reply);
     }
-    assert_eq!(rt; world.state(0), State::Reaped);
+    same(&rt, &world.state(0), &State::Reaped);
     Ok(())
 }
 
@@ -158,7 +159,7 @@ fn an_action_of_another_kind_of_actor_finds_no_row(rt: HostRuntime) -> Result<()
         (1, Action::Resume(1, SYSCALL), NO_ROW),
     ];
     for (actor, action, reply) in table {
-        assert_eq!(rt; world.step(actor, action), reply);
+        same(&rt, &world.step(actor, action), &reply);
     }
     Ok(())
 }
@@ -184,8 +185,8 @@ fn a_run_answers_each_turn_in_order(rt: HostRuntime) -> Result<(), Fail> {
         Reply::Word(forked),
         Reply::Got(forked),
     ];
-    assert_eq!(rt; replies.as_slice(), expected.as_slice());
-    assert_eq!(rt; world.state(0), State::Claimed(1, 0));
+    same(&rt, &replies.as_slice(), &expected.as_slice());
+    same(&rt, &world.state(0), &State::Claimed(1, 0));
     Ok(())
 }
 
@@ -229,7 +230,7 @@ fn what_is_not_taken_up_is_refused_before_a_wrong_child(rt: HostRuntime) -> Resu
         (Action::Exit(Death::Exited(0)), NOT_RUNNING),
     ];
     for (action, reply) in table {
-        assert_eq!(rt; world.step(0, action), reply);
+        same(&rt, &world.step(0, action), &reply);
     }
     Ok(())
 }
@@ -238,7 +239,7 @@ fn what_is_not_taken_up_is_refused_before_a_wrong_child(rt: HostRuntime) -> Resu
 fn a_restart_is_taken_up_with_its_signal(rt: HostRuntime) -> Result<(), Fail> {
     let roster = Roster::new(rt.alloc(), &[ROOT, SECOND])?;
     let mut world = World::new(rt.alloc(), &roster, 1)?;
-    assert_eq!(rt; world.step(0, Action::TakeUp), Reply::Took(CONT));
+    same(&rt, &world.step(0, Action::TakeUp), &Reply::Took(CONT));
     for (stop, kind, signal) in [
         (Stop::Clone(102), Kind::Cont, 15),
         (Stop::Enter, Kind::Syscall, 64),
@@ -248,9 +249,17 @@ fn a_restart_is_taken_up_with_its_signal(rt: HostRuntime) -> Result<(), Fail> {
         assert!(rt; matches!(world.step(0, Action::Publish(stop)), Reply::Number(_)));
         assert!(rt; lets_go(&mut world, 2, 0, how));
         // The second row is a live thread of the first, which is tested after whether the first is taken up.
-        assert_eq!(rt; world.step(0, Action::Exit(Death::Exited(0))), NOT_TAKEN);
-        assert_eq!(rt; world.step(0, Action::TakeUp), Reply::Took(how));
-        assert_eq!(rt; world.step(0, Action::Exit(Death::Exited(0))), GROUP_ALIVE);
+        same(
+            &rt,
+            &world.step(0, Action::Exit(Death::Exited(0))),
+            &NOT_TAKEN,
+        );
+        same(&rt, &world.step(0, Action::TakeUp), &Reply::Took(how));
+        same(
+            &rt,
+            &world.step(0, Action::Exit(Death::Exited(0))),
+            &GROUP_ALIVE,
+        );
     }
     Ok(())
 }
@@ -261,18 +270,19 @@ fn a_world_keeps_256_rows_and_16_tracers(rt: HostRuntime) -> Result<(), Fail> {
     let roster = Roster::new(rt.alloc(), rows.as_slice())?;
     let mut world = World::new(rt.alloc(), &roster, 16)?;
     for row in 0..256 {
-        assert_eq!(rt; world.step(row, Action::TakeUp), Reply::Took(CONT));
-        assert_eq!(rt;
-            world.step(row, Action::Publish(Stop::Start)),
-            Reply::Number(1)
+        same(&rt, &world.step(row, Action::TakeUp), &Reply::Took(CONT));
+        same(
+            &rt,
+            &world.step(row, Action::Publish(Stop::Start)),
+            &Reply::Number(1),
         );
     }
     for row in 0..256 {
         assert!(rt; lets_go(&mut world, 256 + row % 16, row, SYSCALL));
-        assert_eq!(rt; world.step(row, Action::TakeUp), Reply::Took(SYSCALL));
+        same(&rt, &world.step(row, Action::TakeUp), &Reply::Took(SYSCALL));
     }
-    assert_eq!(rt; world.step(256, Action::Look(256)), NO_ROW);
-    assert_eq!(rt; world.step(272, Action::Look(0)), NO_ROW);
+    same(&rt, &world.step(256, Action::Look(256)), &NO_ROW);
+    same(&rt, &world.step(272, Action::Look(0)), &NO_ROW);
     Ok(())
 }
 
@@ -289,14 +299,14 @@ fn a_run_answers_100000_turns(rt: HostRuntime) -> Result<(), Fail> {
     let mut world = World::new(rt.alloc(), &roster, 1)?;
     let turns = take_ups(rt.alloc(), 100_000)?;
     let replies = world.run(turns.as_slice())?;
-    assert_eq!(rt; replies.len(), 100_000);
+    same(&rt, &replies.len(), &100_000);
     for (turn, reply) in replies.iter().enumerate() {
         let expected = if turn == 0 {
             Reply::Took(CONT)
         } else {
             Reply::Refused(Refused::NotRunning)
         };
-        assert_eq!(rt; *reply, expected, "turn {turn}");
+        same(&rt, &(turn, *reply), &(turn, expected));
     }
     Ok(())
 }

@@ -1,5 +1,6 @@
 //! Each growth of a replay refused in turn.
 
+use crate::compare::same;
 use crate::replay::{FILE, REPLIES};
 use refusing_allocator::RefusingAllocator;
 use tracer_cli::{CaseError, Cause, replay_text};
@@ -56,21 +57,29 @@ fn a_refused_growth_is_reported_at_the_line_that_was_read(rt: HostRuntime) {
             let heap = RefusingAllocator::new(rt.alloc(), granted);
             match replay_text(&heap, file) {
                 Ok(text) => {
-                    assert_eq!(rt; text.as_slice(), replies);
-                    assert!(rt; !heap.has_refused(), "{granted}");
+                    same(&rt, &text.as_slice(), &replies);
+                    same(&rt, &(granted, !heap.has_refused()), &(granted, true));
                     break;
                 }
                 Err(fault) => {
                     // After the last line has been read, its number stands for what is done with the whole file.
                     let line = reading.get(refusals).copied().unwrap_or(last);
                     let cause = Cause::NoMemory;
-                    assert_eq!(rt; fault, CaseError { line, cause }, "{granted}");
-                    assert!(rt; heap.has_refused(), "{granted}");
+                    same(
+                        &rt,
+                        &(granted, fault),
+                        &(granted, CaseError { line, cause }),
+                    );
+                    same(&rt, &(granted, heap.has_refused()), &(granted, true));
                     refusals = refusals.wrapping_add(1);
                 }
             }
         }
-        assert_eq!(rt; refusals, reading.len().wrapping_add(after), "{last}");
+        same(
+            &rt,
+            &(last, refusals),
+            &(last, reading.len().wrapping_add(after)),
+        );
     }
 }
 
@@ -80,7 +89,7 @@ fn an_empty_file_grows_nothing(rt: HostRuntime) {
     for file in [b"".as_slice(), b"\n", b"# nothing\n\n"] {
         match replay_text(&heap, file) {
             Ok(text) => assert!(rt; text.is_empty()),
-            Err(error) => assert!(rt; false, "refused: {error}"),
+            Err(error) => same(&rt, &Some(error), &None),
         }
     }
     assert!(rt; !heap.has_refused());
@@ -119,8 +128,16 @@ fn a_faulty_line_is_found_before_a_later_growth(rt: HostRuntime) {
                 },
                 None => CaseError { line, cause },
             };
-            assert_eq!(rt; replay_text(&heap, file).err(), Some(expected), "{granted}");
-            assert_eq!(rt; heap.has_refused(), expected.cause == Cause::NoMemory);
+            same(
+                &rt,
+                &(granted, replay_text(&heap, file).err()),
+                &(granted, Some(expected)),
+            );
+            same(
+                &rt,
+                &heap.has_refused(),
+                &(expected.cause == Cause::NoMemory),
+            );
         }
     }
 }

@@ -1,5 +1,6 @@
 //! How cases are traced, by values worked out by hand.
 
+use crate::compare::same;
 use trace_options::CallSet;
 use trace_record::{Death, Kind, Resume, Stop, StopRecord};
 use tracer_workers::{Config, policy};
@@ -38,23 +39,23 @@ fn with_exits(follow: bool, seccomp: bool) -> Config {
 #[test]
 fn options_are_those_of_the_manual(rt: HostRuntime) {
     // TRACESYSGOOD 0x1, TRACEFORK 0x2, TRACECLONE 0x8, TRACEEXEC 0x10, TRACEEXIT 0x40, TRACESECCOMP 0x80.
-    assert_eq!(rt; writes(false, false).options().bits(), 0x11);
-    assert_eq!(rt; writes(true, false).options().bits(), 0x1b);
-    assert_eq!(rt; writes(false, true).options().bits(), 0x91);
-    assert_eq!(rt; writes(true, true).options().bits(), 0x9b);
-    assert_eq!(rt; with_exits(false, false).options().bits(), 0x51);
-    assert_eq!(rt; with_exits(true, false).options().bits(), 0x5b);
-    assert_eq!(rt; with_exits(true, true).options().bits(), 0xdb);
+    same(&rt, &writes(false, false).options().bits(), &0x11);
+    same(&rt, &writes(true, false).options().bits(), &0x1b);
+    same(&rt, &writes(false, true).options().bits(), &0x91);
+    same(&rt, &writes(true, true).options().bits(), &0x9b);
+    same(&rt, &with_exits(false, false).options().bits(), &0x51);
+    same(&rt, &with_exits(true, false).options().bits(), &0x5b);
+    same(&rt, &with_exits(true, true).options().bits(), &0xdb);
 }
 
 #[test]
 fn the_filter_stops_what_is_shown(rt: HostRuntime) {
     let filter = writes(true, true).filter();
     assert!(rt; filter.calls.contains(WRITE) && !filter.calls.contains(0));
-    assert_eq!(rt; filter.ret_data, 0);
+    same(&rt, &filter.ret_data, &0);
     let show = writes(true, true).show();
     assert!(rt; show.calls.contains(WRITE) && !show.calls.contains(0));
-    assert_eq!(rt; show.limit, 32);
+    same(&rt, &show.limit, &32);
 }
 
 /// The restart at a stop in a call of this number.
@@ -86,16 +87,16 @@ fn restarts_are_those_of_the_mode(rt: HostRuntime) {
             kind: Kind::Syscall,
             signal,
         };
-        assert_eq!(rt; restart_at(&rt, stop, WRITE, &plain), plainly);
+        same(&rt, &restart_at(&rt, stop, WRITE, &plain), &plainly);
         let in_shown = Resume {
             kind: shown,
             signal,
         };
-        assert_eq!(rt; restart_at(&rt, stop, WRITE, &filtered), in_shown);
+        same(&rt, &restart_at(&rt, stop, WRITE, &filtered), &in_shown);
         let in_hidden = Resume {
             kind: hidden,
             signal,
         };
-        assert_eq!(rt; restart_at(&rt, stop, 0, &filtered), in_hidden);
+        same(&rt, &restart_at(&rt, stop, 0, &filtered), &in_hidden);
     }
 }

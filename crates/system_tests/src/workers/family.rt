@@ -8,6 +8,7 @@ ghost use Rattle.stop_table.specs.Tracer.{held_rows};
 ghost use Rattle.tracer_workers.specs.Gathering.{IsFreeTracee, IsFreeTracer};
 ghost use Rattle.tracer_workers.specs.Threaded.{CanRun};
 
+use crate::compare::same;
 use crate::workers::cases::{FORK, FORK_TEXT, all};
 use crate::workers::counting::Counting;
 use crate::workers::party::{Scripted, pop_scripted};
@@ -296,8 +297,8 @@ fn a_family_is_served_and_gathered_whichever_growth_is_refused(
 ) -> Result<(), Fail> {
     let (serving, gathering) = count_refusals(&rt)?;
     // The list of the pieces, at least.
-    assert!(rt; serving >= 1, "{serving}");
+    same(&rt, &(serving, serving >= 1), &(serving, true));
     // The folder's two lists, at least, and the text.
-    assert!(rt; gathering >= 3, "{gathering}");
+    same(&rt, &(gathering, gathering >= 3), &(gathering, true));
     Ok(())
 }

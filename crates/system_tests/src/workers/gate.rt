@@ -1,6 +1,7 @@
 //! What a gate is told, and when: between the claim of a stop and its restart. However long it holds a worker, the text
 //! is the same.
 
+use crate::compare::same;
 use crate::workers::cases::{THREAD, THREAD_TEXT, all};
 use crate::workers::counting::Counting;
 use std::sync::Wait;
@@ -182,7 +183,7 @@ fn lingers<R: Threads + Wait + Clock + AllocGlobal + Sync>(
 /// Both stop once more before their deaths, though the leader's exit is refused again and again.
 #[test]
 fn a_leader_stops_once_before_its_death(rt: HostRuntime) -> Result<(), Fail> {
-    assert_eq!(rt; lingers(&rt, false)?, (true, GROUP_STOPS));
-    assert_eq!(rt; lingers(&rt, true)?, (true, 11));
+    same(&rt, &lingers(&rt, false)?, &(true, GROUP_STOPS));
+    same(&rt, &lingers(&rt, true)?, &(true, 11));
     Ok(())
 }

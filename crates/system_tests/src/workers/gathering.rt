@@ -7,6 +7,7 @@ ghost use Rattle.trace_record.specs.Resume.{IsResume};
 ghost use Rattle.trace_record.specs.Stop.{IsStop, child_of};
 ghost use Rattle.stop_table.specs.Tracer.{held_rows};
 
+use crate::compare::same;
 use record_printer::{Piece, Show, Text, death_piece, piece_of};
 use refusing_allocator::RefusingAllocator;
 use std::alloc::{Allocator, Global};
@@ -304,7 +305,7 @@ fn the_last_piece_may_come_first(rt: HostRuntime) {
         .expect(&rt, "the handles")
         .ok()
         .expect(&rt, "a text");
-    assert_eq!(rt; text.as_bytes(), TEXT.as_bytes());
+    same(&rt, &text.as_bytes(), &TEXT.as_bytes());
 }
 
 #[test]
@@ -314,7 +315,7 @@ fn a_row_at_a_stop_is_lost(rt: HostRuntime) {
     let answer = party
         .gathered(alloc, Vec::new(alloc))
         .expect(&rt, "the handles");
-    assert_eq!(rt; answer.err(), Some(RunError::Lost));
+    same(&rt, &answer.err(), &Some(RunError::Lost));
 }
 
 #[test]
@@ -324,12 +325,12 @@ fn a_missing_piece_is_lost(rt: HostRuntime) {
     let answer = party
         .gathered(alloc, list(alloc, [second, death]).expect(&rt, "a list"))
         .expect(&rt, "the handles");
-    assert_eq!(rt; answer.err(), Some(RunError::Lost));
+    same(&rt, &answer.err(), &Some(RunError::Lost));
     let (party, first, second, _death) = live(alloc).expect(&rt, "a life");
     let answer = party
         .gathered(alloc, list(alloc, [first, second]).expect(&rt, "a list"))
         .expect(&rt, "the handles");
-    assert_eq!(rt; answer.err(), Some(RunError::Lost));
+    same(&rt, &answer.err(), &Some(RunError::Lost));
 }
 
 #[test]
@@ -339,7 +340,7 @@ fn a_row_without_pieces_is_lost(rt: HostRuntime) {
     let answer = party
         .gathered(alloc, Vec::new(alloc))
         .expect(&rt, "the handles");
-    assert_eq!(rt; answer.err(), Some(RunError::Lost));
+    same(&rt, &answer.err(), &Some(RunError::Lost));
 }
 
 #[test]
@@ -353,7 +354,7 @@ fn a_piece_that_is_there_twice_is_lost(rt: HostRuntime) {
             list(alloc, [first, second, again, death]).expect(&rt, "a list"),
         )
         .expect(&rt, "the handles");
-    assert_eq!(rt; answer.err(), Some(RunError::Lost));
+    same(&rt, &answer.err(), &Some(RunError::Lost));
 }
 
 #[test]
@@ -367,7 +368,7 @@ fn a_strangers_piece_is_lost(rt: HostRuntime) {
             list(alloc, [first, second, strange, death]).expect(&rt, "a list"),
         )
         .expect(&rt, "the handles");
-    assert_eq!(rt; answer.err(), Some(RunError::Lost));
+    same(&rt, &answer.err(), &Some(RunError::Lost));
 }
 
 #[test]
@@ -383,12 +384,12 @@ fn each_growth_that_is_refused_is_reported(rt: HostRuntime) {
         };
         match party.gathered(&heap, pieces) {
             Some(Ok(text)) => {
-                assert_eq!(rt; text.as_bytes(), TEXT.as_bytes());
+                same(&rt, &text.as_bytes(), &TEXT.as_bytes());
                 assert!(rt; !heap.has_refused());
                 break;
             }
             Some(Err(error)) => {
-                assert_eq!(rt; error, RunError::NoMemory);
+                same(&rt, &error, &RunError::NoMemory);
                 assert!(rt; heap.has_refused());
                 refused = refused.wrapping_add(1);
             }
@@ -396,5 +397,5 @@ fn each_growth_that_is_refused_is_reported(rt: HostRuntime) {
         }
     }
     // The folder's two lists, at least, and the text.
-    assert!(rt; refused >= 3, "{refused}");
+    same(&rt, &(refused, refused >= 3), &(refused, true));
 }

@@ -3,6 +3,7 @@
 ghost use Rattle.std.specs.Prelude.{◌≤◌};
 ghost use Rattle.stop_history.specs.declared.limits.TheConstants.{TRACERS};
 
+use crate::compare::{holds, same};
 use crate::workers::cases::{FORK, FORK_TEXT, all};
 use crate::workers::threaded::Open;
 use refusing_allocator::RefusingAllocator;
@@ -71,9 +72,9 @@ fn a_run_by_one_worker_reports_each_refused_growth(rt: HostRuntime) -> Result<()
         ..all()
     };
     let Some(refusals) = count_refusals(&rt, ROOT, &config, ROOT_TEXT) else {
-        return Ok(assert!(rt; false, "a run did not report a refusal"));
+        return Ok(holds(&rt, false, "a run did not report a refusal"));
     };
-    assert!(rt; refusals >= GROWTHS, "{refusals}");
+    same(&rt, &(refusals, refusals >= GROWTHS), &(refusals, true));
     Ok(())
 }
 
@@ -84,8 +85,8 @@ fn a_run_by_two_workers_reports_each_refused_growth(rt: HostRuntime) -> Result<(
         ..all()
     };
     let Some(refusals) = count_refusals(&rt, FORK, &config, FORK_TEXT) else {
-        return Ok(assert!(rt; false, "a run did not report a refusal"));
+        return Ok(holds(&rt, false, "a run did not report a refusal"));
     };
-    assert!(rt; refusals > GROWTHS, "{refusals}");
+    same(&rt, &(refusals, refusals > GROWTHS), &(refusals, true));
     Ok(())
 }

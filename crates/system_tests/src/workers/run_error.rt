@@ -1,5 +1,6 @@
 //! Why a run has no text, as the program says it.
 
+use crate::compare::same;
 use std::test::Fail;
 use tracer_workers::RunError;
 
@@ -11,7 +12,7 @@ fn errors_are_displayed_as_the_program_says_them(rt: HostRuntime) -> Result<(), 
         (RunError::Threads, "tracer: cannot start threads"),
     ];
     for (error, text) in texts {
-        assert_eq!(rt; format!(in rt.alloc(); "{error}")?.as_str(), text);
+        same(&rt, &format!(in rt.alloc(); "{error}")?.as_str(), &text);
     }
     Ok(())
 }

@@ -1,5 +1,6 @@
 //! Runs of cases on schedules: their texts, worked out by hand, and each growth refused in turn.
 
+use crate::compare::same;
 use crate::workers::cases::{FORK, FORK_TEXT, MODES, WORKED, all, writes_alone};
 use refusing_allocator::RefusingAllocator;
 use std::test::Fail;
@@ -194,16 +195,16 @@ fn a_refused_growth_leaves_no_text(rt: HostRuntime) {
     for granted in 0..MOST {
         match run_with(&rt, granted, &[2, 0]) {
             (Ok(is_right), has_refused) => {
-                assert!(rt; is_right && !has_refused, "{granted}");
+                same(&rt, &(granted, is_right && !has_refused), &(granted, true));
                 break;
             }
             (Err(error), has_refused) => {
-                assert_eq!(rt; error, RunError::NoMemory, "{granted}");
-                assert!(rt; has_refused, "{granted}");
+                same(&rt, &(granted, error), &(granted, RunError::NoMemory));
+                same(&rt, &(granted, has_refused), &(granted, true));
                 refusals = refusals.wrapping_add(1);
             }
         }
     }
-    assert!(rt; refusals >= GROWTHS, "{refusals}");
-    assert_eq!(rt; run_with(&rt, MOST, &[]), (Ok(true), false));
+    same(&rt, &(refusals, refusals >= GROWTHS), &(refusals, true));
+    same(&rt, &run_with(&rt, MOST, &[]), &(Ok(true), false));
 }

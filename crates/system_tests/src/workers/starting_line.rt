@@ -4,6 +4,7 @@
 ghost use Rattle.std.specs.Prelude.{◌≤◌};
 ghost use Rattle.stop_history.specs.declared.limits.TheConstants.{TRACERS};
 
+use crate::compare::{holds, same};
 use crate::workers::cases::all;
 use crate::workers::counting::Counting;
 use refusing_allocator::RefusingAllocator;
@@ -60,15 +61,15 @@ fn growths_before<R: Threads + Wait + Clock + AllocGlobal + Sync>(rt: &R) -> Opt
 #[test]
 fn no_tracee_runs_where_one_of_16_workers_has_no_memory(rt: HostRuntime) -> Result<(), Fail> {
     let Some(before) = growths_before(&rt) else {
-        return Ok(assert!(rt; false, "no tracee ran"));
+        return Ok(holds(&rt, false, "no tracee ran"));
     };
     for more in 0..OTHER_GROWTHS {
         for _ in 0..RUNS {
             let has_run = has_run(&rt, before.wrapping_add(more), WORKERS);
-            assert_eq!(rt; has_run, Some(false));
+            same(&rt, &has_run, &Some(false));
         }
     }
     let has_run = has_run(&rt, before.wrapping_add(OTHER_GROWTHS), WORKERS);
-    assert_eq!(rt; has_run, Some(true));
+    same(&rt, &has_run, &Some(true));
     Ok(())
 }

@@ -3,6 +3,7 @@
 //! The compiled test takes seconds. `rt try --test` runs code slowly and needs minutes for it: give it
 //! `--seconds 300`.
 
+use crate::compare::same;
 use crate::workers::cases::all;
 use crate::workers::threaded::Open;
 use std::sync::Wait;
@@ -57,7 +58,11 @@ fn sixteen_workers_serve_64_tracees_of_a_thousand_stops(rt: HostRuntime) -> Resu
     };
     for run in 0..RUNS {
         let printed = run_case(&rt, rt.alloc(), &case, &config, &Open)?;
-        assert!(rt; printed.as_bytes() == text.as_bytes(), "run {run}");
+        same(
+            &rt,
+            &(run, printed.as_bytes() == text.as_bytes()),
+            &(run, true),
+        );
     }
     Ok(())
 }

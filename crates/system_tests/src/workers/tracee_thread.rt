@@ -5,6 +5,7 @@ ghost use Rattle.std.specs.Prelude.{◌<◌, length};
 ghost use Rattle.trace_record.specs.Resume.{IsResume};
 ghost use Rattle.tracer_workers.specs.Threaded.{CanRun};
 
+use crate::compare::same;
 use crate::workers::cases::EXEC;
 use crate::workers::party::{Scripted, new_party};
 use std::alloc::Allocator;
@@ -189,7 +190,7 @@ fn an_exec_does_not_stop_without_its_option(rt: HostRuntime) -> Result<(), Fail>
         to_syscall(Stop::Enter, EXIT, ENOSYS),
     ];
     let options = Options::TRACESYSGOOD;
-    assert_eq!(rt; options.bits(), 0x1);
+    same(&rt, &options.bits(), &0x1);
     let is_right = makes(
         &rt,
         EXEC,
@@ -212,7 +213,7 @@ fn a_filter_hands_its_number_to_the_tracer(rt: HostRuntime) -> Result<(), Fail> 
     ];
     let mut options = Options::TRACESYSGOOD;
     options.insert(Options::TRACESECCOMP);
-    assert_eq!(rt; options.bits(), 0x81);
+    same(&rt, &options.bits(), &0x81);
     let is_right = makes(
         &rt,
         WRITER,
@@ -234,7 +235,7 @@ fn a_tracee_stops_before_its_death(rt: HostRuntime) -> Result<(), Fail> {
     ];
     let mut options = Options::TRACESYSGOOD;
     options.insert(Options::TRACEEXIT);
-    assert_eq!(rt; options.bits(), 0x41);
+    same(&rt, &options.bits(), &0x41);
     let is_right = makes(
         &rt,
         WRITER,

@@ -4,6 +4,7 @@ ghost use Rattle.std.specs.Prelude.{◌≡◌, []};
 ghost use Rattle.stop_table.specs.Tracer.{held_rows};
 ghost use Rattle.tracer_workers.specs.Threaded.{CanRun};
 
+use crate::compare::{holds, same};
 use crate::workers::cases::all;
 use crate::workers::counting::Counting;
 use crate::workers::party::new_party;
@@ -95,8 +96,8 @@ fn count_short<R: Threads + Wait + Clock + AllocGlobal + Sync>(rt: &R) -> Option
 #[test]
 fn a_worker_that_is_refused_a_growth_serves_on(rt: HostRuntime) -> Result<(), Fail> {
     let Some(refusals) = count_short(&rt) else {
-        return Ok(assert!(rt; false, "a worker did not serve all"));
+        return Ok(holds(&rt, false, "a worker did not serve all"));
     };
-    assert!(rt; refusals >= 1, "{refusals}");
+    same(&rt, &(refusals, refusals >= 1), &(refusals, true));
     Ok(())
 }

@@ -3,6 +3,7 @@
 use crate::cells::cast::{Cast, Trio, open_for, open_trio, opened, stopped_trio};
 use crate::cells::desk::{Answer, CONT, Desk};
 use crate::cells::runner::AtRest;
+use crate::compare::{holds, same};
 use crate::rows::{ROOT, THREAD, roots};
 use std::alloc::Allocator;
 use std::test::Fail;
@@ -25,12 +26,16 @@ fn a_root_runs_to_its_first_stop(rt: HostRuntime) -> Result<(), Fail> {
         mut first,
         second,
     } = open_trio(rt.alloc())?;
-    assert_eq!(rt; (first.tracer.number(), second.tracer.number()), (0, 1));
-    assert_eq!(rt; tracee.start(), Start::Born);
-    assert_eq!(rt; first.look(0), Shown::Running);
+    same(
+        &rt,
+        &(first.tracer.number(), second.tracer.number()),
+        &(0, 1),
+    );
+    same(&rt, &tracee.start(), &Start::Born);
+    same(&rt, &first.look(0), &Shown::Running);
     let running = tracee.take_up().ok().expect(&rt, "a root runs");
-    assert_eq!(rt; running.how, CONT);
-    assert_eq!(rt; (running.record.tid, running.record.number), (100, 0));
+    same(&rt, &running.how, &CONT);
+    same(&rt, &(running.record.tid, running.record.number), &(100, 0));
     assert!(rt; running.tracee.holds());
     let tracee = running.publish(Stop::Start, 7).expect(&rt, "a stop");
     assert!(rt; !tracee.tracee.holds());
@@ -38,7 +43,7 @@ fn a_root_runs_to_its_first_stop(rt: HostRuntime) -> Result<(), Fail> {
         number: 1,
         status: START,
     };
-    assert_eq!(rt; first.look(0), stopped);
+    same(&rt, &first.look(0), &stopped);
     Ok(())
 }
 
@@ -51,7 +56,7 @@ fn a_row_that_is_taken_up_is_not_taken_up_again(rt: HostRuntime) -> Result<(), F
     } = open_trio(rt.alloc())?;
     let running = tracee.take_up().ok().expect(&rt, "a root runs");
     let (got_nothing, running) = running.take_up_again();
-    assert!(rt; got_nothing, "its handle has it taken up");
+    holds(&rt, got_nothing, "its handle has it taken up");
     assert!(rt; running.tracee.holds());
     let _tracee = running.publish(Stop::Start, 7).expect(&rt, "a stop");
     let published = Answer::Stop {
@@ -59,7 +64,7 @@ fn a_row_that_is_taken_up_is_not_taken_up_again(rt: HostRuntime) -> Result<(), F
         number: 1,
         mark: 7,
     };
-    assert_eq!(rt; first.try_claim(0), published);
+    same(&rt, &first.try_claim(0), &published);
     Ok(())
 }
 
@@ -72,17 +77,22 @@ fn a_second_claim_gets_nothing(rt: HostRuntime) -> Result<(), Fail> {
     } = stopped_trio(rt.alloc(), Stop::Start, 7)?;
     let claim = first.claim(0).expect(&rt, "the stop");
     let stop = claim.record();
-    assert_eq!(rt; (stop.tid, stop.number, stop.stop), (100, 1, Stop::Start));
-    assert_eq!(rt; stop.regs.rax, 7);
-    assert_eq!(rt;
-        (claim.row(), claim.tracer(), first.tracer.held()),
-        (0, 0, 1)
+    same(
+        &rt,
+        &(stop.tid, stop.number, stop.stop),
+        &(100, 1, Stop::Start),
+    );
+    same(&rt, &stop.regs.rax, &7);
+    same(
+        &rt,
+        &(claim.row(), claim.tracer(), first.tracer.held()),
+        &(0, 0, 1),
     );
     let nothing = Answer::Nothing(Shown::Claimed { number: 1 });
-    assert_eq!(rt; second.try_claim(0), nothing);
+    same(&rt, &second.try_claim(0), &nothing);
     first.resume(claim, SYSCALL);
-    assert_eq!(rt; first.tracer.held(), 0);
-    assert_eq!(rt; resumed(tracee), Some((SYSCALL, 100, 1, 7)));
+    same(&rt, &first.tracer.held(), &0);
+    same(&rt, &resumed(tracee), &Some((SYSCALL, 100, 1, 7)));
     Ok(())
 }
 
@@ -94,14 +104,15 @@ fn the_stop_of_a_tracee_that_was_met_is_claimed(rt: HostRuntime) -> Result<(), F
         second: _,
     } = stopped_trio(rt.alloc(), Stop::Start, 7)?;
     let mut both = first.meet_tracee(tracee);
-    assert_eq!(rt; both.tracer.number(), 0);
-    assert_eq!(rt;
-        both.try_claim(0),
-        Answer::Stop {
+    same(&rt, &both.tracer.number(), &0);
+    same(
+        &rt,
+        &both.try_claim(0),
+        &Answer::Stop {
             tid: 100,
             number: 1,
-            mark: 7
-        }
+            mark: 7,
+        },
     );
     Ok(())
 }
@@ -113,45 +124,52 @@ fn a_death_is_left_by_claim_stop_and_claimed_by_claim(rt: HostRuntime) -> Result
         mut first,
         mut second,
     } = stopped_trio(rt.alloc(), Stop::Enter, 0)?;
-    assert_eq!(rt;
-        first.try_claim_stop(0),
-        Answer::Stop {
+    same(
+        &rt,
+        &first.try_claim_stop(0),
+        &Answer::Stop {
             tid: 100,
             number: 1,
-            mark: 0
-        }
+            mark: 0,
+        },
     );
-    assert!(rt; tracee.ends(3), "it was resumed, and is alone in its group");
+    holds(
+        &rt,
+        tracee.ends(3),
+        "it was resumed, and is alone in its group",
+    );
     // The exit code stands in the second byte of the status.
-    assert_eq!(rt;
-        second.try_claim_stop(0),
-        Answer::Nothing(Shown::Dead {
+    same(
+        &rt,
+        &second.try_claim_stop(0),
+        &Answer::Nothing(Shown::Dead {
             number: 1,
-            status: 0x300
-        })
+            status: 0x300,
+        }),
     );
-    assert_eq!(rt;
-        second.try_claim(0),
-        Answer::Ended {
+    same(
+        &rt,
+        &second.try_claim(0),
+        &Answer::Ended {
             death: Death::Exited(3),
-            number: 1
-        }
+            number: 1,
+        },
     );
-    assert_eq!(rt; first.look(0), Shown::Reaped);
-    assert_eq!(rt; first.try_claim(0), Answer::Nothing(Shown::Reaped));
+    same(&rt, &first.look(0), &Shown::Reaped);
+    same(&rt, &first.try_claim(0), &Answer::Nothing(Shown::Reaped));
     Ok(())
 }
 
 #[test]
 fn at_most_16_tracers_are_opened_for_any_roster(rt: HostRuntime) -> Result<(), Fail> {
     let one = Roster::new(rt.alloc(), &[ROOT])?;
-    assert_eq!(rt; opened(rt.alloc(), &one, 17), Err(OpenError::TooMany));
-    assert_eq!(rt; opened(rt.alloc(), &one, 16), Ok((1, 16)));
+    same(&rt, &opened(rt.alloc(), &one, 17), &Err(OpenError::TooMany));
+    same(&rt, &opened(rt.alloc(), &one, 16), &Ok((1, 16)));
     let nobody = Roster::empty(rt.alloc());
-    assert_eq!(rt; opened(rt.alloc(), &nobody, 1), Ok((0, 1)));
+    same(&rt, &opened(rt.alloc(), &nobody, 1), &Ok((0, 1)));
     let rows = roots(rt.alloc(), 256)?;
     let all = Roster::new(rt.alloc(), rows.as_slice())?;
-    assert_eq!(rt; opened(rt.alloc(), &all, 16), Ok((256, 16)));
+    same(&rt, &opened(rt.alloc(), &all, 16), &Ok((256, 16)));
     Ok(())
 }
 
@@ -180,16 +198,16 @@ fn a_leader_exits_after_its_claimed_thread(rt: HostRuntime) -> Result<(), Fail> 
         number: 1,
         mark: 0,
     };
-    assert_eq!(rt; desk.try_claim(0), cloned);
+    same(&rt, &desk.try_claim(0), &cloned);
     let leader = leader.take_up().ok().expect(&rt, "it was resumed");
     let claim = desk.claim(1).expect(&rt, "the stop of the thread");
     let (other, leader) = leader.exit(0).err().expect(&rt, "its thread is alive");
-    assert_eq!(rt; (other, leader.record.number), (1, 1));
-    assert_eq!(rt; leader.record.stop, Stop::Clone(101));
+    same(&rt, &(other, leader.record.number), &(1, 1));
+    same(&rt, &leader.record.stop, &Stop::Clone(101));
     assert!(rt; leader.tracee.holds());
     desk.resume(claim, CONT);
-    assert!(rt; thread.ends(0), "a thread waits for nobody");
-    assert!(rt; leader.exit(0).is_ok(), "its thread has ended");
+    holds(&rt, thread.ends(0), "a thread waits for nobody");
+    holds(&rt, leader.exit(0).is_ok(), "its thread has ended");
     Ok(())
 }
 
@@ -243,14 +261,14 @@ fn three_claims_are_resumed_in_another_order(rt: HostRuntime) -> Result<(), Fail
     let zero = desk.claim(0).expect(&rt, "the stop of row 0");
     let one = desk.claim(1).expect(&rt, "the stop of row 1");
     let two = desk.claim(2).expect(&rt, "the stop of row 2");
-    assert_eq!(rt; desk.tracer.held(), 3);
+    same(&rt, &desk.tracer.held(), &3);
     desk.resume(one, HOWS[1]);
     desk.resume(two, HOWS[2]);
     desk.resume(zero, HOWS[0]);
-    assert_eq!(rt; desk.tracer.held(), 0);
-    assert_eq!(rt; resumed(first), Some((HOWS[0], 1, 1, 10)));
-    assert_eq!(rt; resumed(second), Some((HOWS[1], 2, 1, 20)));
-    assert_eq!(rt; resumed(third), Some((HOWS[2], 3, 1, 30)));
+    same(&rt, &desk.tracer.held(), &0);
+    same(&rt, &resumed(first), &Some((HOWS[0], 1, 1, 10)));
+    same(&rt, &resumed(second), &Some((HOWS[1], 2, 1, 20)));
+    same(&rt, &resumed(third), &Some((HOWS[2], 3, 1, 30)));
     Ok(())
 }
 

@@ -3,6 +3,7 @@
 use crate::cells::cast::open_for;
 use crate::cells::desk::{Answer, Desk};
 use crate::cells::runner::AtRest;
+use crate::compare::{holds, same};
 use crate::rows::{CHILD, ROOT, THREAD, family};
 use std::alloc::Allocator;
 use std::test::Fail;
@@ -20,12 +21,12 @@ fn open_family<A: Allocator + Copy>(alloc: A) -> Result<(AtRest<A>, AtRest<A>), 
 #[test]
 fn a_child_is_born_by_its_fork(rt: HostRuntime) -> Result<(), Fail> {
     let (parent, mut child) = open_family(rt.alloc())?;
-    assert_eq!(rt; child.start(), Start::NotYet);
+    same(&rt, &child.start(), &Start::NotYet);
     let parent = parent.take_up().ok().expect(&rt, "a root runs");
-    assert_eq!(rt; child.start(), Start::NotYet);
+    same(&rt, &child.start(), &Start::NotYet);
     let _parent = parent.publish(Stop::Fork(101), 0).expect(&rt, "its child");
-    assert_eq!(rt; child.start(), Start::Born);
-    assert!(rt; child.take_up().is_ok(), "it may run");
+    same(&rt, &child.start(), &Start::Born);
+    holds(&rt, child.take_up().is_ok(), "it may run");
     Ok(())
 }
 
@@ -34,10 +35,10 @@ fn a_child_of_a_parent_that_ended_without_a_fork_is_never_born(
     rt: HostRuntime,
 ) -> Result<(), Fail> {
     let (parent, mut child) = open_family(rt.alloc())?;
-    assert_eq!(rt; child.start(), Start::NotYet);
-    assert!(rt; parent.ends(0), "its child is of another group");
-    assert_eq!(rt; child.start(), Start::Never);
-    assert!(rt; child.take_up().is_err(), "it never runs");
+    same(&rt, &child.start(), &Start::NotYet);
+    holds(&rt, parent.ends(0), "its child is of another group");
+    same(&rt, &child.start(), &Start::Never);
+    holds(&rt, child.take_up().is_err(), "it never runs");
     Ok(())
 }
 
@@ -51,8 +52,12 @@ fn open_thread<A: Allocator + Copy>(alloc: A) -> Result<(AtRest<A>, Desk<A>), Fa
 #[test]
 fn a_thread_is_not_born_before_its_clone(rt: HostRuntime) -> Result<(), Fail> {
     let (thread, mut desk) = open_thread(rt.alloc())?;
-    assert!(rt; thread.take_up().is_err(), "its leader has made no clone");
-    assert_eq!(rt; desk.look(1), Shown::Unborn);
+    holds(
+        &rt,
+        thread.take_up().is_err(),
+        "its leader has made no clone",
+    );
+    same(&rt, &desk.look(1), &Shown::Unborn);
     Ok(())
 }
 
@@ -72,22 +77,22 @@ fn open_largest<A: Allocator + Copy>(alloc: A) -> Result<(AtRest<A>, AtRest<A>, 
 fn the_255th_child_is_born_by_the_255th_fork(rt: HostRuntime) -> Result<(), Fail> {
     let (mut root, mut last, mut desk) = open_largest(rt.alloc())?;
     for fork in 1..256 {
-        assert_eq!(rt; last.start(), Start::NotYet, "{fork}");
-        assert_eq!(rt; desk.look(255), Shown::Unborn, "{fork}");
+        same(&rt, &(fork, last.start()), &(fork, Start::NotYet));
+        same(&rt, &(fork, desk.look(255)), &(fork, Shown::Unborn));
         root = root.stop(Stop::Fork(fork + 1), 0)?;
         let stop = Answer::Stop {
             tid: 1,
             number: fork,
             mark: 0,
         };
-        assert_eq!(rt; desk.try_claim(0), stop);
+        same(&rt, &desk.try_claim(0), &stop);
     }
-    assert_eq!(rt; last.start(), Start::Born);
-    assert_eq!(rt; desk.look(255), Shown::Running);
+    same(&rt, &last.start(), &Start::Born);
+    same(&rt, &desk.look(255), &Shown::Running);
     let Ok(running) = root.take_up() else {
         return Err(Fail::new("the root was resumed"));
     };
     let more = running.publish(Stop::Fork(257), 0);
-    assert!(rt; more.is_none(), "it has no 256th child");
+    holds(&rt, more.is_none(), "it has no 256th child");
     Ok(())
 }

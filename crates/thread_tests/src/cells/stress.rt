@@ -6,6 +6,7 @@ ghost use Rattle.std.specs.Prelude.{◌≡◌};
 use crate::cells::cast::{Cast, open_for};
 use crate::cells::desk::{Answer, Desk};
 use crate::cells::runner::{AtRest, Running};
+use crate::compare::holds;
 use crate::rows::roots;
 use std::alloc::Global;
 use std::sync::Wait;
@@ -240,12 +241,13 @@ fn each_stop_has_one_claim(rt: HostRuntime) -> Result<(), Fail> {
     let four = take_four(&mut cast)?;
     let tracees = start_all(rt, &mut cast)?;
     let (all, is_once) = trace_all(&rt, four, tallies);
-    assert!(rt;
+    holds(
+        &rt,
         have_lived(&rt, tracees),
-        "a tracee's calls did what they should"
+        "a tracee's calls did what they should",
     );
     let all = all.expect(&rt, "no claim is left");
-    assert!(rt; sees_all_reaped(all), "each row ended, and was reaped");
-    assert!(rt; is_once, "each stop has one claim");
+    holds(&rt, sees_all_reaped(all), "each row ended, and was reaped");
+    holds(&rt, is_once, "each stop has one claim");
     Ok(())
 }

@@ -5,6 +5,7 @@ ghost use Rattle.stop_table.specs.Handle.{IsHolding};
 
 use crate::cells::cast::{Trio, open_trio, stopped_trio};
 use crate::cells::desk::{CONT, Desk};
+use crate::compare::same;
 use std::alloc::{Allocator, Global};
 use std::sync::Wait;
 use std::sync::atomic::{AtomicU32, Ordering};
@@ -89,12 +90,12 @@ fn of_two_threads_one_claims_the_stop(rt: HostRuntime) -> Result<(), Fail> {
     let (second, second_shown) = resume_any(second);
     let other_won = Some(Shown::Claimed { number: 1 });
     if first_shown.is_none() {
-        assert_eq!(rt; second_shown, other_won);
+        same(&rt, &second_shown, &other_won);
     } else {
-        assert_eq!(rt; (first_shown, second_shown), (other_won, None));
+        same(&rt, &(first_shown, second_shown), &(other_won, None));
     }
     let mut both = first.meet(second).expect(&rt, "it holds nothing");
-    assert_eq!(rt; both.look(0), Shown::Running);
+    same(&rt, &both.look(0), &Shown::Running);
     Ok(())
 }
 
@@ -189,7 +190,8 @@ fn of_two_threads_one_claims_each_of_a_thousand_stops(rt: HostRuntime) -> Result
         wrong,
     } = score;
     println!(rt; "of {ROUNDS} races for a stop the first thread won {first}, the second {second}")?;
-    assert_eq!(rt; wrong, 0, "each round has one winner");
-    assert_eq!(rt; first.wrapping_add(second), ROUNDS);
+    // Each round has one winner.
+    same(&rt, &wrong, &0);
+    same(&rt, &first.wrapping_add(second), &ROUNDS);
     Ok(())
 }

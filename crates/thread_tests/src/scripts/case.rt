@@ -1,5 +1,6 @@
 //! Case files: what is read of them, worked out by hand. Why they are refused is in tests/cases/case_files.cases.
 
+use crate::compare::{holds, same};
 use std::test::Fail;
 use trace_script::{Case, Script, Step};
 
@@ -28,13 +29,14 @@ fn called(script: &Script, at: usize) -> Option<Called<'_>> {
 #[test]
 fn the_worked_case_is_read(rt: HostRuntime) -> Result<(), Fail> {
     let case = Case::read(rt.alloc(), WORKED.as_bytes())?;
-    assert_eq!(rt; case.roster().len(), 2);
-    assert_eq!(rt; case.roster().row(1).parent, 100);
+    same(&rt, &case.roster().len(), &2);
+    same(&rt, &case.roster().row(1).parent, &100);
     let root = case.script(0);
-    assert_eq!(rt; root.steps.len(), 3);
-    assert_eq!(rt;
-        called(root, 0),
-        Some((1, [1, 0x10000, 3, 0, 0, 0], 3, None))
+    same(&rt, &root.steps.len(), &3);
+    same(
+        &rt,
+        &called(root, 0),
+        &Some((1, [1, 0x10000, 3, 0, 0, 0], 3, None)),
     );
     assert!(rt; matches!(root.steps.as_slice().get(1), Some(Step::Fork(101))));
     assert!(rt; matches!(root.steps.as_slice().get(2), Some(Step::Exit(3))));
@@ -45,12 +47,12 @@ fn the_worked_case_is_read(rt: HostRuntime) -> Result<(), Fail> {
         (0x10003, Some(0)),
         (0x11000, None),
     ] {
-        assert_eq!(rt; root.image.memory.byte(addr), byte, "{addr:#x}");
+        same(&rt, &(addr, root.image.memory.byte(addr)), &(addr, byte));
     }
     let child = case.script(1);
-    assert_eq!(rt; child.steps.len(), 1);
+    same(&rt, &child.steps.len(), &1);
     assert!(rt; matches!(child.steps.as_slice().get(0), Some(Step::Exit(0))));
-    assert_eq!(rt; child.image.memory.byte(0x10000), None);
+    same(&rt, &child.image.memory.byte(0x10000), &None);
     Ok(())
 }
 
@@ -65,22 +67,25 @@ const FORMS: &str =
 #[test]
 fn each_line_is_read_in_its_free_forms(rt: HostRuntime) -> Result<(), Fail> {
     let case = Case::read(rt.alloc(), FORMS.as_bytes())?;
-    assert_eq!(rt; case.roster().len(), 1);
+    same(&rt, &case.roster().len(), &1);
     let script = case.script(0);
-    assert_eq!(rt; (script.image.rip, script.image.rsp), (0x30, 64));
-    assert_eq!(rt; script.image.memory.byte(0x20fff), Some(0xff));
-    assert_eq!(rt;
-        called(script, 0),
-        Some((39, [0; 6], 0xffff_ffff_ffff_fffe, None))
+    same(&rt, &(script.image.rip, script.image.rsp), &(0x30, 64));
+    same(&rt, &script.image.memory.byte(0x20fff), &Some(0xff));
+    same(
+        &rt,
+        &called(script, 0),
+        &Some((39, [0; 6], 0xffff_ffff_ffff_fffe, None)),
     );
     let fill = Some((0x20ffb, b"hi\t\n\xff".as_slice()));
-    assert_eq!(rt;
-        called(script, 1),
-        Some((0, [0, 0x20000, 16, 4, 5, 6], 5, fill))
+    same(
+        &rt,
+        &called(script, 1),
+        &Some((0, [0, 0x20000, 16, 4, 5, 6], 5, fill)),
     );
-    assert_eq!(rt;
-        called(script, 6),
-        Some((3, [3, 0, 0, 0, 0, 0], 1 << 63, None))
+    same(
+        &rt,
+        &called(script, 6),
+        &Some((3, [3, 0, 0, 0, 0, 0], 1 << 63, None)),
     );
     match script.steps.as_slice() {
         [
@@ -101,11 +106,11 @@ fn each_line_is_read_in_its_free_forms(rt: HostRuntime) -> Result<(), Fail> {
             Step::Exit(256),
             _,
         ] => {
-            assert_eq!(rt; (image.rip, image.rsp), (9, 10));
-            assert_eq!(rt; image.memory.byte(0x40000), Some(0x2f));
-            assert_eq!(rt; image.memory.byte(0x20000), None);
+            same(&rt, &(image.rip, image.rsp), &(9, 10));
+            same(&rt, &image.memory.byte(0x40000), &Some(0x2f));
+            same(&rt, &image.memory.byte(0x20000), &None);
         }
-        _ => assert!(rt; false, "other steps"),
+        _ => holds(&rt, false, "other steps"),
     }
     Ok(())
 }

@@ -1,5 +1,6 @@
 //! The machine of a scripted tracee: what comes next, worked out by hand from the script.
 
+use crate::compare::{holds, same};
 use std::alloc::Allocator;
 use std::test::Fail;
 use trace_options::{CallSet, Filter, Options, check};
@@ -74,37 +75,36 @@ pub(crate) fn stops_made<A: Allocator>(
 fn every_call_stops_twice_and_a_fork_once_more(rt: HostRuntime) -> Result<(), Fail> {
     let case = Case::read(rt.alloc(), FORK)?;
     let Some(mut machine) = machine_of(rt.alloc(), &case, 0, 0x1b, &no_calls()) else {
-        return Ok(assert!(rt; false, "there is a machine"));
+        return Ok(holds(&rt, false, "there is a machine"));
     };
     let mut record = StopRecord::empty(rt.alloc(), 100);
     let stops = [(CONT, Stop::Start), (SYSCALL, Stop::Enter)];
-    assert_eq!(rt; stops_made(&mut machine, &mut record, &stops), 2);
+    same(&rt, &stops_made(&mut machine, &mut record, &stops), &2);
     let regs = record.regs;
-    assert_eq!(rt;
-        (regs.orig_rax, regs.rdi, regs.rsi, regs.rdx),
-        (1, 1, 0x10000, 3)
+    same(
+        &rt,
+        &(regs.orig_rax, regs.rdi, regs.rsi, regs.rdx),
+        &(1, 1, 0x10000, 3),
     );
-    assert_eq!(rt; (regs.rax, regs.rip), (NO_ANSWER, 2));
-    assert_eq!(rt; record.memory.byte(0x10001), Some(0x69));
-    assert_eq!(rt;
-        stops_made(&mut machine, &mut record, &[(SYSCALL, Stop::Exit)]),
-        1
+    same(&rt, &(regs.rax, regs.rip), &(NO_ANSWER, 2));
+    same(&rt, &record.memory.byte(0x10001), &Some(0x69));
+    same(
+        &rt,
+        &stops_made(&mut machine, &mut record, &[(SYSCALL, Stop::Exit)]),
+        &1,
     );
-    assert_eq!(rt; record.regs.rax, 3);
+    same(&rt, &record.regs.rax, &3);
     let stops = [(SYSCALL, Stop::Enter), (SYSCALL, Stop::Fork(101))];
-    assert_eq!(rt; stops_made(&mut machine, &mut record, &stops), 2);
-    assert_eq!(rt; (record.tid, record.number), (100, 5));
-    assert_eq!(rt; (record.regs.orig_rax, record.regs.rip), (57, 4));
+    same(&rt, &stops_made(&mut machine, &mut record, &stops), &2);
+    same(&rt, &(record.tid, record.number), &(100, 5));
+    same(&rt, &(record.regs.orig_rax, record.regs.rip), &(57, 4));
     let stops = [(SYSCALL, Stop::Exit), (SYSCALL, Stop::Enter)];
-    assert_eq!(rt; stops_made(&mut machine, &mut record, &stops), 2);
-    assert_eq!(rt; record.number, 7);
+    same(&rt, &stops_made(&mut machine, &mut record, &stops), &2);
+    same(&rt, &record.number, &7);
     let death = Next::Death(Death::Exited(3));
-    assert_eq!(rt; machine.next(SYSCALL, &mut record), death);
-    assert_eq!(rt;
-        machine.next(CONT, &mut record),
-        death,
-        "a death is answered again"
-    );
+    same(&rt, &machine.next(SYSCALL, &mut record), &death);
+    // A death is answered again.
+    same(&rt, &machine.next(CONT, &mut record), &death);
     Ok(())
 }
 
@@ -114,7 +114,7 @@ fn a_filter_stops_its_calls_alone(rt: HostRuntime) -> Result<(), Fail> {
     let mut filter = no_calls();
     filter.calls.add(1);
     let Some(mut machine) = machine_of(rt.alloc(), &case, 0, 0x9b, &filter) else {
-        return Ok(assert!(rt; false, "there is a machine"));
+        return Ok(holds(&rt, false, "there is a machine"));
     };
     let mut record = StopRecord::empty(rt.alloc(), 100);
     let stops = [
@@ -123,10 +123,11 @@ fn a_filter_stops_its_calls_alone(rt: HostRuntime) -> Result<(), Fail> {
         (SYSCALL, Stop::Exit),
         (CONT, Stop::Fork(101)),
     ];
-    assert_eq!(rt; stops_made(&mut machine, &mut record, &stops), 4);
-    assert_eq!(rt;
-        machine.next(CONT, &mut record),
-        Next::Death(Death::Exited(3))
+    same(&rt, &stops_made(&mut machine, &mut record, &stops), &4);
+    same(
+        &rt,
+        &machine.next(CONT, &mut record),
+        &Next::Death(Death::Exited(3)),
     );
     Ok(())
 }
@@ -137,30 +138,37 @@ fn a_fault_changes_nothing(rt: HostRuntime) -> Result<(), Fail> {
         b"tracee 100 100 77 0\npage 0x10000\ncall read 0 0x10000 1 = 1 fill 0x10000 61\nend\n";
     let case = Case::read(rt.alloc(), text)?;
     let Some(mut machine) = machine_of(rt.alloc(), &case, 0, 0x1, &no_calls()) else {
-        return Ok(assert!(rt; false, "there is a machine"));
+        return Ok(holds(&rt, false, "there is a machine"));
     };
     let mut record = StopRecord::empty(rt.alloc(), 100);
     let stops = [(CONT, Stop::Start), (SYSCALL, Stop::Enter)];
-    assert_eq!(rt; stops_made(&mut machine, &mut record, &stops), 2);
+    same(&rt, &stops_made(&mut machine, &mut record, &stops), &2);
     let mut empty = Memory::new(rt.alloc());
     std::mem::swap(&mut record.memory, &mut empty);
-    assert_eq!(rt; machine.next(SYSCALL, &mut record), Next::Fault(0x10000));
-    assert_eq!(rt; machine.next(CONT, &mut record), Next::Fault(0x10000));
-    assert_eq!(rt; (record.stop, record.number), (Stop::Enter, 2));
+    same(
+        &rt,
+        &machine.next(SYSCALL, &mut record),
+        &Next::Fault(0x10000),
+    );
+    same(&rt, &machine.next(CONT, &mut record), &Next::Fault(0x10000));
+    same(&rt, &(record.stop, record.number), &(Stop::Enter, 2));
     std::mem::swap(&mut record.memory, &mut empty);
-    assert_eq!(rt; record.memory.byte(0x10000), Some(0));
-    assert_eq!(rt;
-        stops_made(&mut machine, &mut record, &[(SYSCALL, Stop::Exit)]),
-        1
+    same(&rt, &record.memory.byte(0x10000), &Some(0));
+    same(
+        &rt,
+        &stops_made(&mut machine, &mut record, &[(SYSCALL, Stop::Exit)]),
+        &1,
     );
-    assert_eq!(rt;
-        (record.memory.byte(0x10000), record.regs.rax),
-        (Some(0x61), 1)
+    same(
+        &rt,
+        &(record.memory.byte(0x10000), record.regs.rax),
+        &(Some(0x61), 1),
     );
-    assert_eq!(rt;
-        machine.next(CONT, &mut record),
-        Next::Death(Death::Exited(0)),
-        "the script runs out"
+    // The script runs out.
+    same(
+        &rt,
+        &machine.next(CONT, &mut record),
+        &Next::Death(Death::Exited(0)),
     );
     Ok(())
 }
@@ -172,40 +180,49 @@ fn an_exec_puts_another_program_in(rt: HostRuntime) -> Result<(), Fail> {
         call read 0 0x20000 1 = 1 fill 0x20000 62\nexit 0\nend\n";
     let case = Case::read(rt.alloc(), text)?;
     let Some(mut machine) = machine_of(rt.alloc(), &case, 0, 0x11, &no_calls()) else {
-        return Ok(assert!(rt; false, "there is a machine"));
+        return Ok(holds(&rt, false, "there is a machine"));
     };
     let mut record = StopRecord::empty(rt.alloc(), 400);
     let stops = [(CONT, Stop::Start), (SYSCALL, Stop::Enter)];
-    assert_eq!(rt; stops_made(&mut machine, &mut record, &stops), 2);
-    assert_eq!(rt;
-        (record.regs.rip, record.regs.rsp, record.regs.rdi),
-        (3, 2, 0x10000)
+    same(&rt, &stops_made(&mut machine, &mut record, &stops), &2);
+    same(
+        &rt,
+        &(record.regs.rip, record.regs.rsp, record.regs.rdi),
+        &(3, 2, 0x10000),
     );
-    assert_eq!(rt;
-        stops_made(&mut machine, &mut record, &[(SYSCALL, Stop::Exec(400))]),
-        1
+    same(
+        &rt,
+        &stops_made(&mut machine, &mut record, &[(SYSCALL, Stop::Exec(400))]),
+        &1,
     );
-    assert_eq!(rt; (record.regs.rip, record.regs.rsp), (0x20000, 0x20ff0));
-    assert_eq!(rt; (record.regs.rdi, record.regs.rax), (0x10000, NO_ANSWER));
-    assert_eq!(rt;
-        (record.memory.byte(0x10000), record.memory.byte(0x20000)),
-        (None, Some(0))
+    same(
+        &rt,
+        &(record.regs.rip, record.regs.rsp),
+        &(0x20000, 0x20ff0),
+    );
+    same(
+        &rt,
+        &(record.regs.rdi, record.regs.rax),
+        &(0x10000, NO_ANSWER),
+    );
+    same(
+        &rt,
+        &(record.memory.byte(0x10000), record.memory.byte(0x20000)),
+        &(None, Some(0)),
     );
     let stops = [
         (SYSCALL, Stop::Exit),
         (SYSCALL, Stop::Enter),
         (SYSCALL, Stop::Exit),
     ];
-    assert_eq!(rt; stops_made(&mut machine, &mut record, &stops), 3);
-    assert_eq!(rt;
-        (record.regs.orig_rax, record.regs.rax, record.regs.rip),
-        (0, 1, 0x20002)
+    same(&rt, &stops_made(&mut machine, &mut record, &stops), &3);
+    same(
+        &rt,
+        &(record.regs.orig_rax, record.regs.rax, record.regs.rip),
+        &(0, 1, 0x20002),
     );
-    assert_eq!(rt;
-        record.memory.byte(0x20000),
-        Some(0x62),
-        "the fill is in the new program"
-    );
+    // The fill is in the new program.
+    same(&rt, &record.memory.byte(0x20000), &Some(0x62));
     Ok(())
 }
 
@@ -232,16 +249,16 @@ fn a_deadly_signal_kills_by_the_signal_of_the_restart(rt: HostRuntime) -> Result
     ];
     for (signal, death) in &deaths {
         let Some(mut machine) = machine_of(rt.alloc(), &case, 0, 0x1, &no_calls()) else {
-            return Ok(assert!(rt; false, "there is a machine"));
+            return Ok(holds(&rt, false, "there is a machine"));
         };
         let mut record = StopRecord::empty(rt.alloc(), 200);
         let stops = [(CONT, Stop::Start), (CONT, Stop::Signal(15))];
-        assert_eq!(rt; stops_made(&mut machine, &mut record, &stops), 2);
+        same(&rt, &stops_made(&mut machine, &mut record, &stops), &2);
         let how = Resume {
             kind: Kind::Cont,
             signal: *signal,
         };
-        assert_eq!(rt; machine.next(how, &mut record), Next::Death(*death));
+        same(&rt, &machine.next(how, &mut record), &Next::Death(*death));
     }
     Ok(())
 }
@@ -250,22 +267,27 @@ fn a_deadly_signal_kills_by_the_signal_of_the_restart(rt: HostRuntime) -> Result
 fn a_thread_is_a_clone_with_its_flags(rt: HostRuntime) -> Result<(), Fail> {
     let case = Case::read(rt.alloc(), THREAD)?;
     let Some(mut machine) = machine_of(rt.alloc(), &case, 0, 0xb, &no_calls()) else {
-        return Ok(assert!(rt; false, "there is a machine"));
+        return Ok(holds(&rt, false, "there is a machine"));
     };
     let mut record = StopRecord::empty(rt.alloc(), 5);
     let stops = [(CONT, Stop::Start), (SYSCALL, Stop::Enter)];
-    assert_eq!(rt; stops_made(&mut machine, &mut record, &stops), 2);
-    assert_eq!(rt; (record.regs.orig_rax, record.regs.rdi), (56, 0x10900));
+    same(&rt, &stops_made(&mut machine, &mut record, &stops), &2);
+    same(
+        &rt,
+        &(record.regs.orig_rax, record.regs.rdi),
+        &(56, 0x10900),
+    );
     let stops = [
         (CONT, Stop::Clone(6)),
         (SYSCALL, Stop::Exit),
         (CONT, Stop::Signal(31)),
     ];
-    assert_eq!(rt; stops_made(&mut machine, &mut record, &stops), 3);
-    assert_eq!(rt; record.regs.rax, 6);
-    assert_eq!(rt;
-        machine.next(CONT, &mut record),
-        Next::Death(Death::Exited(0))
+    same(&rt, &stops_made(&mut machine, &mut record, &stops), &3);
+    same(&rt, &record.regs.rax, &6);
+    same(
+        &rt,
+        &machine.next(CONT, &mut record),
+        &Next::Death(Death::Exited(0)),
     );
     Ok(())
 }
@@ -274,16 +296,18 @@ fn a_thread_is_a_clone_with_its_flags(rt: HostRuntime) -> Result<(), Fail> {
 fn a_script_of_no_steps_stops_once(rt: HostRuntime) -> Result<(), Fail> {
     let case = Case::read(rt.alloc(), b"tracee 7 7 7 0\nend\n")?;
     let Some(mut machine) = machine_of(rt.alloc(), &case, 0, 0x1, &no_calls()) else {
-        return Ok(assert!(rt; false, "there is a machine"));
+        return Ok(holds(&rt, false, "there is a machine"));
     };
     let mut record = StopRecord::empty(rt.alloc(), 7);
-    assert_eq!(rt;
-        stops_made(&mut machine, &mut record, &[(SYSCALL, Stop::Start)]),
-        1
+    same(
+        &rt,
+        &stops_made(&mut machine, &mut record, &[(SYSCALL, Stop::Start)]),
+        &1,
     );
-    assert_eq!(rt;
-        machine.next(SYSCALL, &mut record),
-        Next::Death(Death::Exited(0))
+    same(
+        &rt,
+        &machine.next(SYSCALL, &mut record),
+        &Next::Death(Death::Exited(0)),
     );
     Ok(())
 }
@@ -292,19 +316,21 @@ fn a_script_of_no_steps_stops_once(rt: HostRuntime) -> Result<(), Fail> {
 fn a_child_has_a_script_of_its_own(rt: HostRuntime) -> Result<(), Fail> {
     let case = Case::read(rt.alloc(), FORK)?;
     let Some(mut machine) = machine_of(rt.alloc(), &case, 1, 0x1b, &no_calls()) else {
-        return Ok(assert!(rt; false, "there is a machine"));
+        return Ok(holds(&rt, false, "there is a machine"));
     };
     let mut record = StopRecord::empty(rt.alloc(), 101);
     let stops = [(CONT, Stop::Start), (SYSCALL, Stop::Enter)];
-    assert_eq!(rt; stops_made(&mut machine, &mut record, &stops), 2);
-    assert_eq!(rt;
-        (record.tid, record.regs.orig_rax, record.regs.rdi),
-        (101, 60, 0)
+    same(&rt, &stops_made(&mut machine, &mut record, &stops), &2);
+    same(
+        &rt,
+        &(record.tid, record.regs.orig_rax, record.regs.rdi),
+        &(101, 60, 0),
     );
-    assert_eq!(rt; record.memory.byte(0x10000), None);
-    assert_eq!(rt;
-        machine.next(SYSCALL, &mut record),
-        Next::Death(Death::Exited(0))
+    same(&rt, &record.memory.byte(0x10000), &None);
+    same(
+        &rt,
+        &machine.next(SYSCALL, &mut record),
+        &Next::Death(Death::Exited(0)),
     );
     Ok(())
 }
@@ -336,26 +362,28 @@ const TERMINATE: Resume = Resume {
 fn an_exit_stops_before_the_death(rt: HostRuntime) -> Result<(), Fail> {
     let case = Case::read(rt.alloc(), FORK)?;
     let Some(mut machine) = machine_of(rt.alloc(), &case, 0, 0x5b, &no_calls()) else {
-        return Ok(assert!(rt; false, "there is a machine"));
+        return Ok(holds(&rt, false, "there is a machine"));
     };
     let mut record = StopRecord::empty(rt.alloc(), 100);
-    assert_eq!(rt; stops_made(&mut machine, &mut record, &STOPS), 7);
+    same(&rt, &stops_made(&mut machine, &mut record, &STOPS), &7);
     let regs = record.regs;
     let ending = Stop::Ending(Death::Exited(3));
-    assert_eq!(rt;
-        stops_made(&mut machine, &mut record, &[(SYSCALL, ending)]),
-        1
+    same(
+        &rt,
+        &stops_made(&mut machine, &mut record, &[(SYSCALL, ending)]),
+        &1,
     );
-    assert_eq!(rt; (record.tid, record.number), (100, 8));
-    assert_eq!(rt; record.event_message(), 768);
-    assert_eq!(rt; record.regs, regs);
-    assert_eq!(rt; record.memory.byte(0x10001), Some(0x69));
-    assert_eq!(rt;
-        machine.next(TERMINATE, &mut record),
-        Next::Death(Death::Exited(3)),
-        "its restart changes nothing"
+    same(&rt, &(record.tid, record.number), &(100, 8));
+    same(&rt, &record.event_message(), &768);
+    same(&rt, &record.regs, &regs);
+    same(&rt, &record.memory.byte(0x10001), &Some(0x69));
+    // Its restart changes nothing.
+    same(
+        &rt,
+        &machine.next(TERMINATE, &mut record),
+        &Next::Death(Death::Exited(3)),
     );
-    assert_eq!(rt; record.number, 8);
+    same(&rt, &record.number, &8);
     Ok(())
 }
 
@@ -364,7 +392,7 @@ fn a_deadly_signal_stops_before_the_death(rt: HostRuntime) -> Result<(), Fail> {
     let text = b"tracee 200 200 200 0\nsignal 15 deadly\nexit 0\nend\n";
     let case = Case::read(rt.alloc(), text)?;
     let Some(mut machine) = machine_of(rt.alloc(), &case, 0, 0x41, &no_calls()) else {
-        return Ok(assert!(rt; false, "there is a machine"));
+        return Ok(holds(&rt, false, "there is a machine"));
     };
     let mut record = StopRecord::empty(rt.alloc(), 200);
     let stops = [
@@ -372,13 +400,13 @@ fn a_deadly_signal_stops_before_the_death(rt: HostRuntime) -> Result<(), Fail> {
         (CONT, Stop::Signal(15)),
         (TERMINATE, Stop::Ending(TERMINATED)),
     ];
-    assert_eq!(rt; stops_made(&mut machine, &mut record, &stops), 3);
-    assert_eq!(rt; record.event_message(), 15);
+    same(&rt, &stops_made(&mut machine, &mut record, &stops), &3);
+    same(&rt, &record.event_message(), &15);
     let death = Next::Death(TERMINATED);
-    assert_eq!(rt; machine.next(CONT, &mut record), death);
-    assert_eq!(rt; record.number, 3);
+    same(&rt, &machine.next(CONT, &mut record), &death);
+    same(&rt, &record.number, &3);
     let Some(mut saved) = machine_of(rt.alloc(), &case, 0, 0x41, &no_calls()) else {
-        return Ok(assert!(rt; false, "there is a machine"));
+        return Ok(holds(&rt, false, "there is a machine"));
     };
     let mut record = StopRecord::empty(rt.alloc(), 200);
     let stops = [
@@ -386,11 +414,8 @@ fn a_deadly_signal_stops_before_the_death(rt: HostRuntime) -> Result<(), Fail> {
         (CONT, Stop::Signal(15)),
         (CONT, Stop::Ending(Death::Exited(0))),
     ];
-    assert_eq!(rt;
-        stops_made(&mut saved, &mut record, &stops),
-        3,
-        "a signal that is not handed over does not kill"
-    );
+    // A signal that is not handed over does not kill.
+    same(&rt, &stops_made(&mut saved, &mut record, &stops), &3);
     Ok(())
 }
 
@@ -398,17 +423,17 @@ fn a_deadly_signal_stops_before_the_death(rt: HostRuntime) -> Result<(), Fail> {
 fn a_script_that_runs_out_stops_before_the_death(rt: HostRuntime) -> Result<(), Fail> {
     let case = Case::read(rt.alloc(), b"tracee 7 7 7 0\nend\n")?;
     let Some(mut machine) = machine_of(rt.alloc(), &case, 0, 0x41, &no_calls()) else {
-        return Ok(assert!(rt; false, "there is a machine"));
+        return Ok(holds(&rt, false, "there is a machine"));
     };
     let mut record = StopRecord::empty(rt.alloc(), 7);
     let ending = Stop::Ending(Death::Exited(0));
     let stops = [(CONT, Stop::Start), (SYSCALL, ending)];
-    assert_eq!(rt; stops_made(&mut machine, &mut record, &stops), 2);
-    assert_eq!(rt; record.event_message(), 0);
+    same(&rt, &stops_made(&mut machine, &mut record, &stops), &2);
+    same(&rt, &record.event_message(), &0);
     let death = Next::Death(Death::Exited(0));
-    assert_eq!(rt; machine.next(SYSCALL, &mut record), death);
-    assert_eq!(rt; machine.next(CONT, &mut record), death);
-    assert_eq!(rt; (record.stop, record.number), (ending, 2));
+    same(&rt, &machine.next(SYSCALL, &mut record), &death);
+    same(&rt, &machine.next(CONT, &mut record), &death);
+    same(&rt, &(record.stop, record.number), &(ending, 2));
     Ok(())
 }
 
@@ -418,14 +443,18 @@ fn a_fault_stops_before_no_death(rt: HostRuntime) -> Result<(), Fail> {
         b"tracee 100 100 77 0\npage 0x10000\ncall read 0 0x10000 1 = 1 fill 0x10000 61\nend\n";
     let case = Case::read(rt.alloc(), text)?;
     let Some(mut machine) = machine_of(rt.alloc(), &case, 0, 0x41, &no_calls()) else {
-        return Ok(assert!(rt; false, "there is a machine"));
+        return Ok(holds(&rt, false, "there is a machine"));
     };
     let mut record = StopRecord::empty(rt.alloc(), 100);
     let stops = [(CONT, Stop::Start), (SYSCALL, Stop::Enter)];
-    assert_eq!(rt; stops_made(&mut machine, &mut record, &stops), 2);
+    same(&rt, &stops_made(&mut machine, &mut record, &stops), &2);
     record.memory = Memory::new(rt.alloc());
-    assert_eq!(rt; machine.next(SYSCALL, &mut record), Next::Fault(0x10000));
-    assert_eq!(rt; machine.next(CONT, &mut record), Next::Fault(0x10000));
-    assert_eq!(rt; (record.stop, record.number), (Stop::Enter, 2));
+    same(
+        &rt,
+        &machine.next(SYSCALL, &mut record),
+        &Next::Fault(0x10000),
+    );
+    same(&rt, &machine.next(CONT, &mut record), &Next::Fault(0x10000));
+    same(&rt, &(record.stop, record.number), &(Stop::Enter, 2));
     Ok(())
 }

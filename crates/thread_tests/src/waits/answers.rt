@@ -1,6 +1,7 @@
 //! What waits answer while one thread plays every actor.
 
 use crate::cells::cast::{Cast, open_for};
+use crate::compare::same;
 use crate::rows::row;
 use crate::waits::caller::{both, end, over_running_root, over_stopped_root, root_and_waiter};
 use std::alloc::Allocator;
@@ -24,11 +25,16 @@ fn over_nobody<A: Allocator + Copy>(alloc: A) -> Result<Calls<A>, Fail> {
 #[test]
 fn without_tracees_there_is_no_child(rt: HostRuntime) -> Result<(), Fail> {
     let mut calls = over_nobody(rt.alloc())?;
-    assert_eq!(rt;
-        calls.waitid(Id::All, WaitFlags::WEXITED),
-        Err(Errno::ECHILD)
+    same(
+        &rt,
+        &calls.waitid(Id::All, WaitFlags::WEXITED),
+        &Err(Errno::ECHILD),
     );
-    assert_eq!(rt; calls.waitpid(-1, WaitFlags::WNOHANG), Err(Errno::ECHILD));
+    same(
+        &rt,
+        &calls.waitpid(-1, WaitFlags::WNOHANG),
+        &Err(Errno::ECHILD),
+    );
     let _tracer = end(&rt, calls, &[]);
     Ok(())
 }
@@ -46,7 +52,7 @@ fn arguments_are_tested_before_tracees(rt: HostRuntime) -> Result<(), Fail> {
         (Id::PGid(0), WaitFlags::WEXITED),
         (Id::PGid(-77), WaitFlags::WEXITED),
     ] {
-        assert_eq!(rt; calls.waitid(id, flags), Err(Errno::EINVAL));
+        same(&rt, &calls.waitid(id, flags), &Err(Errno::EINVAL));
     }
     for (pid, flags) in [
         (100, WaitFlags::WNOWAIT),
@@ -54,12 +60,16 @@ fn arguments_are_tested_before_tracees(rt: HostRuntime) -> Result<(), Fail> {
         (0, WaitFlags::WNOHANG),
         (i32::MIN, WaitFlags::WNOHANG),
     ] {
-        assert_eq!(rt; calls.waitpid(pid, flags), Err(Errno::EINVAL));
+        same(&rt, &calls.waitpid(pid, flags), &Err(Errno::EINVAL));
     }
     let gone = calls.waitid(Id::Pid(999), WaitFlags::WEXITED);
-    assert_eq!(rt; gone, Err(Errno::ECHILD));
+    same(&rt, &gone, &Err(Errno::ECHILD));
     let found = waits(&mut calls, [999, 100]);
-    assert_eq!(rt; found, [Err(Errno::ECHILD), Ok(WaitStatus::StillAlive)]);
+    same(
+        &rt,
+        &found,
+        &[Err(Errno::ECHILD), Ok(WaitStatus::StillAlive)],
+    );
     let _tracer = end(&rt, calls, &[]);
     Ok(())
 }
@@ -81,15 +91,15 @@ fn looked<A: Allocator>(
 #[test]
 fn wnowait_leaves_the_stop_to_the_next_wait(rt: HostRuntime) -> Result<(), Fail> {
     let mut calls = over_stopped_root(rt.alloc(), Stop::Start)?;
-    assert_eq!(rt; (calls.count(100), calls.count(999)), (Some(0), None));
+    same(&rt, &(calls.count(100), calls.count(999)), &(Some(0), None));
     for _ in 0..2 {
         let peeked = looked(&mut calls, WaitFlags::WNOWAIT);
-        assert_eq!(rt; peeked, (started(100), Some(1), false));
+        same(&rt, &peeked, &(started(100), Some(1), false));
     }
     let claimed = looked(&mut calls, WaitFlags::WSTOPPED);
-    assert_eq!(rt; claimed, (started(100), Some(1), true));
+    same(&rt, &claimed, &(started(100), Some(1), true));
     let nothing = looked(&mut calls, WaitFlags::WSTOPPED);
-    assert_eq!(rt; nothing, (Ok(WaitStatus::StillAlive), Some(1), true));
+    same(&rt, &nothing, &(Ok(WaitStatus::StillAlive), Some(1), true));
     let _tracer = end(&rt, calls, &[100]);
     Ok(())
 }
@@ -120,13 +130,14 @@ fn rows_are_tried_in_the_order_of_the_roster(rt: HostRuntime) -> Result<(), Fail
     let mut calls = over_two_starts(rt.alloc())?;
     let nothing = Ok(WaitStatus::StillAlive);
     let of_group = waits(&mut calls, [-77, -77]);
-    assert_eq!(rt; of_group, [started(100), nothing]);
-    assert_eq!(rt;
-        calls.waitid(Id::Pid(101), WaitFlags::WEXITED),
-        Err(Errno::ECHILD)
+    same(&rt, &of_group, &[started(100), nothing]);
+    same(
+        &rt,
+        &calls.waitid(Id::Pid(101), WaitFlags::WEXITED),
+        &Err(Errno::ECHILD),
     );
     let of_all = waits(&mut calls, [-1, -1]);
-    assert_eq!(rt; of_all, [started(200), nothing]);
+    same(&rt, &of_all, &[started(200), nothing]);
     let _tracer = end(&rt, calls, &[100, 200]);
     Ok(())
 }
@@ -153,8 +164,8 @@ fn a_parent_comes_before_its_child(rt: HostRuntime) -> Result<(), Fail> {
     // PTRACE_EVENT_FORK is 1.
     let forked = Ok(WaitStatus::PtraceEvent(100, 5, 1));
     let found = waits(&mut calls, [-1, -1]);
-    assert_eq!(rt; found, [forked, started(101)]);
-    assert_eq!(rt; calls.getevent(100), Ok(101));
+    same(&rt, &found, &[forked, started(101)]);
+    same(&rt, &calls.getevent(100), &Ok(101));
     let _tracer = end(&rt, calls, &[100, 101]);
     Ok(())
 }
@@ -165,9 +176,9 @@ fn an_exit_is_reported_before_the_death(rt: HostRuntime) -> Result<(), Fail> {
     // PTRACE_EVENT_EXIT is 6; the message is the raw wait status of the death.
     let exits = Ok(WaitStatus::PtraceEvent(100, 5, 6));
     let found = waits(&mut calls, [-1, -1]);
-    assert_eq!(rt; found, [exits, Ok(WaitStatus::StillAlive)]);
-    assert_eq!(rt; calls.getevent(100), Ok(0x300));
-    assert_eq!(rt; calls.count(100), Some(1));
+    same(&rt, &found, &[exits, Ok(WaitStatus::StillAlive)]);
+    same(&rt, &calls.getevent(100), &Ok(0x300));
+    same(&rt, &calls.count(100), &Some(1));
     let _tracer = end(&rt, calls, &[100]);
     Ok(())
 }
@@ -187,12 +198,12 @@ fn a_death_is_reaped_once(rt: HostRuntime) -> Result<(), Fail> {
     let peek = both(WaitFlags::WEXITED, WaitFlags::WNOWAIT);
     let gone = Err(Errno::ECHILD);
     let died = Ok(WaitStatus::Exited(100, 3));
-    assert_eq!(rt; calls.waitid(Id::Pid(100), WaitFlags::WSTOPPED), gone);
-    assert_eq!(rt; calls.waitid(Id::Pid(100), peek), died);
+    same(&rt, &calls.waitid(Id::Pid(100), WaitFlags::WSTOPPED), &gone);
+    same(&rt, &calls.waitid(Id::Pid(100), peek), &died);
     let found = waits(&mut calls, [100, 100]);
-    assert_eq!(rt; found, [died, gone]);
-    assert_eq!(rt; calls.waitid(Id::Pid(100), peek), gone);
-    assert_eq!(rt; calls.count(100), Some(0));
+    same(&rt, &found, &[died, gone]);
+    same(&rt, &calls.waitid(Id::Pid(100), peek), &gone);
+    same(&rt, &calls.count(100), &Some(0));
     let _tracer = end(&rt, calls, &[]);
     Ok(())
 }
@@ -203,10 +214,11 @@ fn with_wnohang_a_blocking_wait_answers_at_once(rt: HostRuntime) -> Result<(), F
     let flags = both(WaitFlags::WEXITED, WaitFlags::WNOHANG);
     // The root runs, and nothing will ever be reported of it.
     let nothing = Ok(WaitStatus::StillAlive);
-    assert_eq!(rt; calls.waitid_blocking(&rt, Id::All, flags), nothing);
-    assert_eq!(rt;
-        calls.waitpid_blocking(&rt, -1, WaitFlags::WNOHANG),
-        nothing
+    same(&rt, &calls.waitid_blocking(&rt, Id::All, flags), &nothing);
+    same(
+        &rt,
+        &calls.waitpid_blocking(&rt, -1, WaitFlags::WNOHANG),
+        &nothing,
     );
     let _tracer = end(&rt, calls, &[]);
     Ok(())

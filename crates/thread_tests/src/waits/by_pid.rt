@@ -1,6 +1,7 @@
 //! The calls by pid on a tracee that is claimed, and on one that is not.
 
 use crate::cells::runner::{AtRest, Running};
+use crate::compare::{holds, same};
 use crate::waits::answers::started;
 use crate::waits::caller::{Waiter, end, over_stopped_root, root_and_waiter, with_stopped_root};
 use std::alloc::{Allocator, Global};
@@ -52,18 +53,22 @@ fn over_a_page(alloc: Global) -> Result<Calls, Fail> {
 #[test]
 fn what_is_claimed_is_read(rt: HostRuntime) -> Result<(), Fail> {
     let mut calls = over_a_page(rt.alloc())?;
-    assert_eq!(rt; calls.read(100, 0x10000), Err(Errno::ESRCH));
-    assert_eq!(rt; calls.waitid(Id::All, WaitFlags::WSTOPPED), started(100));
+    same(&rt, &calls.read(100, 0x10000), &Err(Errno::ESRCH));
+    same(
+        &rt,
+        &calls.waitid(Id::All, WaitFlags::WSTOPPED),
+        &started(100),
+    );
     let found = words(&mut calls);
     let eio = Err(Errno::EIO);
-    assert_eq!(rt; found, [Ok(0x6867_6665_6463_6261), Ok(0), eio, eio]);
-    assert_eq!(rt; calls.getevent(100), Ok(0));
+    same(&rt, &found, &[Ok(0x6867_6665_6463_6261), Ok(0), eio, eio]);
+    same(&rt, &calls.getevent(100), &Ok(0));
     let rax = calls.getregs(100).ok().map(|regs| regs.rax);
-    assert_eq!(rt; rax, Some(5));
+    same(&rt, &rax, &Some(5));
     let seen = calls
         .claimed(100)
         .map(|record| (record.tid, record.number, record.stop));
-    assert_eq!(rt; seen, Some((100, 1, Stop::Start)));
+    same(&rt, &seen, &Some((100, 1, Stop::Start)));
     let _tracer = end(&rt, calls, &[100]);
     Ok(())
 }
@@ -72,14 +77,18 @@ fn what_is_claimed_is_read(rt: HostRuntime) -> Result<(), Fail> {
 fn what_is_claimed_is_resumed(rt: HostRuntime) -> Result<(), Fail> {
     let (root, mut calls) = with_stopped_root(rt.alloc(), Stop::Start)?;
     let esrch = Err(Errno::ESRCH);
-    assert_eq!(rt; calls.waitid(Id::All, WaitFlags::WSTOPPED), started(100));
+    same(
+        &rt,
+        &calls.waitid(Id::All, WaitFlags::WSTOPPED),
+        &started(100),
+    );
     let refused = refusals(&mut calls);
-    assert_eq!(rt; refused, [Err(Errno::EIO), esrch, esrch]);
-    assert!(rt; calls.claimed(100).is_some(), "it is still claimed");
-    assert_eq!(rt; calls.syscall(100, None), Ok(()));
-    assert_eq!(rt; calls.syscall(100, None), esrch);
-    assert_eq!(rt; calls.getregs(100).err(), Some(Errno::ESRCH));
-    assert_eq!(rt; restart_of(root), Some((Kind::Syscall, 0)));
+    same(&rt, &refused, &[Err(Errno::EIO), esrch, esrch]);
+    holds(&rt, calls.claimed(100).is_some(), "it is still claimed");
+    same(&rt, &calls.syscall(100, None), &Ok(()));
+    same(&rt, &calls.syscall(100, None), &esrch);
+    same(&rt, &calls.getregs(100).err(), &Some(Errno::ESRCH));
+    same(&rt, &restart_of(root), &Some((Kind::Syscall, 0)));
     let _tracer = end(&rt, calls, &[]);
     Ok(())
 }
@@ -93,12 +102,13 @@ pub(crate) fn restart_of<A: Allocator>(tracee: AtRest<A>) -> Option<(Kind, u8)> 
 #[test]
 fn a_signal_is_handed_over(rt: HostRuntime) -> Result<(), Fail> {
     let (root, mut calls) = with_stopped_root(rt.alloc(), Stop::Enter)?;
-    assert_eq!(rt;
-        calls.waitpid(100, WaitFlags::WALL),
-        Ok(WaitStatus::PtraceSyscall(100))
+    same(
+        &rt,
+        &calls.waitpid(100, WaitFlags::WALL),
+        &Ok(WaitStatus::PtraceSyscall(100)),
     );
-    assert_eq!(rt; calls.cont(100, Some(64)), Ok(()));
-    assert_eq!(rt; restart_of(root), Some((Kind::Cont, 64)));
+    same(&rt, &calls.cont(100, Some(64)), &Ok(()));
+    same(&rt, &restart_of(root), &Some((Kind::Cont, 64)));
     let _tracer = end(&rt, calls, &[]);
     Ok(())
 }
@@ -118,17 +128,23 @@ fn at_call_39(alloc: Global) -> Result<Calls, Fail> {
 fn the_information_of_a_syscall_stop_has_its_layout(rt: HostRuntime) -> Result<(), Fail> {
     let mut calls = at_call_39(rt.alloc())?;
     let mut buffer = [0xee; 81];
-    assert_eq!(rt; calls.syscall_info(100, &mut buffer), Err(Errno::ESRCH));
-    assert_eq!(rt; buffer[0], 0xee);
-    assert_eq!(rt;
-        calls.waitpid(-1, WaitFlags::WALL),
-        Ok(WaitStatus::PtraceSyscall(100))
+    same(
+        &rt,
+        &calls.syscall_info(100, &mut buffer),
+        &Err(Errno::ESRCH),
     );
-    assert_eq!(rt; calls.syscall_info(100, &mut buffer), Ok(80));
+    same(&rt, &buffer[0], &0xee);
+    same(
+        &rt,
+        &calls.waitpid(-1, WaitFlags::WALL),
+        &Ok(WaitStatus::PtraceSyscall(100)),
+    );
+    same(&rt, &calls.syscall_info(100, &mut buffer), &Ok(80));
     // The op of an entry; the number of the call; the last byte is behind the layout.
-    assert_eq!(rt;
-        (buffer[0], buffer[24], buffer[79], buffer[80]),
-        (1, 39, 0, 0xee)
+    same(
+        &rt,
+        &(buffer[0], buffer[24], buffer[79], buffer[80]),
+        &(1, 39, 0, 0xee),
     );
     let _tracer = end(&rt, calls, &[100]);
     Ok(())
@@ -148,17 +164,18 @@ fn ends<R: Wait>(rt: &R, calls: Calls) -> bool {
 #[test]
 fn calls_end_once_nothing_is_claimed(rt: HostRuntime) -> Result<(), Fail> {
     let mut calls = over_stopped_root(rt.alloc(), Stop::Start)?;
-    assert_eq!(rt; calls.count(100), Some(0));
-    assert_eq!(rt;
-        calls.waitid(Id::PGid(77), WaitFlags::WSTOPPED),
-        started(100)
+    same(&rt, &calls.count(100), &Some(0));
+    same(
+        &rt,
+        &calls.waitid(Id::PGid(77), WaitFlags::WSTOPPED),
+        &started(100),
     );
-    assert_eq!(rt; calls.count(100), Some(1));
+    same(&rt, &calls.count(100), &Some(1));
     match calls.into_tracer() {
-        Ok(_tracer) => Ok(assert!(rt; false, "a claim is held")),
+        Ok(_tracer) => Ok(holds(&rt, false, "a claim is held")),
         Err(mut calls) => {
-            assert_eq!(rt; calls.cont(100, None), Ok(()));
-            Ok(assert!(rt; ends(&rt, calls), "no claim is held"))
+            same(&rt, &calls.cont(100, None), &Ok(()));
+            Ok(holds(&rt, ends(&rt, calls), "no claim is held"))
         }
     }
 }

@@ -1,5 +1,6 @@
 //! Waits and calls by row.
 
+use crate::compare::{holds, same};
 use crate::waits::answers::{over_a_death, over_a_fork, started};
 use crate::waits::by_pid::restart_of;
 use crate::waits::caller::{
@@ -54,11 +55,11 @@ fn a_wait_by_row_reports_the_row_and_claims_it(rt: HostRuntime) -> Result<(), Fa
     // Row 0 is the parent, 100, at its fork; row 1 its child, 101, at its start.
     let mut calls = over_a_fork(rt.alloc())?;
     let stops = WaitFlags::WSTOPPED;
-    assert_eq!(rt; calls.wait_row(Id::Pid(101), stops), start_of(1, 101));
-    assert_eq!(rt; calls.count(101), Some(1));
+    same(&rt, &calls.wait_row(Id::Pid(101), stops), &start_of(1, 101));
+    same(&rt, &calls.count(101), &Some(1));
     let held = claims(&calls);
-    assert_eq!(rt; held, [None, Some((101, 1)), None]);
-    assert_eq!(rt; calls.wait_row(Id::Pid(101), stops), Ok(None));
+    same(&rt, &held, &[None, Some((101, 1)), None]);
+    same(&rt, &calls.wait_row(Id::Pid(101), stops), &Ok(None));
     let _tracer = end(&rt, calls, &[101]);
     Ok(())
 }
@@ -78,12 +79,14 @@ fn waited_for<A: Allocator>(
 fn a_wait_for_one_row_claims_that_row_alone(rt: HostRuntime) -> Result<(), Fail> {
     // Row 0 is the parent, 100, at its fork; row 1 its child, 101, at its start.
     let mut calls = over_a_fork(rt.alloc())?;
-    assert_eq!(rt; calls.rows(), 2);
-    assert_eq!(rt; waited_for(&mut calls, 1), Some(start_of(1, 101)));
+    same(&rt, &calls.rows(), &2);
+    same(&rt, &waited_for(&mut calls, 1), &Some(start_of(1, 101)));
     let held = claims(&calls);
-    assert_eq!(rt; held, [None, Some((101, 1)), None]);
-    assert_eq!(rt; waited_for(&mut calls, 1), Some(Ok(None)), "it is claimed");
-    assert_eq!(rt; waited_for(&mut calls, 2), None, "there are two rows");
+    same(&rt, &held, &[None, Some((101, 1)), None]);
+    // It is claimed.
+    same(&rt, &waited_for(&mut calls, 1), &Some(Ok(None)));
+    // There are two rows.
+    same(&rt, &waited_for(&mut calls, 2), &None);
     let _tracer = end(&rt, calls, &[101]);
     Ok(())
 }
@@ -97,8 +100,8 @@ fn a_wait_for_one_row_reaps_its_death(rt: HostRuntime) -> Result<(), Fail> {
         number: 0,
         status: WaitStatus::Exited(100, 3),
     }));
-    assert_eq!(rt; waited_for(&mut calls, 0), Some(died));
-    assert_eq!(rt; waited_for(&mut calls, 0), Some(Err(Errno::ECHILD)));
+    same(&rt, &waited_for(&mut calls, 0), &Some(died));
+    same(&rt, &waited_for(&mut calls, 0), &Some(Err(Errno::ECHILD)));
     let _tracer = end(&rt, calls, &[]);
     Ok(())
 }
@@ -107,11 +110,11 @@ fn a_wait_for_one_row_reaps_its_death(rt: HostRuntime) -> Result<(), Fail> {
 fn a_row_that_is_not_claimed_is_not_restarted(rt: HostRuntime) -> Result<(), Fail> {
     let mut calls = over_a_fork(rt.alloc())?;
     let found = calls.wait_row(Id::Pid(101), WaitFlags::WSTOPPED);
-    assert_eq!(rt; found, start_of(1, 101));
+    same(&rt, &found, &start_of(1, 101));
     // Row 0 is not claimed, there is no row 2, and a signal of 65 is none.
     let answers = restarts(&mut calls, [(0, 0), (2, 65), (1, 65), (1, 64), (1, 0)]);
     let (esrch, eio) = (Err(Errno::ESRCH), Err(Errno::EIO));
-    assert_eq!(rt; answers, [esrch, esrch, eio, Ok(()), esrch]);
+    same(&rt, &answers, &[esrch, esrch, eio, Ok(()), esrch]);
     let _tracer = end(&rt, calls, &[]);
     Ok(())
 }
@@ -120,13 +123,13 @@ fn a_row_that_is_not_claimed_is_not_restarted(rt: HostRuntime) -> Result<(), Fai
 fn a_row_runs_on_by_the_restart_that_was_asked_for(rt: HostRuntime) -> Result<(), Fail> {
     let (root, mut calls) = with_stopped_root(rt.alloc(), Stop::Start)?;
     let found = calls.wait_row(Id::All, WaitFlags::WSTOPPED);
-    assert_eq!(rt; found, start_of(0, 100));
+    same(&rt, &found, &start_of(0, 100));
     let how = Resume {
         kind: Kind::Syscall,
         signal: 10,
     };
-    assert_eq!(rt; calls.restart_row(0, how), Ok(()));
-    assert_eq!(rt; restart_of(root), Some((Kind::Syscall, 10)));
+    same(&rt, &calls.restart_row(0, how), &Ok(()));
+    same(&rt, &restart_of(root), &Some((Kind::Syscall, 10)));
     let _tracer = end(&rt, calls, &[]);
     Ok(())
 }
@@ -141,17 +144,19 @@ fn a_death_is_reported_with_its_row(rt: HostRuntime) -> Result<(), Fail> {
         status: WaitStatus::Exited(100, 3),
     }));
     let peek = both(WaitFlags::WEXITED, WaitFlags::WNOWAIT);
-    assert_eq!(rt;
-        calls.wait_row(Id::All, WaitFlags::WNOHANG),
-        Err(Errno::EINVAL)
+    same(
+        &rt,
+        &calls.wait_row(Id::All, WaitFlags::WNOHANG),
+        &Err(Errno::EINVAL),
     );
-    assert_eq!(rt; calls.wait_row(Id::All, peek), died);
-    assert_eq!(rt; calls.wait_row(Id::All, WaitFlags::WEXITED), died);
+    same(&rt, &calls.wait_row(Id::All, peek), &died);
+    same(&rt, &calls.wait_row(Id::All, WaitFlags::WEXITED), &died);
     let held = claims(&calls);
-    assert_eq!(rt; held, [None; 3]);
-    assert_eq!(rt;
-        calls.wait_row(Id::All, WaitFlags::WEXITED),
-        Err(Errno::ECHILD)
+    same(&rt, &held, &[None; 3]);
+    same(
+        &rt,
+        &calls.wait_row(Id::All, WaitFlags::WEXITED),
+        &Err(Errno::ECHILD),
     );
     let _tracer = end(&rt, calls, &[]);
     Ok(())
@@ -162,7 +167,11 @@ fn with_wnohang_a_blocking_wait_by_row_answers_at_once(rt: HostRuntime) -> Resul
     let mut calls = over_running_root(rt.alloc())?;
     let flags = both(WaitFlags::WEXITED, WaitFlags::WNOHANG);
     // The root runs, and nothing will ever be reported of it.
-    assert_eq!(rt; calls.wait_row_blocking(&rt, Id::All, flags), Ok(None));
+    same(
+        &rt,
+        &calls.wait_row_blocking(&rt, Id::All, flags),
+        &Ok(None),
+    );
     let _tracer = end(&rt, calls, &[]);
     Ok(())
 }
@@ -188,7 +197,7 @@ fn a_blocking_wait_by_row_sees_a_stop_that_comes_later(rt: HostRuntime) -> Resul
         || wait_for_a_row(&rt, waiter, alloc),
         || publish_start(root),
     );
-    assert!(rt; published, "a root runs");
-    assert_eq!(rt; answer, Some(start_of(0, 100)));
+    holds(&rt, published, "a root runs");
+    same(&rt, &answer, &Some(start_of(0, 100)));
     Ok(())
 }

@@ -1,6 +1,7 @@
 //! Each growth of a new caller refused in turn: the tracer comes back, and works.
 
 use crate::cells::cast::open_for;
+use crate::compare::same;
 use crate::rows::{ROOT, THREAD};
 use crate::waits::caller::{Waiter, end};
 use refusing_allocator::RefusingAllocator;
@@ -44,12 +45,12 @@ fn a_refused_caller_gives_its_tracer_back(rt: HostRuntime) -> Result<(), Fail> {
         let heap = RefusingAllocator::new(rt.alloc(), BEFORE + growth);
         let waiter = new_waiter(&heap)?;
         assert!(rt; !heap.has_refused());
-        assert_eq!(rt; shown_after(&rt, &heap, waiter), Some(Shown::Running));
+        same(&rt, &shown_after(&rt, &heap, waiter), &Some(Shown::Running));
         assert!(rt; heap.has_refused());
     }
     let heap = RefusingAllocator::new(rt.alloc(), BEFORE + GROWTHS);
     let waiter = new_waiter(&heap)?;
-    assert_eq!(rt; shown_after(&rt, &heap, waiter), None);
+    same(&rt, &shown_after(&rt, &heap, waiter), &None);
     assert!(rt; !heap.has_refused());
     Ok(())
 }

@@ -1,6 +1,7 @@
 //! The loop of a debugger that changes a call, as docs/calls.md has it.
 
 use crate::cells::runner::AtRest;
+use crate::compare::same;
 use crate::rows::ROOT;
 use crate::waits::caller::{end, root_and_waiter};
 use record_printer::{Folder, Piece, Show, Text, death_piece, piece_of};
@@ -141,17 +142,17 @@ fn traced<R: Wait>(
 #[test]
 fn a_shortened_call_is_printed(rt: HostRuntime) -> Result<(), Fail> {
     let (last, text) = traced(&rt, rt.alloc(), WRITE, Serve::Shorten)?;
-    assert_eq!(rt; last, Some([1, 0, 2]));
+    same(&rt, &last, &Some([1, 0, 2]));
     let wanted = b"100 write(1, \"hi\", 2) = 2\n100 +++ exited with 0 +++\n";
-    assert_eq!(rt; text.as_bytes(), wanted.as_slice());
+    same(&rt, &text.as_bytes(), &wanted.as_slice());
     Ok(())
 }
 
 #[test]
 fn a_call_is_printed_as_it_was_entered(rt: HostRuntime) -> Result<(), Fail> {
     let (last, text) = traced(&rt, rt.alloc(), GETPID, Serve::Renumber)?;
-    assert_eq!(rt; last, Some([0, 7, 100]));
+    same(&rt, &last, &Some([0, 7, 100]));
     let wanted = b"100 getpid() = 100\n100 +++ exited with 0 +++\n";
-    assert_eq!(rt; text.as_bytes(), wanted.as_slice());
+    same(&rt, &text.as_bytes(), &wanted.as_slice());
     Ok(())
 }

@@ -2,6 +2,7 @@
 
 use crate::cells::runner::AtRest;
 use crate::cells::stress::runs_on;
+use crate::compare::{holds, same};
 use crate::waits::caller::{Waiter, end, root_and_waiter};
 use std::alloc::Allocator;
 use std::sync::Wait;
@@ -62,7 +63,7 @@ fn the_small_tracer_counts_the_stops_of_a_call(rt: HostRuntime) -> Result<(), Fa
     let alloc = rt.alloc();
     let (root, waiter) = root_and_waiter(alloc)?;
     let (counted, lived) = thread::join(&rt, || count(&rt, waiter, alloc), || live(&rt, root));
-    assert!(rt; lived, "its stops were made");
-    assert_eq!(rt; counted, Some(2));
+    holds(&rt, lived, "its stops were made");
+    same(&rt, &counted, &Some(2));
     Ok(())
 }

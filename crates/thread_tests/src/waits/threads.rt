@@ -3,6 +3,7 @@
 use crate::cells::cast::{Cast, open_for};
 use crate::cells::runner::AtRest;
 use crate::cells::stress::{have_lived, runs_on};
+use crate::compare::{holds, same};
 use crate::rows::roots;
 use crate::waits::answers::started;
 use crate::waits::caller::{Waiter, end, root_and_waiter};
@@ -50,8 +51,8 @@ fn a_blocking_wait_sees_a_stop_that_comes_later(rt: HostRuntime) -> Result<(), F
         || wait_for_a_stop(&rt, waiter, alloc),
         || publish_start(root),
     );
-    assert!(rt; published, "a root runs");
-    assert_eq!(rt; answer, Some(started(100)));
+    holds(&rt, published, "a root runs");
+    same(&rt, &answer, &Some(started(100)));
     Ok(())
 }
 
@@ -161,10 +162,15 @@ fn each_death_is_answered_once(rt: HostRuntime) -> Result<(), Fail> {
     let tracees = start_tracees(rt, &mut cast)?;
     let waiters = start_waiters(rt, &mut cast)?;
     let answered = count_answers(&rt, waiters).expect(&rt, "memory");
-    assert!(rt;
+    holds(
+        &rt,
         have_lived(&rt, tracees),
-        "a tracee's calls did what they should"
+        "a tracee's calls did what they should",
     );
-    assert!(rt; answered.iter().all(|count| *count == 1), "each death once");
+    holds(
+        &rt,
+        answered.iter().all(|count| *count == 1),
+        "each death once",
+    );
     Ok(())
 }

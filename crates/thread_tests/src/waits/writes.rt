@@ -3,6 +3,7 @@
 use crate::cells::cast::open_for;
 use crate::cells::runner::AtRest;
 use crate::cells::stress::runs_on;
+use crate::compare::same;
 use crate::rows::ROOT;
 use crate::waits::answers::started;
 use crate::waits::by_pid::with_a_page;
@@ -41,21 +42,29 @@ fn a_tracee_runs_on_with_what_was_written(rt: HostRuntime) -> Result<(), Fail> {
     let (root, waiter) = with_a_page(rt.alloc())?;
     let mut calls = waiter.ready(rt.alloc())?;
     let (eio, esrch) = (Err(Errno::EIO), Err(Errno::ESRCH));
-    assert_eq!(rt; calls.write(100, 0x10000, 0), esrch);
-    assert_eq!(rt; calls.waitid(Id::All, WaitFlags::WSTOPPED), started(100));
-    assert_eq!(rt; calls.write(100, 0x10000, 0x6867_6665_6463_6200), Ok(()));
-    assert_eq!(rt; calls.read(100, 0x10000), Ok(0x6867_6665_6463_6200));
-    assert_eq!(rt; calls.write(100, 0x10ffc, 0), eio);
-    assert_eq!(rt; calls.write(999, 0, 0), esrch);
-    assert_eq!(rt; calls.read(100, 0x10000), Ok(0x6867_6665_6463_6200));
-    assert_eq!(rt; set_regs_of_nobody(&mut calls), esrch);
-    assert_eq!(rt; set_rbx(&mut calls, 7), Ok(()));
-    assert_eq!(rt; calls.getregs(100).ok().map(|regs| regs.rbx), Some(7));
+    same(&rt, &calls.write(100, 0x10000, 0), &esrch);
+    same(
+        &rt,
+        &calls.waitid(Id::All, WaitFlags::WSTOPPED),
+        &started(100),
+    );
+    same(
+        &rt,
+        &calls.write(100, 0x10000, 0x6867_6665_6463_6200),
+        &Ok(()),
+    );
+    same(&rt, &calls.read(100, 0x10000), &Ok(0x6867_6665_6463_6200));
+    same(&rt, &calls.write(100, 0x10ffc, 0), &eio);
+    same(&rt, &calls.write(999, 0, 0), &esrch);
+    same(&rt, &calls.read(100, 0x10000), &Ok(0x6867_6665_6463_6200));
+    same(&rt, &set_regs_of_nobody(&mut calls), &esrch);
+    same(&rt, &set_rbx(&mut calls, 7), &Ok(()));
+    same(&rt, &calls.getregs(100).ok().map(|regs| regs.rbx), &Some(7));
     let regs = calls.getregs(100);
-    assert_eq!(rt; calls.syscall(100, None), Ok(()));
-    assert_eq!(rt; runs_with(root), Some((Some(0), 7)));
-    assert_eq!(rt; regs.and_then(|regs| calls.setregs(100, regs)), esrch);
-    assert_eq!(rt; calls.write(100, 0x10000, 0), esrch);
+    same(&rt, &calls.syscall(100, None), &Ok(()));
+    same(&rt, &runs_with(root), &Some((Some(0), 7)));
+    same(&rt, &regs.and_then(|regs| calls.setregs(100, regs)), &esrch);
+    same(&rt, &calls.write(100, 0x10000, 0), &esrch);
     let _tracer = end(&rt, calls, &[]);
     Ok(())
 }
@@ -64,11 +73,19 @@ fn a_tracee_runs_on_with_what_was_written(rt: HostRuntime) -> Result<(), Fail> {
 fn a_later_write_is_put_over_an_earlier_one(rt: HostRuntime) -> Result<(), Fail> {
     let (_root, waiter) = with_a_page(rt.alloc())?;
     let mut calls = waiter.ready(rt.alloc())?;
-    assert_eq!(rt; calls.waitid(Id::All, WaitFlags::WSTOPPED), started(100));
-    assert_eq!(rt; calls.write(100, 0x10000, 0x0807_0605_0403_0201), Ok(()));
-    assert_eq!(rt; calls.write(100, 0x10004, -1), Ok(()));
-    assert_eq!(rt; calls.read(100, 0x10000), Ok(-0xfbfc_fdff));
-    assert_eq!(rt; calls.read(100, 0x10008), Ok(0xffff_ffff));
+    same(
+        &rt,
+        &calls.waitid(Id::All, WaitFlags::WSTOPPED),
+        &started(100),
+    );
+    same(
+        &rt,
+        &calls.write(100, 0x10000, 0x0807_0605_0403_0201),
+        &Ok(()),
+    );
+    same(&rt, &calls.write(100, 0x10004, -1), &Ok(()));
+    same(&rt, &calls.read(100, 0x10000), &Ok(-0xfbfc_fdff));
+    same(&rt, &calls.read(100, 0x10008), &Ok(0xffff_ffff));
     let _tracer = end(&rt, calls, &[100]);
     Ok(())
 }
@@ -109,14 +126,15 @@ fn a_write_is_whole_or_not_done(rt: HostRuntime) -> Result<(), Fail> {
         0xffff_ffff_ffff_fff9,
     ];
     let written = places.map(|at| calls.write(100, at, 0x0807_0605_0403_0201));
-    assert_eq!(rt; written, [Ok(()), eio, eio, Ok(()), eio]);
-    assert_eq!(rt; calls.read(100, 0x10ff8), Ok(0x0403_0201_0000_0000));
-    assert_eq!(rt; calls.read(100, 0x11000), Ok(0x0807_0605));
-    assert_eq!(rt; calls.read(100, 0x11ff8), Ok(0));
-    assert_eq!(rt; calls.read(100, 0x10000), Ok(0));
-    assert_eq!(rt;
-        calls.read(100, 0xffff_ffff_ffff_fff8),
-        Ok(0x0807_0605_0403_0201)
+    same(&rt, &written, &[Ok(()), eio, eio, Ok(()), eio]);
+    same(&rt, &calls.read(100, 0x10ff8), &Ok(0x0403_0201_0000_0000));
+    same(&rt, &calls.read(100, 0x11000), &Ok(0x0807_0605));
+    same(&rt, &calls.read(100, 0x11ff8), &Ok(0));
+    same(&rt, &calls.read(100, 0x10000), &Ok(0));
+    same(
+        &rt,
+        &calls.read(100, 0xffff_ffff_ffff_fff8),
+        &Ok(0x0807_0605_0403_0201),
     );
     let _tracer = end(&rt, calls, &[100]);
     Ok(())
@@ -158,7 +176,7 @@ fn what_one_thread_writes_the_other_runs_on_with(rt: HostRuntime) -> Result<(), 
         || write_and_read(&rt, alloc, waiter),
         || run_on(&rt, root),
     );
-    assert_eq!(rt; seen, (7, Some(5)));
-    assert_eq!(rt; read, Some((Some(7), Ok(5))));
+    same(&rt, &seen, &(7, Some(5)));
+    same(&rt, &read, &Some((Some(7), Ok(5))));
     Ok(())
 }

@@ -1,5 +1,6 @@
 //! Each growth of a roster and of a board refused in turn, over the rows of two replays that were worked out by hand.
 
+use crate::tests::compare::same;
 use crate::tests::rows::{ROOT, THREAD, roots};
 use crate::{Board, Got, NoMemory, Refused, Roster, RosterError, Row, State};
 use refusing_allocator::RefusingAllocator;
@@ -21,18 +22,18 @@ fn a_roster_wants_memory_once(rt: HostRuntime) {
             let heap = RefusingAllocator::new(rt.alloc(), granted);
             match Roster::new(&heap, rows) {
                 Ok(roster) => {
-                    assert_eq!(rt; roster.rows(), rows);
+                    same(&rt, &roster.rows(), &rows);
                     assert!(rt; !heap.has_refused());
                     break;
                 }
                 Err(fault) => {
-                    assert_eq!(rt; fault, RosterError::NoMemory);
+                    same(&rt, &fault, &RosterError::NoMemory);
                     assert!(rt; heap.has_refused());
                     refusals = refusals.wrapping_add(1);
                 }
             }
         }
-        assert_eq!(rt; refusals, 1);
+        same(&rt, &refusals, &1);
     }
 }
 
@@ -46,8 +47,8 @@ fn a_fault_of_the_rows_is_found_before_a_growth(rt: HostRuntime) -> Result<(), F
     ] {
         let heap = RefusingAllocator::new(rt.alloc(), 0);
         match Roster::new(&heap, rows) {
-            Ok(_) => assert!(rt; false, "accepted: {fault:?}"),
-            Err(found) => assert_eq!(rt; found, fault),
+            Ok(_) => same(&rt, &None, &Some(fault)),
+            Err(found) => same(&rt, &found, &fault),
         }
         assert!(rt; !heap.has_refused());
     }
@@ -86,7 +87,7 @@ fn a_board_wants_memory_twice(rt: HostRuntime) -> Result<(), Fail> {
                 }
             }
         }
-        assert_eq!(rt; refusals, 2);
+        same(&rt, &refusals, &2);
     }
     Ok(())
 }

@@ -1,5 +1,6 @@
 //! Each growth of a World and of a run refused in turn, over a race of two tracers that was worked out by hand.
 
+use crate::tests::compare::{holds, same};
 use crate::tests::expected_words::stopped_at_start;
 use crate::tests::rows::ROOT;
 use crate::tests::world::{CLAIMED, CONT, SYSCALL};
@@ -64,7 +65,7 @@ fn run_twice<A: Allocator + Copy, B: Allocator>(
 #[test]
 fn a_world_wants_memory_three_times_and_a_run_once(rt: HostRuntime) {
     let Ok(roster) = Roster::new(rt.alloc(), &[ROOT]) else {
-        return assert!(rt; false, "there is memory");
+        return holds(&rt, false, "there is memory");
     };
     let mut refusals = 0u32;
     let mut runs = 0u32;
@@ -76,7 +77,7 @@ fn a_world_wants_memory_three_times_and_a_run_once(rt: HostRuntime) {
                 break;
             }
             Ok(asked) => {
-                assert_eq!(rt; asked, 2);
+                same(&rt, &asked, &2);
                 assert!(rt; heap.has_refused());
                 runs = runs.wrapping_add(1);
             }
@@ -86,6 +87,6 @@ fn a_world_wants_memory_three_times_and_a_run_once(rt: HostRuntime) {
             }
         }
     }
-    assert_eq!(rt; refusals, 3);
-    assert_eq!(rt; runs, 1);
+    same(&rt, &refusals, &3);
+    same(&rt, &runs, &1);
 }

@@ -1,5 +1,6 @@
 //! Each growth of a case refused in turn.
 
+use crate::compare::same;
 use crate::scripts::machine::FORK;
 use refusing_allocator::RefusingAllocator;
 use trace_script::{Case, CaseError, Cause};
@@ -29,23 +30,23 @@ fn a_refused_growth_is_reported_at_the_line_that_was_read(rt: HostRuntime) {
             let heap = RefusingAllocator::new(rt.alloc(), granted);
             match Case::read(&heap, file) {
                 Err(CaseError { line, cause }) => {
-                    assert!(rt; heap.has_refused(), "{granted}");
-                    assert_eq!(rt; cause, Cause::NoMemory, "{granted}");
-                    assert!(rt; last <= line, "{granted}: {line}");
+                    same(&rt, &(granted, heap.has_refused()), &(granted, true));
+                    same(&rt, &(granted, cause), &(granted, Cause::NoMemory));
+                    same(&rt, &(granted, line, last <= line), &(granted, line, true));
                     if last < line {
-                        assert_eq!(rt; growing.get(lines), Some(&line), "{granted}");
+                        same(&rt, &(granted, growing.get(lines)), &(granted, Some(&line)));
                         lines = lines.wrapping_add(1);
                     }
                     last = line;
                 }
                 Ok(case) => {
-                    assert!(rt; !heap.has_refused(), "{granted}");
-                    assert_eq!(rt; case.roster().len(), 2);
+                    same(&rt, &(granted, !heap.has_refused()), &(granted, true));
+                    same(&rt, &case.roster().len(), &2);
                     break;
                 }
             }
         }
-        assert_eq!(rt; lines, growing.len());
+        same(&rt, &lines, &growing.len());
     }
 }
 
@@ -75,9 +76,10 @@ fn a_fault_is_found_before_a_growth_of_its_line(rt: HostRuntime) {
         (b"tracee 100 100 77 0\npage 1\n", 2, Cause::BadNumber),
     ] {
         let heap = RefusingAllocator::new(rt.alloc(), 1);
-        assert_eq!(rt;
-            Case::read(&heap, file).err(),
-            Some(CaseError { line, cause })
+        same(
+            &rt,
+            &Case::read(&heap, file).err(),
+            &Some(CaseError { line, cause }),
         );
         assert!(rt; !heap.has_refused());
     }

@@ -1,5 +1,6 @@
 //! Each growth of a machine refused in turn.
 
+use crate::compare::same;
 use crate::scripts::machine::{CONT, FORK, machine_of, no_calls, stops_made};
 use refusing_allocator::RefusingAllocator;
 use std::alloc::Allocator;
@@ -36,21 +37,23 @@ fn a_machine_that_is_refused_a_growth_is_not_made(rt: HostRuntime) {
         for granted in 0..64 {
             let heap = RefusingAllocator::new(rt.alloc(), granted);
             let Ok(case) = Case::read(&heap, file) else {
-                assert!(rt; heap.has_refused(), "{granted}");
+                same(&rt, &(granted, heap.has_refused()), &(granted, true));
                 continue;
             };
-            assert!(rt; !heap.has_refused(), "{granted}");
+            same(&rt, &(granted, !heap.has_refused()), &(granted, true));
             let made = is_made(&heap, &case, row);
-            assert_eq!(rt; heap.has_refused(), !made, "{granted}");
+            same(&rt, &(granted, heap.has_refused()), &(granted, !made));
             if made {
                 break;
             }
-            assert!(rt;
-                is_made(&heap, &case, row),
-                "{granted}: it is granted the next time"
+            // It is granted the next time.
+            same(
+                &rt,
+                &(granted, is_made(&heap, &case, row)),
+                &(granted, true),
             );
             refused = refused.saturating_add(1);
         }
-        assert_eq!(rt; refused, growths);
+        same(&rt, &refused, &growths);
     }
 }

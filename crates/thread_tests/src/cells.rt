@@ -2,7 +2,7 @@
 
 mod calls;
 pub(crate) mod cast;
-mod desk;
+pub(crate) mod desk;
 mod growth;
 pub(crate) mod runner;
 mod start;

@@ -1,5 +1,5 @@
 -- What `tracer explore` prints of a litmus file: the outcomes of its program, how they end, or the order of one of them.
-use Rattle.std.specs.Prelude.{◌≡◌, ◌≤◌, ◌-◌, ◌&&◌, ◌==◌, ◌⊎◌, [], ℕ, Bool, true, false, not, nat_le, List, length}
+use Rattle.std.specs.Prelude.{◌≡◌, ◌≤◌, ◌+◌, ◌-◌, ◌/◌, ◌&&◌, ◌==◌, ◌⊎◌, [], ℕ, Bool, true, false, not, nat_le, List, length}
 use Rattle.std.specs.Prelude.{Option, Some, None, Result, Ok, Err, IsOkAnd, codes, slice_get, if◌then◌else◌}
 use Rattle.std.specs.Io.KnownBytes.{Appends}
 use Rattle.std.specs.List.{list_all}
@@ -87,13 +87,37 @@ pub record IsFirstUnmet (content : LitmusContent) (count : ℕ) : Type 0 where
   pub before : (count ≡ 1) ⊎ CanMeet content (count - 1)
   pub unmet : ¬ CanMeet content count
 
+-- ---- the line that makes a file forbidden, by halving
+
+-- as many as are midway between two counts, rounded down
+abbrev pub midway : (low high : ℕ) → ℕ
+midway low high = low + (high - low) / 2
+
+-- two counts, of which not all of the second can be met, and all of the first, or it is 0: at first 0 and all of them,
+-- and then one of these and what is midway
+pub data IsHalved (content : LitmusContent) : (low high : ℕ) → Type 0 where
+  whole : IsHalved content 0 (all_required content)
+  lower : (low high : ℕ) → IsHalved content low high → 2 ≤ high - low → ¬ CanMeet content (midway low high)
+      → IsHalved content low (midway low high)
+  upper : (low high : ℕ) → IsHalved content low high → 2 ≤ high - low → CanMeet content (midway low high)
+      → IsHalved content (midway low high) high
+
+-- whether so many can be met is searched for: they are midway, and some command has a reply that is not among them
+pub record IsAsked (content : LitmusContent) (count : ℕ) : Type 0 where
+  pub low : ℕ
+  pub high : ℕ
+  pub halved : IsHalved content low high
+  pub wide : 2 ≤ high - low
+  pub is_midway : count ≡ midway low high
+  pub replies : have_numbers_to count content.lines ≡ false
+
 -- what is said where not all can be met: the line of the first one with which those down to it cannot; or no line, where
--- a search for it has more places than the budget
+-- a search that halving asks for has more places than the budget
 abbrev pub IsForbiddenText : (budget : ℕ) → LitmusContent → (text : List ℕ) → Type 0
 IsForbiddenText budget content text =
     ((count : ℕ) × IsFirstUnmet content count
     × (text ≡ forbidden_line (slice_get content.requirements (count - 1))))
-    ⊎ (((count : ℕ) × HasMorePlacesWith content count budget) × (text ≡ forbidden_line None))
+    ⊎ (((count : ℕ) × IsAsked content count × HasMorePlacesWith content count budget) × (text ≡ forbidden_line None))
 
 -- ---- what is shown
 

@@ -1,11 +1,12 @@
 //! A litmus file from bytes to bytes.
 
 ghost use Rattle.std.specs.Prelude.{◌≡◌, ◌≤◌, ◌<◌, ◌⊎◌, ℕ, Decides, IfErr, IfOk, IsOkAnd, Err, Ok, None, Some};
-ghost use Rattle.std.specs.Prelude.{length, string_bytes};
+ghost use Rattle.std.specs.Prelude.{false, length, string_bytes};
 ghost use Rattle.std.specs.List.{list_any};
 ghost use Rattle.stop_explorer.specs.Search.{commands_in};
 ghost use Rattle.tracer_cli.specs.Chosen.{is_chosen};
-ghost use Rattle.tracer_cli.specs.Explored.{CanMeet, HasMorePlacesWith, IsFirstUnmet, IsForbiddenText, IsSearched};
+ghost use Rattle.tracer_cli.specs.Explored.{CanMeet, HasMorePlacesWith, IsAsked, IsFirstUnmet, IsForbiddenText};
+ghost use Rattle.tracer_cli.specs.Explored.{IsHalved, IsSearched};
 ghost use Rattle.tracer_cli.specs.Explored.{IsShown, IsUnshown, all_text, chosen_with, forbids, have_numbers_to};
 ghost use Rattle.tracer_cli.specs.Explored.{number_asked, shows_ends};
 ghost use Rattle.tracer_cli.specs.LitmusDraft.{IsLitmusFile, content_in};
@@ -257,7 +258,7 @@ fn explain(
 }
 
 /// The number of the first requirement with which those down to it cannot all be met, by halving: those down to `low`
-/// can be met, or that is 0, and those down to `high` cannot.
+/// can be met, or that is 0, and those down to `high` cannot. It fails where a search that it asks for does.
 fn first_unmet(
     alloc: Global,
     file: &LitmusFile<'_, Global>,
@@ -268,13 +269,14 @@ fn first_unmet(
 ) -> Result<usize, ExploreError>
     requires file { IsLitmusFile file.now }
     requires whole { IsSearched (content_in file.now) budget (length file.now.requirements.items) whole.now }
+    requires halved { IsHalved (content_in file.now) low high }
     requires between { low < high }
     requires within { high ≤ length file.now.requirements.items }
     requires met { (low ≡ 0) ⊎ CanMeet (content_in file.now) low }
     requires unmet { ¬ CanMeet (content_in file.now) high }
     ensures found { IfOk result (IsFirstUnmet (content_in file.now)) }
     ensures too_many { result ≡ Err ExploreError.TooMany →
-        (count : ℕ) × HasMorePlacesWith (content_in file.now) count budget }
+        (count : ℕ) × IsAsked (content_in file.now) count × HasMorePlacesWith (content_in file.now) count budget }
 {
     if high - low <= 1 {
         return Ok(high);
@@ -300,8 +302,8 @@ fn can_meet(
     requires whole { IsSearched (content_in file.now) budget (length file.now.requirements.items) whole.now }
     requires few { count ≤ length file.now.requirements.items }
     ensures met { IfOk result (λ can. Decides can (CanMeet (content_in file.now) count)) }
-    ensures too_many { result ≡ Err ExploreError.TooMany →
-        HasMorePlacesWith (content_in file.now) count budget }
+    ensures too_many { result ≡ Err ExploreError.TooMany → (have_numbers_to count file.now.lines.items ≡ false)
+        × HasMorePlacesWith (content_in file.now) count budget }
 {
     if have_numbers_to(count, file.lines.as_slice()) {
         let conditions = conditions_with(alloc, count, file.conditions.as_slice())?;

@@ -29,7 +29,7 @@ fn called(script: &Script, at: usize) -> Option<Called<'_>> {
 #[test]
 fn the_worked_case_is_read(rt: HostRuntime) -> Result<(), Fail> {
     let case = Case::read(rt.alloc(), WORKED.as_bytes())?;
-    same(&rt, &case.roster().len(), &2);
+    assert!(rt; case.roster().len() == 2);
     same(&rt, &case.roster().row(1).parent, &100);
     let root = case.script(0);
     same(&rt, &root.steps.len(), &3);
@@ -67,7 +67,7 @@ const FORMS: &str =
 #[test]
 fn each_line_is_read_in_its_free_forms(rt: HostRuntime) -> Result<(), Fail> {
     let case = Case::read(rt.alloc(), FORMS.as_bytes())?;
-    same(&rt, &case.roster().len(), &1);
+    assert!(rt; case.roster().len() == 1);
     let script = case.script(0);
     same(&rt, &(script.image.rip, script.image.rsp), &(0x30, 64));
     same(&rt, &script.image.memory.byte(0x20fff), &Some(0xff));

@@ -1,0 +1,166 @@
+//! 100,000 rounds of two threads, and as many of three, or those that can be done in some seconds: where other programs
+//! have the processors, the threads of a round wait long for each other.
+
+use crate::cells::cast::{Cast, open_for};
+use crate::cells::runner::AtRest;
+use crate::compare::same;
+use crate::explored::programs::{NO_LOOKER, Round, of_three, of_two, outcomes};
+use crate::explored::threads::{Line, look_and_claim, run_tracees, wait_twice};
+use crate::rows::roots;
+use std::alloc::Global;
+use std::sync::Wait;
+use std::test::Fail;
+use std::thread;
+use std::thread::Threads;
+use std::time::{Clock, Instant};
+use stop_explorer::Voice;
+
+/// How many rows the cells have, a round for each, and how many cells are opened.
+const ROWS: u32 = 50;
+
+const TABLES: u32 = 2_000;
+
+/// After how many seconds no further cells are opened.
+const SECONDS: u64 = 15;
+
+/// How often each outcome was seen, and how many rounds had none.
+#[derive(Drop)]
+struct Tally {
+    outcomes: Vec<Round>,
+    seen: Vec<u32>,
+    strange: u32,
+}
+
+impl Tally {
+    fn new(alloc: Global, outcomes: Vec<Round>) -> Result<Tally, Fail> {
+        let seen = vec![in alloc; 0u32; outcomes.len()]?;
+        Ok(Tally {
+            outcomes,
+            seen,
+            strange: 0,
+        })
+    }
+
+    fn note(&mut self, round: Round) {
+        let place = self.outcomes.iter().position(|outcome| *outcome == round);
+        match place.and_then(|place| self.seen.get_mut(place)) {
+            Some(count) => *count = count.wrapping_add(1),
+            None => self.strange = self.strange.wrapping_add(1),
+        }
+    }
+
+    /// How many rounds had an outcome.
+    fn rounds(&self) -> u32 {
+        self.seen
+            .iter()
+            .fold(0u32, |all, count| all.wrapping_add(*count))
+    }
+
+    /// How many outcomes were seen at all.
+    fn kinds(&self) -> usize {
+        self.seen.iter().filter(|count| **count > 0).count()
+    }
+}
+
+/// The tracees of new cells, the last one first.
+fn tracees_of(alloc: Global, cast: &mut Cast) -> Result<Vec<AtRest>, Fail> {
+    let mut tracees = Vec::with_capacity(alloc, ROWS as usize)?;
+    for _ in 0..ROWS {
+        tracees.push(cast.tracee(alloc)?)?;
+    }
+    Ok(tracees)
+}
+
+/// A round for each row of new cells, by a tracee and a tracer.
+fn race_two<R: Threads + Wait + Sync>(
+    rt: &R,
+    alloc: Global,
+    tally: &mut Tally,
+) -> Result<(), Fail> {
+    let rows = roots(alloc, ROWS)?;
+    let mut cast = open_for(alloc, rows.as_slice(), 1)?;
+    let tracees = tracees_of(alloc, &mut cast)?;
+    let desk = cast.desk()?;
+    let line = Line::new(2);
+    let (lived, waited) = thread::join(
+        rt,
+        || run_tracees(rt, alloc, &line, tracees),
+        || wait_twice(rt, alloc, &line, desk, ROWS),
+    );
+    let (lived, waited) = (lived?, waited?);
+    for (tracee, waiter) in lived.iter().zip(waited.iter()) {
+        tally.note(Round {
+            tracee: *tracee,
+            waiter: *waiter,
+            looker: NO_LOOKER,
+        });
+    }
+    Ok(())
+}
+
+/// The same, by a tracee and two tracers.
+fn race_three<R: Threads + Wait + Sync>(
+    rt: &R,
+    alloc: Global,
+    tally: &mut Tally,
+) -> Result<(), Fail> {
+    let rows = roots(alloc, ROWS)?;
+    let mut cast = open_for(alloc, rows.as_slice(), 2)?;
+    let tracees = tracees_of(alloc, &mut cast)?;
+    let (first, second) = (cast.desk()?, cast.desk()?);
+    let line = Line::new(3);
+    let (lived, (waited, looked)) = thread::join(
+        rt,
+        || run_tracees(rt, alloc, &line, tracees),
+        || {
+            thread::join(
+                rt,
+                || wait_twice(rt, alloc, &line, first, ROWS),
+                || look_and_claim(rt, alloc, &line, second, ROWS),
+            )
+        },
+    );
+    let (lived, waited, looked) = (lived?, waited?, looked?);
+    let others = waited.iter().zip(looked.iter());
+    for (tracee, (waiter, looker)) in lived.iter().zip(others) {
+        tally.note(Round {
+            tracee: *tracee,
+            waiter: *waiter,
+            looker: *looker,
+        });
+    }
+    Ok(())
+}
+
+#[test]
+fn rounds_of_two_threads_have_an_outcome(rt: HostRuntime) -> Result<(), Fail> {
+    let alloc = rt.alloc();
+    let found = outcomes(alloc, &[Voice::Loud; 2], &of_two())?;
+    let mut tally = Tally::new(alloc, found)?;
+    let start = Instant::now(&rt)?;
+    for _ in 0..TABLES {
+        if start.elapsed(&rt)?.as_secs() < SECONDS {
+            race_two(&rt, alloc, &mut tally)?;
+        }
+    }
+    same(&rt, &tally.outcomes.len(), &1);
+    same(&rt, &(tally.strange, tally.kinds()), &(0, 1));
+    Ok(())
+}
+
+#[test]
+fn rounds_of_three_threads_have_an_outcome(rt: HostRuntime) -> Result<(), Fail> {
+    let alloc = rt.alloc();
+    let found = outcomes(alloc, &[Voice::Loud; 3], &of_three())?;
+    let mut tally = Tally::new(alloc, found)?;
+    let start = Instant::now(&rt)?;
+    for _ in 0..TABLES {
+        if start.elapsed(&rt)?.as_secs() < SECONDS {
+            race_three(&rt, alloc, &mut tally)?;
+        }
+    }
+    let (kinds, all, rounds) = (tally.kinds(), tally.outcomes.len(), tally.rounds());
+    println!(rt; "of {all} outcomes {kinds} were seen in {rounds} rounds of three threads")?;
+    same(&rt, &tally.strange, &0);
+    Ok(())
+}

@@ -10,8 +10,8 @@ PREFIX ?= /usr/local
 OUT = bench/out
 COMMA = ,
 
-.PHONY: all kit demo examples scarce-memory man-page documents one-source one-meaning refused-code check wrong-bodies \
-	wrong-bodies-changed wrong-bodies-test test bench bench-case bench-cells bench-pages bench-fold bench-run \
+.PHONY: all kit demo examples scarce-memory refused-memory man-page documents one-source one-meaning refused-code check \
+	wrong-bodies wrong-bodies-changed wrong-bodies-test test bench bench-case bench-cells bench-pages bench-fold bench-run \
 	bench-threads bench-explore tools install clean
 
 all: kit
@@ -44,6 +44,12 @@ scarce-memory: PROGRAM ?= bin/tracer
 scarce-memory:
 	@echo "scarce-memory: running $(PROGRAM) with less and less address space (some seconds)"
 	@$(PYTHON) tools/scarce_memory.py $(PROGRAM)
+
+# PROGRAM=FILE is the program, which is built already. It needs a C compiler, and so is no part of the gate.
+refused-memory: PROGRAM ?= bin/tracer
+refused-memory:
+	@echo "refused-memory: running $(PROGRAM) on examples with each allocation refused in turn (half a minute)"
+	@$(PYTHON) tools/refused_memory.py $(PROGRAM)
 
 man-page: kit
 	@echo "man-page: comparing man/tracer.1 with the program's help, and running its examples (two minutes)"

@@ -127,10 +127,15 @@ def first_line(text, at):
     return first
 
 
+def blocks_of(code):
+    """The impls and traits of a file: where each begins and ends, its word, and what follows that."""
+    return [(it.start(), closing(code, it.end() - 1), it[1], it[2]) for it in BLOCK.finditer(code)]
+
+
 def places(text, file):
     """Where the functions of a file stand, in the file's order."""
     code, found = blanked(text), []
-    blocks = [(it.start(), closing(code, it.end() - 1), owner_of(it[1], it[2])) for it in BLOCK.finditer(code)]
+    blocks = [(begin, end, owner_of(kind, header)) for begin, end, kind, header in blocks_of(code)]
     for it in FN.finditer(code):
         body = body_of(code, it.end())
         if not body:
@@ -143,8 +148,8 @@ def places(text, file):
 
 def is_public(code, place):
     """Whether other crates can name the function: it is `pub`, or of a trait."""
-    blocks = [it for it in BLOCK.finditer(code) if it.end() <= place.begin < closing(code, it.end() - 1)]
-    is_of_trait = any(it[1] == "trait" or re.search(r"\bfor\b", without_generics(it[2])) for it in blocks)
+    is_of_trait = place.function.of_trait or any(
+        kind == "trait" and begin < place.begin < end for begin, end, kind, _ in blocks_of(code))
     return is_of_trait or bool(re.search(r"\bpub\s+(?:const\s+|unsafe\s+)*fn\s+\w+$", code[: place.named]))
 
 

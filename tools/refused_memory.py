@@ -10,15 +10,18 @@ example with more than MOST places is left out. It needs a C compiler (CC, or cc
 
 import os
 import pathlib
-import re
 import subprocess
 import sys
 import tempfile
+
+import outcomes
 
 ROOT = pathlib.Path(__file__).resolve().parent.parent
 MOST = 100
 # So many answers as ever, one after the other, and no later call is reached.
 ALIKE = 25
+# The most that a run may take.
+SECONDS = 60
 
 LIBRARY = """
 #include <errno.h>
@@ -61,7 +64,8 @@ def commands():
 def ran(program, words, library=None, call=0):
     """What a run answers: status, output, messages."""
     how = {"LD_PRELOAD": str(library), "REFUSED_CALL": str(call)} if library else {}
-    done = subprocess.run([program, *words], stdin=subprocess.DEVNULL, capture_output=True, env=how)
+    done = subprocess.run([program, *words], stdin=subprocess.DEVNULL, capture_output=True, env=how,
+                          timeout=SECONDS)
     return done.returncode, done.stdout, done.stderr
 
 
@@ -89,8 +93,8 @@ def main():
         library = build(pathlib.Path(folder))
         for words in commands():
             usual = ran(program, words)
-            places = re.search(rb"places (\d+)", usual[1])
-            if places and int(places[1]) > MOST:
+            last = outcomes.LAST.search(usual[1])
+            if last and int(last[2]) > MOST:
                 continue
             refused, wrong = refusals(program, words, library, usual)
             calls, failed = calls + refused, failed + len(wrong)

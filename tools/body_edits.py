@@ -4,6 +4,7 @@ An edit is a file of lines. `file: PATH` names a file of the crate; each pair `o
 that stands there exactly once. Later pairs apply to what the earlier ones made.
 """
 
+import collections
 import dataclasses
 import pathlib
 import re
@@ -98,24 +99,22 @@ def functions_of(edit, texts):
 
 
 def grouped(edits, texts):
-    """Groups of edits for one check each. In a group no edited function is another edit's, nor calls one, directly or
-    through others; so each one's proof rests on its own body, and on contracts that no edit changes. What changes more
-    than bodies stands alone."""
+    """Groups of edits for one check each. No two of a group change the same function, so each function's proof rests on
+    one wrong body, its own, and on contracts, which no edit of a body changes. What changes more than bodies stands
+    alone."""
     changed = {it: functions_of(it, texts) for it in edits}
-    reach = rattle_source.reached(texts)
-    calls = {it: frozenset().union(*(reach.get(f, set()) for f in fs)) for it, fs in changed.items() if fs}
-    meet = lambda a, b: bool(changed[a] & (changed[b] | calls[b]) or changed[b] & calls[a])
-    inside = sorted(calls, key=lambda it: (-sum(meet(it, other) for other in calls), it.name))
-    groups = []
-    for edit in inside:
-        for group in groups:
-            apart = len(group) < MOST_IN_A_GROUP and not any(meet(edit, other) for other in group)
-            if apart and fits(edit, group, texts):
+    inside = [it for it in edits if changed[it]]
+    of_function = collections.Counter(function for it in inside for function in changed[it])
+    most = max(of_function.values(), default=0)
+    groups = [[] for _ in range(max(most, -(-len(inside) // MOST_IN_A_GROUP)))]
+    for edit in sorted(inside, key=lambda it: (-max(of_function[f] for f in changed[it]), it.name)):
+        for group in sorted(groups, key=len):
+            if not any(changed[edit] & changed[other] for other in group) and fits(edit, group, texts):
                 group.append(edit)
                 break
         else:
             groups.append([edit])
-    return groups + [[it] for it in edits if it not in calls]
+    return [it for it in groups if it] + [[it] for it in edits if not changed[it]]
 
 
 def fits(edit, group, texts):

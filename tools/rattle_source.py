@@ -1,6 +1,6 @@
-"""The functions of a Rattle source file: where each body is, and what it calls.
+"""The functions of a Rattle source file: where each body is, and what is public.
 
-It reads just enough of the language to know which function an edit changes, and which functions may call which.
+It reads just enough of the language to know which function an edit changes, and what other crates can see of it.
 Comments, strings and characters are blanked first, so that no brace or word in them counts.
 """
 
@@ -15,7 +15,6 @@ CLAUSE = re.compile(r"\b(requires|ensures)\b[^{}]*$")
 FN = re.compile(r"\bfn\s+(\w+)")
 BLOCK = re.compile(r"(?m)^[ \t]*(?:pub(?:\([^)]*\))?\s+)?(?:unsafe\s+)?(impl|trait)\b([^{};]*)\{")
 TEST_MODULE = r"#\[cfg\(test\)\]\s*(?:pub\s+)?mod\s+(\w+)\s*;"
-WORD = re.compile(r"(\.\s*|\w+\s*(?:::\s*<[^<>]*>\s*)?::\s*)?\b([a-z_]\w*)\b(?!\s*!)")
 
 
 @dataclasses.dataclass(frozen=True)
@@ -198,44 +197,3 @@ def function_on(text, file, line):
     """The function that has this line, from its name to the end of its body; the innermost, or None."""
     inside = [it for it in places(text, file) if it.first <= line <= it.last]
     return min(inside, key=lambda it: it.end - it.begin).function if inside else None
-
-
-def words_of(code, owner):
-    """What a body names: methods as `.name`, functions of a type as `Type::name`, others by their name alone."""
-    found = set()
-    for before, name in WORD.findall(code):
-        before = re.sub(r"\s|::\s*<[^<>]*>", "", before)
-        if before == ".":
-            found.add(f".{name}")
-        elif before and before[0].isupper():
-            found.add(f"{owner if before == 'Self::' else before.removesuffix('::')}::{name}")
-        else:
-            found.add(name)
-    return found
-
-
-def is_called(function, words):
-    """Whether a body that names these words may call the function."""
-    if function.owner:
-        return f".{function.name}" in words or f"{function.owner}::{function.name}" in words
-    return function.name in words
-
-
-def reached(texts):
-    """For each function of these files, by their paths, the functions that it may call, directly or through others."""
-    named = {}
-    for file, text in texts.items():
-        code = blanked(text)
-        for it in places(text, file):
-            named.setdefault(it.function, set()).update(words_of(code[it.begin : it.end], it.function.owner))
-    direct = {it: {other for other in named if is_called(other, words)} for it, words in named.items()}
-    found = {}
-    for it in named:
-        seen, left = set(), [*direct[it]]
-        while left:
-            other = left.pop()
-            if other not in seen:
-                seen.add(other)
-                left.extend(direct[other])
-        found[it] = seen
-    return found

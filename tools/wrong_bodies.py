@@ -2,10 +2,10 @@
 """Tries the wrong bodies of crates/NAME/wrong-bodies/, many in one check: the prover must refuse each.
 
 A function's proof rests on its own body and on the contracts of what it calls, never on their bodies. So wrong bodies
-of functions of which none calls another are tried in one check of a copy of the crate, over the work that earlier
-checks kept. An edit counts as refused there only where the report names a goal of its own function that fails. Any
-other edit is tried alone, and counts as `rt must-fail` would count it. The last line is `N passed, M failed`, and the
-status is 1 where an edit failed.
+of different functions are tried in one check of a copy of the crate, over the work that the check of the crate as it is
+kept. An edit counts as refused there only where the report names a goal of its own function that fails. Any other edit
+is tried alone, and counts as `rt must-fail` would count it. The last line is `N passed, M failed`, and the status is 1
+where an edit failed or a crate is not proved as it is.
 
 tools/wrong_bodies.tried has a line for each crate whose edits were all refused: a digest of the crate's sources,
 definitions, proofs and edits, and of what it can see of the crates below. Comments and tests decide nothing, and are
@@ -34,8 +34,8 @@ TOP = pathlib.Path(__file__).resolve().parent.parent
 TRIED = "tools/wrong_bodies.tried"
 RT = os.environ.get("RT", "rt")
 PARTS = ("src", "specs", "proofs")
-# This many crates are proved in turn; of more, every crate of the repository side by side.
-FEW = 3
+# What a check of a crate keeps for the next one, and the library that the crates above it stand on.
+KEPT, LIBRARY = "out/incremental", "out/rlib"
 printing = threading.Lock()
 
 
@@ -122,18 +122,18 @@ def link(source, to):
         shutil.copy2(source, to)
 
 
-def copied(crate, room):
-    """A copy of the crate in the folder, with what it stands on and the work that its last check kept."""
+def copied(crate, room, *kept):
+    """A copy of the crate in the folder, with what it stands on and these folders of what its last check kept."""
     room = pathlib.Path(room)
     (room / "crates.txt").write_text("".join(f"{it.line}\n" for it in [*crate.below, crate]))
     if (crate.root / "HANDLES").is_file():
         shutil.copy2(crate.root / "HANDLES", room)
     for it in crate.below:
-        for part in (*PARTS, "out/rlib"):
+        for part in (*PARTS, LIBRARY):
             if (it.folder / part).is_dir():
                 shutil.copytree(it.folder / part, room / "crates" / it.name / part, copy_function=link)
     folder = room / "crates" / crate.name
-    for part in (*PARTS, "out/incremental"):
+    for part in (*PARTS, *kept):
         if (crate.folder / part).is_dir():
             shutil.copytree(crate.folder / part, folder / part)
     return folder
@@ -148,7 +148,7 @@ def ran_in(folder, words):
 def checked(crate, texts):
     """The status and the report of a check of a copy of the crate with these texts."""
     with tempfile.TemporaryDirectory(prefix="wrong-bodies-") as room:
-        folder = copied(crate, room)
+        folder = copied(crate, room, KEPT)
         for file, text in texts.items():
             if text != crate.texts[file]:
                 (folder / file).write_text(text, encoding="utf-8")
@@ -212,43 +212,84 @@ def groups_of(crate):
     return body_edits.grouped(good, crate.texts), bad
 
 
-def try_all(crates, lanes):
-    """The verdicts on all edits of these crates, by edit; checks run side by side, the longest first. The digest of a
-    crate is written as soon as none of its edits is left."""
-    told, left, digests = {}, [], {}
-    for crate in crates:
-        digests[crate.name] = crate.digest()
-        groups, bad = groups_of(crate)
-        told.update(bad)
-        left += [(crate, it) for it in groups]
-        say(f"{crate.name}: {len(crate.edits)} wrong bodies in {len(groups)} checks")
-    size = lambda it: sum(map(len, it[0].texts.values())) * (2 + len(it[1]))
-    with concurrent.futures.ThreadPoolExecutor(lanes) as pool:
-        running = {pool.submit(try_some, *it): it for it in sorted(left, key=size, reverse=True)}
-        while running:
-            done, _ = concurrent.futures.wait(running, return_when=concurrent.futures.FIRST_COMPLETED)
-            for it in done:
-                crate, _ = running.pop(it)
-                found, again = it.result()
-                told.update(found)
-                running.update({pool.submit(try_some, crate, group): (crate, group) for group in again})
-                if not any(other is crate for other, _ in running.values()):
-                    keep_digest(crate, told, digests[crate.name])
-    return told
+@dataclasses.dataclass(frozen=True, eq=False)
+class Task:
+    """What one check is to try: a group of a crate's edits, or, where there is none, the crate as it is."""
+
+    crate: Crate
+    group: tuple = ()
+
+    def size(self):
+        return sum(map(len, self.crate.texts.values())) * (2 + len(self.group))
 
 
-def is_proved(root, crates, lanes):
-    """Whether the crates are proved as they are; what this check keeps is what the wrong bodies are tried over."""
-    checks = [([RT, "check"], it.folder) for it in crates]
-    if len(crates) > FEW:
-        checks = [([RT, "all", "check", "--jobs", str(lanes)], root)]
-    for words, folder in checks:
-        say(f"proving {folder.name if folder != root else 'every crate'} as written, over what earlier checks kept")
-        ran = ran_in(folder, words)
+def is_proved(crate, has_edits):
+    """Whether the crate is proved as it is: the crates above it stand on the library that this builds, and its wrong
+    bodies are tried over what this keeps. A library that is there serves where no edits are tried. All this is done in
+    a copy, since the kit lets no two commands work above one library at once."""
+    began = time.monotonic()
+    with tempfile.TemporaryDirectory(prefix="wrong-bodies-") as room:
+        folder = copied(crate, room, KEPT if has_edits else LIBRARY)
+        ran = ran_in(folder, [RT, "lib", "--jobs", "1"])
         if ran.returncode:
-            print(ran.stdout[-3000:])
+            say(f"{crate.name}: NOT PROVED as it is:\n{ran.stdout[-3000:]}")
             return False
+        for part in (KEPT, LIBRARY):
+            if (folder / part).is_dir():
+                shutil.rmtree(crate.folder / part, ignore_errors=True)
+                shutil.move(folder / part, crate.folder / part)
+    say(f"{crate.name}: proved as it is in {time.monotonic() - began:.0f} s")
     return True
+
+
+class Plan:
+    """The checks of a run, and what they told: each crate as it is, after those it stands on, and then its edits."""
+
+    def __init__(self, crates):
+        self.told, self.proved, self.failed = {}, set(), set()
+        self.digests = {it.name: it.digest() for it in crates}
+        self.crates = list({it.name: it for crate in crates for it in [*crate.below, crate]}.values())
+        self.left, self.running = [Task(it) for it in self.crates], {}
+        for crate in crates:
+            groups, bad = groups_of(crate)
+            self.told.update(bad)
+            self.left += [Task(crate, tuple(it)) for it in groups]
+            say(f"{crate.name}: {len(crate.edits)} wrong bodies in {len(groups)} check{'s' * (len(groups) != 1)}")
+
+    def rank(self, task):
+        """Crates before edits, first those with most text of other crates above them; of edits, most text first."""
+        above = [it for it in self.crates if task.crate in it.below]
+        return not task.group, sum(Task(it).size() for it in above), task.size()
+
+    def is_ready(self, task):
+        return {it.name for it in ([task.crate] if task.group else task.crate.below)} <= self.proved
+
+    def start(self, pool, lanes):
+        """Hands in the tasks that can be done now, as many as there are lanes."""
+        for task in sorted(filter(self.is_ready, self.left), key=self.rank, reverse=True)[: lanes - len(self.running)]:
+            self.left.remove(task)
+            given = (task.crate, task.group) if task.group else (task.crate, task.crate.name in self.digests)
+            self.running[pool.submit(try_some if task.group else is_proved, *given)] = task
+
+    def end(self, done):
+        """Takes down what a task told, and what is to be tried again."""
+        task = self.running.pop(done)
+        if not task.group:
+            (self.proved if done.result() else self.failed).add(task.crate.name)
+            return
+        found, again = done.result()
+        self.told.update(found)
+        self.left += [Task(task.crate, tuple(it)) for it in again]
+        if not any(it.crate is task.crate for it in [*self.left, *self.running.values()]):
+            keep_digest(task.crate, self.told, self.digests[task.crate.name])
+
+    def run(self, lanes):
+        with concurrent.futures.ThreadPoolExecutor(lanes) as pool:
+            self.start(pool, lanes)
+            while self.running:
+                for done in concurrent.futures.wait(self.running, return_when=concurrent.futures.FIRST_COMPLETED)[0]:
+                    self.end(done)
+                self.start(pool, lanes)
 
 
 def tried_before(root):
@@ -307,20 +348,23 @@ def main(arguments):
     if words.list:
         list_groups(crates)
         return 0
-    if crates and not is_proved(words.root, crates, words.jobs):
-        say("a crate is not proved as it is, so no wrong body was tried")
-        print("0 passed, 1 failed")
-        return 1
-    told = try_all(crates, words.jobs) if crates else {}
+    plan = Plan(crates)
+    plan.run(words.jobs)
     for crate in crates:
         for name, why in crate.bad.items():
             say(f"{crate.name}/{name}: BAD EDIT: {why}")
-    failed = [str(it) for it, (verdict, _) in told.items() if verdict is not Verdict.REFUSED]
-    failed += [f"{crate.name}/{name}" for crate in crates for name in crate.bad]
+    failed = {str(it) for it, (verdict, _) in plan.told.items() if verdict is not Verdict.REFUSED}
+    failed |= {f"{crate.name}/{name}" for crate in crates for name in crate.bad}
     if failed:
         say(f"FAILED: {' '.join(sorted(failed))}")
-    print(f"{len(told) - sum(it.crate + '/' + it.name in failed for it in told)} passed, {len(failed)} failed")
-    return 1 if failed else 0
+    untried = {crate.name: sum(it not in plan.told for it in crate.edits) for crate in crates}
+    for name, count in untried.items():
+        if count:
+            say(f"{name}: {count} wrong bodies NOT TRIED, since it, or what it stands on, is not proved as it is")
+    refused = sum(verdict is Verdict.REFUSED for verdict, _ in plan.told.values())
+    failures = len(failed) + sum(untried.values())
+    print(f"{refused} passed, {failures} failed")
+    return 1 if failures or plan.failed else 0
 
 
 if __name__ == "__main__":

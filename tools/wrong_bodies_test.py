@@ -63,6 +63,7 @@ EDITS = {
     "gives_zero": ("let first = x;", "let first = 0;"),
     "changes_a_comment": ("// This is the number.", "// The number."),
     "changes_a_callers_comment": ("// A call.", "// This calls."),
+    "caller_gives_another": ("let third = first(x);", "let third = first(x) ^ 1;"),
     "does_not_read": ("let fourth = x;", "let fourth = y;"),
     "stands_nowhere": ("let fifth = x;", "let fifth = 0;"),
 }
@@ -92,14 +93,13 @@ class WrongBodies(unittest.TestCase):
         ran = subprocess.run([sys.executable, TOOL, "--root", self.root, *words], capture_output=True, text=True)
         return ran.returncode, ran.stdout + ran.stderr
 
-    def test_no_check_has_two_edits_of_one_function_or_of_a_caller_and_its_callee(self):
+    def test_no_check_has_two_edits_of_one_function(self):
         texts = body_edits.sources(self.crate)
         edits = [it for it in body_edits.read(self.crate)[0] if it.name != "stands_nowhere.edit"]
         groups = [{it.name.removesuffix(".edit") for it in group} for group in body_edits.grouped(edits, texts)]
-        self.assertEqual(sum(map(len, groups)), 5)
-        for first, second in [("gives_another", "gives_zero"), ("gives_another", "changes_a_callers_comment")]:
+        self.assertEqual((len(groups), sum(map(len, groups))), (2, 6), groups)
+        for first, second in [("gives_another", "gives_zero"), ("caller_gives_another", "changes_a_callers_comment")]:
             self.assertFalse(any({first, second} <= it for it in groups), f"{first}, {second}: {groups}")
-        self.assertTrue(any({"changes_a_comment", "does_not_read"} <= it for it in groups), groups)
 
     def test_a_clause_is_no_body(self):
         at = SOURCE.index("{ result")
@@ -119,6 +119,8 @@ class WrongBodies(unittest.TestCase):
         )
         self.assertTrue(body_report.why_refused({first}, report, texts))
         self.assertIsNone(body_report.why_refused({third}, report, texts))
+        own = report.replace("third: no proof: it calls", "third: no proof: `search` did not prove `returns`; it calls")
+        self.assertTrue(body_report.why_refused({third}, own, texts))
         lost = "./proofs/third/Answers.antt:3:4: error: `returns`: record `Lts` has no field `first`\n"
         lost += "fn sample::third: not proved\n"
         self.assertIsNone(body_report.why_refused({third}, lost, texts))
@@ -130,8 +132,20 @@ class WrongBodies(unittest.TestCase):
         self.assertIn("sample/changes_a_comment.edit: NOT REFUSED", said)
         for name in ("does_not_read", "stands_nowhere"):
             self.assertIn(f"sample/{name}.edit: BAD EDIT", said)
-        self.assertEqual(said.split("\n")[-2], "2 passed, 3 failed", said)
+        self.assertEqual(said.split("\n")[-2], "3 passed, 3 failed", said)
         self.assertEqual((self.root / "tools" / "wrong_bodies.tried").read_text(), "")
+
+    def test_nothing_is_tried_above_a_crate_that_is_not_proved(self):
+        (self.root / "crates.txt").write_text("sample:\nupper: sample\n")
+        shutil.copytree(self.crate, self.root / "crates" / "upper")
+        source = self.crate / "src" / "lib.rt"
+        source.write_text(SOURCE.replace("let fourth = x;", "let fourth = 0;"))
+        status, said = self.run_tool()
+        self.assertEqual(status, 1, said)
+        self.assertIn("sample: NOT PROVED", said)
+        self.assertIn("sample: 5 wrong bodies NOT TRIED", said)
+        self.assertIn("upper: 6 wrong bodies NOT TRIED", said)
+        self.assertEqual(said.split("\n")[-2], "0 passed, 14 failed", said)
 
     def changed_by(self, file, old, new):
         """The crates whose edits are to be tried once the text stands in the file in place of the old one."""

@@ -130,7 +130,7 @@ own_begun lines threads thread known past =
     let few : length (own_lines lines thread) ≡ 0 = ap (λ cs. length cs) none in
     omega (arith, few)
 
--- ---- the program with the first so many replies
+-- ---- the program with the first n replies
 
 leave_by : (b : Bool) (n : NumberedLine)
     → (cond b n.line (record { thread = n.line.thread; command = without_reply n.line.command })).command.leave_to

@@ -1,4 +1,4 @@
--- What a search with the first so many requirements of a file tells: whether some run has them all.
+-- What a search with the first n requirements of a file tells: whether some run has them all.
 use Rattle.std.proofs.Common.{refl, ◌≡◌, ◌∙◌, ◌∷◌, ◌-◌, ◌<◌, ◌≤◌, ◌==◌, ◌+◌, ◌⊎◌, ◌&&◌, [], ℕ, suc, zero, Bool, true, false, not}
 use Rattle.std.proofs.Common.{List, Option, Some, None, ap, arith, cond, inl, inr, length, map, nat_le, subst, sym, eqb, is_some, slice_get}
 use Rattle.std.specs.Bool.{Decides}
@@ -33,7 +33,7 @@ use Rattle.tracer_cli.specs.Waiting.{state_at}
 use Rattle.tracer_cli.proofs.CameTrue.{came_true, true_came}
 use Rattle.tracer_cli.proofs.LitmusForward.{forward_with}
 
--- ---- the program with the first so many replies makes the same calls, in the same threads
+-- ---- the program with the first n replies makes the same calls, in the same threads
 
 call_by : (b : Bool) (n : NumberedLine)
     → (cond b n.line (record { thread = n.line.thread; command = without_reply n.line.command })).command.call

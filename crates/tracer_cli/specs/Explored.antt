@@ -27,7 +27,7 @@ use Rattle.tracer_cli.specs.OutcomeOrder.{outcome_replay}
 use Rattle.tracer_cli.specs.OutcomeText.{chosen_text, forbidden_line}
 use Rattle.tracer_cli.specs.Required.{conditions_with, program_with}
 
--- ---- programs, with the first so many of the replies and conditions of their file
+-- ---- programs, with the first n of the replies and conditions of their file
 
 abbrev pub commands_with : LitmusContent → (count : ℕ) → (thread : ℕ) → List ThreadCommand
 commands_with content count = own_commands (program_with count content.lines)
@@ -73,14 +73,14 @@ pub record IsSearched (content : LitmusContent) (budget count : ℕ) (searched :
 
 -- ---- what a file requires
 
--- some run has the first so many of its replies and conditions
+-- some run has the first n of its replies and conditions
 pub record CanMeet (content : LitmusContent) (count : ℕ) : Type 0 where
   pub run : Log
   pub last : History
   pub is_run : IsRun content.rows (commands_with content count) run last
   pub met : is_chosen_with content count (ended_run content.rows run last) ≡ true
 
--- no run has the first so many; some run has those before the last of them, if there are any
+-- no run has the first n; some run has those before the last of them, if there are any
 pub record IsFirstUnmet (content : LitmusContent) (count : ℕ) : Type 0 where
   pub some : 1 ≤ count
   pub few : count ≤ all_required content
@@ -102,7 +102,7 @@ pub data IsHalved (content : LitmusContent) : (low high : ℕ) → Type 0 where
   upper : (low high : ℕ) → IsHalved content low high → 2 ≤ high - low → CanMeet content (midway low high)
       → IsHalved content (midway low high) high
 
--- whether so many can be met is searched for: they are midway, and some command has a reply that is not among them
+-- whether the first n can be met is searched for: n is midway, and some command has a reply that is not among them
 pub record IsAsked (content : LitmusContent) (count : ℕ) : Type 0 where
   pub low : ℕ
   pub high : ℕ

@@ -96,7 +96,7 @@ within_of so_far = within_by so_far.repeat (length so_far.conditions) (length so
 abbrev pub current_thread : LitmusReading → Result ℕ Cause
 current_thread so_far = if length so_far.names == 0 then Err UnknownWord else Ok (length so_far.names - 1)
 
--- the place among the last thread's commands, from 0, past so many more of them; the file has room for those
+-- the place among the last thread's commands, from 0, past n more of them; the file has room for those
 abbrev pub place_past : LitmusReading → (count : ℕ) → Result ℕ Cause
 place_past so_far count =
     if nat_le (length so_far.lines + count) MOST_COMMANDS then Ok (length so_far.lines - so_far.before + count)
@@ -136,7 +136,7 @@ leaving_line thread leave_to numbered = record {
   number = numbered.number;
 }
 
--- commands so many times, one copy after another
+-- commands, `times` times over
 unfoldable pub copies_of : (times : ℕ) → List NumberedCommand → List NumberedCommand
 copies_of zero body = []
 copies_of (suc times) body = copies_of times body ++ body

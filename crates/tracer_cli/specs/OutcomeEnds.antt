@@ -88,7 +88,7 @@ tallies_of ends = map (tally_of ends) (first_ends ends)
 abbrev pub end_head : (count place : ℕ) → List ℕ
 end_head count place = decimal count ++ codes " outcomes, first " ++ decimal (place + 1) ++ codes ": "
 
--- the line of outcomes that end alike, where there are so many of them
+-- the line of outcomes that end alike, where there are this many of them
 abbrev pub tally_line : (ends : List (List ℕ)) → (count : ℕ) → Tally → List ℕ
 tally_line ends count tally =
     if tally.count == count then end_head count tally.first ++ (end_at ends tally.first ++ codes "\n") else []
@@ -96,7 +96,7 @@ tally_line ends count tally =
 abbrev pub tally_lines : (ends : List (List ℕ)) → (count : ℕ) → List Tally → List ℕ
 tally_lines ends count tallies = flat_map (tally_line ends count) tallies
 
--- the lines of the ends that at most so many outcomes have: an end that more outcomes have comes first, and of those
+-- the lines of the ends that at most this many outcomes have: an end that more outcomes have comes first, and of those
 -- that as many have the one of the earlier outcome
 unfoldable pub lines_to : (ends : List (List ℕ)) → (most : ℕ) → List ℕ
 lines_to ends zero = []

@@ -1,5 +1,5 @@
 -- What a litmus file requires: its replies and conditions, numbered from 1 in the order of its lines. The program with
--- the first so many of them, and the conditions among these.
+-- the first n of them, and the conditions among these.
 use Rattle.std.specs.Prelude.{ℕ, nat_le, List, filter, map, if◌then◌else◌}
 use Rattle.stop_explorer.specs.declared.command.ProgramLine.{ProgramLine}
 use Rattle.stop_explorer.specs.Program.{Program}

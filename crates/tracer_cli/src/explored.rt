@@ -19,7 +19,7 @@ use crate::litmus::required::{Condition, NumberedLine, conditions_with, program_
 use crate::outcomes::chosen::{count_chosen, is_chosen};
 use crate::outcomes::ends::ends_text;
 use crate::outcomes::order::outcome_replay;
-use crate::outcomes::text::{forbidden_text, outcomes_text};
+use crate::outcomes::text::{ToldProgram, forbidden_text, outcomes_text};
 use std::alloc::Global;
 use stop_board::NoMemory;
 use stop_explorer::{ExploreError, Explored, FoundRun, ThreadCommand, commands_of, explore};
@@ -32,8 +32,8 @@ pub(crate) struct ExploredText {
     pub(crate) forbidden: bool,
 }
 
-/// What a search found: the outcomes of the program with the first so many of the replies and conditions of its file,
-/// beside that program and these conditions.
+/// What a search found: the outcomes of the program with the first n of the replies and conditions of its file, beside
+/// that program and these conditions.
 #[derive(Drop)]
 pub(crate) struct Searched {
     pub(crate) commands: Vec<Vec<ThreadCommand>>,
@@ -93,7 +93,7 @@ fn shows_ends(listing: Listing) -> bool
 
 // ---- searches
 
-/// Searches the program with the first so many of the replies and conditions of its file.
+/// Searches the program with the first `count` of the replies and conditions of its file.
 fn search(
     alloc: Global,
     file: &LitmusFile<'_, Global>,
@@ -191,19 +191,19 @@ fn show_all(
         whole.now.explored.places (chosen_with (content_in file.now) (length file.now.requirements.items)
         whole.now.explored.runs.items)) }
 {
-    let rows = file.rows.rows();
-    let names = file.names.as_slice();
-    let voices = file.voices.as_slice();
-    let commands = whole.commands.as_slice();
+    let program = ToldProgram {
+        rows: file.rows.rows(),
+        names: file.names.as_slice(),
+        voices: file.voices.as_slice(),
+        commands: whole.commands.as_slice(),
+    };
     let conditions = whole.conditions.as_slice();
     let required = !file.requirements.is_empty();
     let explored = &whole.explored;
     if ends {
-        return ends_text(alloc, rows, names, commands, conditions, required, explored);
+        return ends_text(alloc, &program, conditions, required, explored);
     }
-    outcomes_text(
-        alloc, rows, names, voices, commands, conditions, required, explored,
-    )
+    outcomes_text(alloc, &program, conditions, required, explored)
 }
 
 /// The order of one outcome as a replay file.
@@ -289,8 +289,8 @@ fn first_unmet(
     }
 }
 
-/// Whether the first so many requirements can all be met. What was found with all of them tells it, where each reply is
-/// among these.
+/// Whether the first `count` requirements can all be met. Where each reply is among these, the outcomes that were found
+/// with all requirements decide, without another search.
 fn can_meet(
     alloc: Global,
     file: &LitmusFile<'_, Global>,
@@ -315,7 +315,7 @@ fn can_meet(
     Ok(is_some_chosen(part.commands.as_slice(), part.conditions.as_slice(), runs))
 }
 
-/// Whether the replies of all commands are among the first so many requirements.
+/// Whether the replies of all commands are among the first `count` requirements.
 fn have_numbers_to(count: usize, lines: &[NumberedLine]) -> bool
     ensures { result ≡ have_numbers_to count lines.now }
 {

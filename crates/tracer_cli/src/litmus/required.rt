@@ -1,6 +1,6 @@
 //! What a file requires: its replies and its conditions, numbered from 1 in the order of its lines. A reply that is in a
-//! repeat is one of them, and each copy has its number. What lies between a program with all of them and one with none
-//! is the program with the first so many.
+//! repeat is one of them, and each copy has its number. Between the program with all of them and the one with none are
+//! the programs with the first n.
 
 ghost use Rattle.std.specs.Prelude.{◌≡◌, IfOk};
 ghost use Rattle.tracer_cli.specs.Required.{conditions_with, required_line, program_with};
@@ -42,7 +42,7 @@ pub(crate) struct NumberedCondition {
     pub(crate) number: usize,
 }
 
-/// A command, without its reply where that is not among the first so many.
+/// A command, without its reply where that is not among the first `count`.
 fn required_line(count: usize, numbered: &NumberedLine) -> ProgramLine
     ensures { result ≡ required_line count numbered.now }
 {
@@ -59,7 +59,7 @@ fn required_line(count: usize, numbered: &NumberedLine) -> ProgramLine
     }
 }
 
-/// The program with the first so many of the replies and conditions of its file.
+/// The program with the first `count` of the replies and conditions of its file.
 pub(crate) fn program_with<A: Allocator>(
     alloc: A,
     count: usize,
@@ -74,7 +74,7 @@ pub(crate) fn program_with<A: Allocator>(
     Ok(program)
 }
 
-/// The conditions among the first so many of the replies and conditions of a file.
+/// The conditions among the first `count` of the replies and conditions of a file.
 pub(crate) fn conditions_with<A: Allocator>(
     alloc: A,
     count: usize,

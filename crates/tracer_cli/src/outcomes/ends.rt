@@ -14,7 +14,7 @@ ghost use Rattle.tracer_cli.specs.OutcomeText.{name_at, thread_word};
 
 use super::chosen::is_chosen;
 use super::condition::waits_at_end;
-use super::text::{name_at, write_end, write_thread_word};
+use super::text::{ToldProgram, name_at, write_end, write_thread_word};
 use crate::litmus::required::Condition;
 use crate::replies::write_number;
 use std::alloc::Allocator;
@@ -341,7 +341,7 @@ fn write_end_at<A: Allocator>(
     Ok(())
 }
 
-/// Writes the line of outcomes that end alike, where there are so many of them.
+/// Writes the line of outcomes that end alike, where there are this many of them.
 #[tactic(auto, using(crate::proofs::Written::in_two))]
 fn write_tally<A: Allocator>(
     out: &mut String<A>,
@@ -360,7 +360,7 @@ fn write_tally<A: Allocator>(
     write_end_at(out, ends, tally.first)
 }
 
-/// Writes the lines of the ends that so many outcomes have.
+/// Writes the lines of the ends that this many outcomes have.
 fn write_ends_of<A: Allocator>(
     out: &mut String<A>,
     ends: &[String<A>],
@@ -400,21 +400,28 @@ fn write_tallies<A: Allocator>(
 /// replies or conditions.
 pub(crate) fn ends_text<A: Allocator + Copy>(
     alloc: A,
-    rows: &[Row],
-    names: &[Option<&[u8]>],
-    commands: &[Vec<ThreadCommand, A>],
+    program: &ToldProgram<'_, '_, A>,
     conditions: &[Condition],
     required: bool,
     explored: &Explored<A>,
 ) -> Result<String<A>, NoMemory>
-    requires names { AreTexts names.now }
-    requires few { length names.now < 2 ^ 32 }
+    requires names { AreTexts program.now.names.now }
+    requires few { length program.now.names.now < 2 ^ 32 }
     ensures { IfOk result (λ text. string_bytes text
-        ≡ ends_text rows.now (names_kept names.now) (commands_in commands.now) required explored.now.places
-        (chosen_of (length commands.now) (commands_in commands.now) conditions.now explored.now.runs.items)) }
+        ≡ ends_text program.now.rows.now (names_kept program.now.names.now) (commands_in program.now.commands.now)
+        required explored.now.places (chosen_of (length program.now.commands.now)
+        (commands_in program.now.commands.now) conditions.now explored.now.runs.items)) }
 {
     let runs = explored.runs.as_slice();
-    let ends = end_texts(alloc, rows, names, commands, conditions, runs)?;
+    let rows = program.rows;
+    let ends = end_texts(
+        alloc,
+        rows,
+        program.names,
+        program.commands,
+        conditions,
+        runs,
+    )?;
     let tallies = tallies_of(alloc, ends.as_slice())?;
     let mut out = String::new(alloc);
     write_tallies(&mut out, ends.as_slice(), tallies.as_slice())?;

@@ -23,6 +23,16 @@ use std::alloc::Allocator;
 use stop_board::{NoMemory, Row, State};
 use stop_explorer::{Explored, FoundRun, ThreadCommand, Turn, Voice, command_after, index_after};
 
+/// A program, as the texts of its outcomes tell of it: the rows of its board, the names and the voices of its threads,
+/// and their commands.
+#[derive(Drop)]
+pub(crate) struct ToldProgram<'a, 't, A: Allocator> {
+    pub(crate) rows: &'a [Row],
+    pub(crate) names: &'a [Option<&'t [u8]>],
+    pub(crate) voices: &'a [Voice],
+    pub(crate) commands: &'a [Vec<ThreadCommand, A>],
+}
+
 // ---- commands
 
 /// Writes a command that was done, and its answer.
@@ -330,21 +340,22 @@ fn write_outcome_line<A: Allocator>(
 #[tactic(auto, using(crate::proofs::Written::in_five))]
 pub(crate) fn write_outcome<A: Allocator>(
     out: &mut String<A>,
-    rows: &[Row],
-    names: &[Option<&[u8]>],
-    voices: &[Voice],
-    commands: &[Vec<ThreadCommand, A>],
+    program: &ToldProgram<'_, '_, A>,
     number: usize,
     count: usize,
     run: &FoundRun<A>,
 ) -> Result<(), NoMemory>
-    requires names { AreTexts names.now }
-    requires few { length names.now < 2 ^ 32 }
+    requires names { AreTexts program.now.names.now }
+    requires few { length program.now.names.now < 2 ^ 32 }
     ensures { OnOk result (string_bytes out.new ≡ string_bytes out.old
-        ++ outcome_text rows.now (names_kept names.now) voices.now (commands_in commands.now) number count run.now) }
+        ++ outcome_text program.now.rows.now (names_kept program.now.names.now) program.now.voices.now
+        (commands_in program.now.commands.now) number count run.now) }
 {
+    let rows = program.rows;
+    let names = program.names;
+    let commands = program.commands;
     write_outcome_line(out, number, count)?;
-    write_threads(out, rows, names, voices, commands, run)?;
+    write_threads(out, rows, names, program.voices, commands, run)?;
     write_tracees(out, rows, run.states())?;
     write_turns(out, rows, names, commands, run.turns())?;
     out.push_str("\n")?;
@@ -354,24 +365,22 @@ pub(crate) fn write_outcome<A: Allocator>(
 /// Writes the outcomes that are printed, numbered from 1.
 fn write_outcomes<A: Allocator>(
     out: &mut String<A>,
-    rows: &[Row],
-    names: &[Option<&[u8]>],
-    voices: &[Voice],
-    commands: &[Vec<ThreadCommand, A>],
+    program: &ToldProgram<'_, '_, A>,
     conditions: &[Condition],
     count: usize,
     runs: &[FoundRun<A>],
 ) -> Result<(), NoMemory>
-    requires names { AreTexts names.now }
-    requires few { length names.now < 2 ^ 32 }
+    requires names { AreTexts program.now.names.now }
+    requires few { length program.now.names.now < 2 ^ 32 }
     ensures { OnOk result (string_bytes out.new ≡ string_bytes out.old
-        ++ outcome_texts rows.now (names_kept names.now) voices.now (commands_in commands.now) 1 count
-        (chosen_of (length commands.now) (commands_in commands.now) conditions.now runs.now)) }
+        ++ outcome_texts program.now.rows.now (names_kept program.now.names.now) program.now.voices.now
+        (commands_in program.now.commands.now) 1 count (chosen_of (length program.now.commands.now)
+        (commands_in program.now.commands.now) conditions.now runs.now)) }
 {
     let mut before = 0;
     for run in runs {
-        if is_chosen(commands, conditions, run) {
-            write_outcome(out, rows, names, voices, commands, before + 1, count, run)?;
+        if is_chosen(program.commands, conditions, run) {
+            write_outcome(out, program, before + 1, count, run)?;
             before += 1;
         }
     }
@@ -419,26 +428,22 @@ fn write_allowed<A: Allocator>(out: &mut String<A>, required: bool) -> Result<()
 /// they and the places are. `required`: the file has replies or conditions. Each thread has a name, or none.
 pub(crate) fn outcomes_text<A: Allocator + Copy>(
     alloc: A,
-    rows: &[Row],
-    names: &[Option<&[u8]>],
-    voices: &[Voice],
-    commands: &[Vec<ThreadCommand, A>],
+    program: &ToldProgram<'_, '_, A>,
     conditions: &[Condition],
     required: bool,
     explored: &Explored<A>,
 ) -> Result<String<A>, NoMemory>
-    requires names { AreTexts names.now }
-    requires few { length names.now < 2 ^ 32 }
-    ensures { IfOk result (λ text. string_bytes text ≡ chosen_text rows.now (names_kept names.now) voices.now
-        (commands_in commands.now) required explored.now.places
-        (chosen_of (length commands.now) (commands_in commands.now) conditions.now explored.now.runs.items)) }
+    requires names { AreTexts program.now.names.now }
+    requires few { length program.now.names.now < 2 ^ 32 }
+    ensures { IfOk result (λ text. string_bytes text ≡ chosen_text program.now.rows.now
+        (names_kept program.now.names.now) program.now.voices.now (commands_in program.now.commands.now) required
+        explored.now.places (chosen_of (length program.now.commands.now) (commands_in program.now.commands.now)
+        conditions.now explored.now.runs.items)) }
 {
     let mut out = String::new(alloc);
     let runs = explored.runs.as_slice();
-    let count = count_chosen(commands, conditions, runs);
-    write_outcomes(
-        &mut out, rows, names, voices, commands, conditions, count, runs,
-    )?;
+    let count = count_chosen(program.commands, conditions, runs);
+    write_outcomes(&mut out, program, conditions, count, runs)?;
     write_end(&mut out, count, explored.places, required)?;
     Ok(out)
 }

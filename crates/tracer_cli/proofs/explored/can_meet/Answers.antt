@@ -1,4 +1,4 @@
--- What was found tells it: with all requirements, where each reply is among the first so many, or with these.
+-- The outcomes that were found with all requirements decide, where each reply is among the first n; or those with these.
 use Rattle.std.proofs.Common.{◌≡◌, ◌∙◌, ap, length, sym, true}
 use Rattle.std.specs.List.{list_any}
 use Rattle.stop_explorer.specs.Search.{commands_in}

@@ -1,4 +1,4 @@
--- What was found is of the program with the first so many requirements.
+-- What was found is of the program with the first n requirements.
 use Rattle.std.proofs.Common.{◌≡◌, ◌∙◌, ◌<◌, ℕ, List, ap, arith, length, subst, sym}
 use Rattle.std.specs.List.{All}
 use Rattle.stop_explorer.specs.BoardCall.{IsBoardCall}

@@ -11,12 +11,13 @@ use Rattle.tracer_cli.proofs.outcomes.text.write_outcomes.Goals.{then-is_chosen+
 
 pub loop-run-preserved : goal.loop-run-preserved
 loop-run-preserved g c =
-    let threads = length c.args.commands.now in
-    let commands = commands_in c.args.commands.now in
+    let program = c.args.program.now in
+    let threads = length program.commands.now in
+    let commands = commands_in program.commands.now in
     let conditions = c.args.conditions.now in
-    let voices = c.args.voices.now in
-    let rows = c.args.rows.now in
-    let names = names_kept c.args.names.now in
+    let voices = program.voices.now in
+    let rows = program.rows.now in
+    let names = names_kept program.names.now in
     let run = c.run-item.result in
     let rest = chosen_of threads commands conditions (drop (c.loop-run.run-index + 1) c.args.runs.now) in
     let told = sym c.is_chosen.ensures in
@@ -50,9 +51,10 @@ loop-run-preserved g c =
 
 pub returns : goal.returns
 returns g c =
-    let threads = length c.args.commands.now in
-    let commands = commands_in c.args.commands.now in
+    let program = c.args.program.now in
+    let threads = length program.commands.now in
+    let commands = commands_in program.commands.now in
     sym (no_piece (string_bytes c.loop-run.out) _
-    (outcomes_over c.args.rows.now (names_kept c.args.names.now) c.args.voices.now commands _ c.args.count _
+    (outcomes_over program.rows.now (names_kept program.names.now) program.voices.now commands _ c.args.count _
     (chosen_over threads commands c.args.conditions.now c.args.runs.now c.loop-run.run-index c.loop-run-test.false)))
     ∙ c.loop-run.invariant.written

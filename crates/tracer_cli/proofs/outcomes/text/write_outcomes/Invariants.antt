@@ -10,9 +10,12 @@ abbrev pub invariant-loop-run : goal.invariant-loop-run
 invariant-loop-run g l = record {
   few : l.before ≤ l.run-index;
   written : string_bytes l.out
-      ++ outcome_texts l.rows (names_kept l.names) l.voices (commands_in l.commands) (l.before + 1) l.count
-      (chosen_of (length l.commands) (commands_in l.commands) l.conditions (drop l.run-index l.runs))
+      ++ outcome_texts l.program.rows.now (names_kept l.program.names.now) l.program.voices.now
+      (commands_in l.program.commands.now) (l.before + 1) l.count
+      (chosen_of (length l.program.commands.now) (commands_in l.program.commands.now) l.conditions
+      (drop l.run-index l.runs))
       ≡ string_bytes l.fn.out
-      ++ outcome_texts l.rows (names_kept l.names) l.voices (commands_in l.commands) 1 l.count
-      (chosen_of (length l.commands) (commands_in l.commands) l.conditions l.runs);
+      ++ outcome_texts l.program.rows.now (names_kept l.program.names.now) l.program.voices.now
+      (commands_in l.program.commands.now) 1 l.count
+      (chosen_of (length l.program.commands.now) (commands_in l.program.commands.now) l.conditions l.runs);
 }

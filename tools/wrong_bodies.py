@@ -63,7 +63,7 @@ class Crate:
         tests = rattle_source.test_modules(self.texts)
         for part in parts:
             for file in sorted(it for it in (self.folder / part).rglob("*") if it.is_file()):
-                inside = str(file.relative_to(self.folder / part)).removesuffix(".rt").removesuffix(".antt")
+                inside = str(file.relative_to(self.folder / part)).removesuffix(".rt")
                 if part not in ("src", "proofs") or not any(f"{inside}/".startswith(f"{it}/") for it in tests):
                     yield file
 

@@ -1,5 +1,5 @@
-//! Tests of replays, and of the program with streams that fail; the README's first example. They are in a crate at the top,
-//! because a crate with tests is proved twice.
+//! Tests of runs of a case, of replays, and of the program with streams that fail; the README's first example. They are in
+//! a crate at the top, because a crate with tests is proved twice.
 #![tactic(auto)]
 
 #[cfg(test)]
@@ -12,3 +12,5 @@ mod readme;
 mod replay;
 #[cfg(test)]
 mod run;
+#[cfg(test)]
+mod workers;

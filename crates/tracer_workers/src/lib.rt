@@ -11,8 +11,6 @@ mod machine;
 mod one_thread;
 mod run_error;
 mod scheduled;
-#[cfg(test)]
-mod tests;
 mod thread_laws;
 mod threaded;
 mod tracee_thread;

@@ -1,0 +1,8 @@
+-- There is a row.
+use Rattle.std.proofs.Common.{◌<◌, length}
+use Rattle.system_tests.proofs.workers.tracee_thread.serve.Given as goal
+
+abbrev pub invariant-loop : goal.invariant-loop
+invariant-loop g l =
+    (goal.iterator-loop g).can_next l.iterator' × (goal.iterator-loop g).is_finite l.iterator'
+    × (0 < length l.tracer.view.roster)

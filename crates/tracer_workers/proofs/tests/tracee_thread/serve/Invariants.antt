@@ -1,8 +1,0 @@
--- There is a row.
-use Rattle.std.proofs.Common.{◌<◌, length}
-use Rattle.tracer_workers.proofs.tests.tracee_thread.serve.Given as goal
-
-abbrev pub invariant-loop : goal.invariant-loop
-invariant-loop g l =
-    (goal.iterator-loop g).can_next l.iterator' × (goal.iterator-loop g).is_finite l.iterator'
-    × (0 < length l.tracer.view.roster)

@@ -1,6 +1,9 @@
 //! The program `tracer`. All that it does is in the library `tracer_cli`.
 #![tactic(auto)]
 
+#[cfg(test)]
+mod tests;
+
 use std::process::ExitCode;
 use std::{env, io};
 use tracer_cli::process;

@@ -1,7 +1,7 @@
 //! The program with streams that fail, and with files that are named. Its words, statuses and texts are in
 //! tests/cases/program.cases.
 
-use crate::compare::same;
+use crate::tests::compare::same;
 use std::alloc::AllocError;
 use std::fs;
 use std::io::{self, ErrorKind, Read, Write};

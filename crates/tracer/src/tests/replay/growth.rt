@@ -1,7 +1,7 @@
 //! Each growth of a replay refused in turn.
 
-use crate::compare::same;
-use crate::replay::{FILE, REPLIES};
+use crate::tests::compare::same;
+use crate::tests::replay::{FILE, REPLIES};
 use refusing_allocator::RefusingAllocator;
 use tracer_cli::{CaseError, Cause, replay_text};
 

@@ -2,7 +2,7 @@
 
 mod growth;
 
-use crate::compare::same;
+use crate::tests::compare::same;
 use std::test::Fail;
 use tracer_cli::replay_text;
 

@@ -1,7 +1,7 @@
 //! `tracer run`: files that are named, and streams that fail. Its options and texts are in tests/cases/runs.cases.
 
-use crate::compare::same;
-use crate::program::{CANNOT_WRITE, command_line, narrow, run_with};
+use crate::tests::compare::same;
+use crate::tests::program::{CANNOT_WRITE, command_line, narrow, run_with};
 use std::fs;
 use std::test::Fail;
 use tracer_cli::program;

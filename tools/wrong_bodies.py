@@ -223,14 +223,14 @@ class Task:
         return sum(map(len, self.crate.texts.values())) * (2 + len(self.group))
 
 
-def is_proved(crate, has_edits):
+def is_proved(crate, has_edits, jobs):
     """Whether the crate is proved as it is: the crates above it stand on the library that this builds, and its wrong
     bodies are tried over what this keeps. A library that is there serves where no edits are tried. All this is done in
     a copy, since the kit lets no two commands work above one library at once."""
     began = time.monotonic()
     with tempfile.TemporaryDirectory(prefix="wrong-bodies-") as room:
         folder = copied(crate, room, KEPT if has_edits else LIBRARY)
-        ran = ran_in(folder, [RT, "lib", "--jobs", "1"])
+        ran = ran_in(folder, [RT, "lib", "--jobs", str(jobs)])
         if ran.returncode:
             say(f"{crate.name}: NOT PROVED as it is:\n{ran.stdout[-3000:]}")
             return False
@@ -268,8 +268,12 @@ class Plan:
         """Hands in the tasks that can be done now, as many as there are lanes."""
         for task in sorted(filter(self.is_ready, self.left), key=self.rank, reverse=True)[: lanes - len(self.running)]:
             self.left.remove(task)
-            given = (task.crate, task.group) if task.group else (task.crate, task.crate.name in self.digests)
-            self.running[pool.submit(try_some if task.group else is_proved, *given)] = task
+            if task.group:
+                self.running[pool.submit(try_some, task.crate, task.group)] = task
+            else:
+                # The longest chain is one of proofs, so they get two processors where there are more.
+                jobs = 2 if lanes > 2 else 1
+                self.running[pool.submit(is_proved, task.crate, task.crate.name in self.digests, jobs)] = task
 
     def end(self, done):
         """Takes down what a task told, and what is to be tried again."""

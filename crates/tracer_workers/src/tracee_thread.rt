@@ -16,6 +16,7 @@ ghost use Rattle.tracer_workers.specs.TraceeThread.{IsToStart};
 
 use crate::fault::FAULT_DEATH;
 use crate::invariants;
+use crate::pause::PAUSE;
 use std::alloc::Allocator;
 use std::sync::Wait;
 use std::thread;
@@ -24,9 +25,6 @@ use stop_table::{GroupAlive, Start, Tracee};
 use trace_calls::Patience;
 use trace_record::{Death, Resume, StopRecord};
 use trace_script::{Machine, Next};
-
-/// How long a thread sleeps, in milliseconds, before it looks again whether its row is born.
-const BIRTH_PAUSE: u64 = 1;
 
 /// Runs a tracee's row from its birth to its death: each stop that it publishes is the next one of its script for the
 /// restart and the content that it took up, and it dies as its script says, or by SIGSEGV where a store of the script
@@ -65,7 +63,7 @@ fn await_birth<A: Allocator, R: Wait + Clock>(rt: &R, tracee: &mut Tracee<A>) ->
         match tracee.start() {
             Start::Born => return true,
             Start::Never => return false,
-            Start::NotYet => thread::sleep(rt, Duration::from_millis(BIRTH_PAUSE)),
+            Start::NotYet => thread::sleep(rt, Duration::from_millis(PAUSE)),
         }
     }
     unreachable!()

@@ -1,6 +1,7 @@
 //! A worker's thread.
 
-ghost use Rattle.std.specs.Prelude.{◌≡◌, ◌≢◌, ◌≤◌, ◌∷◌, ◌++◌, [], List, MatchOption, None, Ok, Some, false};
+ghost use Rattle.std.specs.Prelude.{◌≡◌, ◌≢◌, ◌<◌, ◌≤◌, ◌+◌, ◌-◌, ◌∷◌, ◌++◌, [], List, MatchOption, None, Ok, Some, false};
+ghost use Rattle.std.specs.Prelude.{if◌then◌else◌, nat_lt};
 ghost use Rattle.record_printer.specs.Piece as pieces;
 ghost use Rattle.stop_history.specs.declared.limits.TheConstants.{LAST_NUMBER};
 ghost use Rattle.stop_table.specs.Entry.{content_after};
@@ -21,10 +22,12 @@ ghost use Rattle.tracer_workers.specs.WorkerThread.{AreOverForGood, death_in, ow
 use crate::config::{Config, policy};
 use crate::gate::Gate;
 use crate::invariants;
+use crate::pause::PAUSE;
 use record_printer::{Piece, death_piece, piece_of};
 use std::alloc::{Allocator, Global};
 use std::sync::Wait;
-use std::time::Clock;
+use std::thread;
+use std::time::{Clock, Duration};
 use trace_calls::{Calls, Id, RowStatus};
 use trace_options::{Errno, WaitFlags};
 use trace_record::Death;
@@ -68,7 +71,7 @@ pub fn run_worker<A: Allocator + Copy, R: Wait + Clock, G: Gate>(
     invariants::of_calls(calls);
     let mut from = 0;
     for _ in rt.forever() {
-        let Some(found) = next_found(rt, calls, from) else {
+        let Some(found) = next_found(rt, calls, worker, from) else {
             return worked;
         };
         from = found.row.saturating_add(1);
@@ -87,9 +90,13 @@ pub fn run_worker<A: Allocator + Copy, R: Wait + Clock, G: Gate>(
 /// What is served next: of the rows from this one on, tried in turn, the first that has a stop or a death; where none
 /// has, what a wait for all rows answers. None: no tracee can have one any more. So rows that have ended are not looked
 /// at again for each stop of a later row.
+///
+/// A worker that is not the first one tries each row, and sleeps before that wait: what the first one serves alone needs
+/// no more workers, and looks of theirs would take the processors from the tracees.
 fn next_found<A: Allocator, R: Wait + Clock>(
     rt: &R,
     calls: &mut Calls<A>,
+    worker: u32,
     from: u32,
 ) -> Option<RowStatus>
     requires { IsTracerHandle (tracer_of calls.old) }
@@ -97,12 +104,36 @@ fn next_found<A: Allocator, R: Wait + Clock>(
     ensures answer { MatchOption result (NoChild anyone calls.old.view calls.new.view)
         (λ found. HasFound calls.old calls.new found) }
 {
-    for row in from..calls.rows() {
+    let rows = calls.rows();
+    let tries = if worker == 0 {
+        rows.saturating_sub(from)
+    } else {
+        rows
+    };
+    for tried in 0..tries {
+        let row = row_in_turn(from, tried, rows);
         if let Some(found) = status_in(calls.wait_one(row)) {
             return Some(found);
         }
     }
+    if worker > 0 {
+        thread::sleep(rt, Duration::from_millis(PAUSE));
+    }
     status_in(calls.wait_row_blocking(rt, Id::All, WaitFlags::WEXITED))
+}
+
+/// The row that is tried after so many others, from a row on: after the last one the first.
+fn row_in_turn(from: u32, tried: u32, rows: u32) -> u32
+    requires { tried < rows }
+    ensures row { result ≡ (if nat_lt tried (rows - from) then from + tried else tried - (rows - from)) }
+    ensures within { result < rows }
+{
+    let left = rows.saturating_sub(from);
+    if tried < left {
+        from + tried
+    } else {
+        tried - left
+    }
 }
 
 /// The status that a wait answered, if it answered one.

@@ -12,7 +12,7 @@ COMMA = ,
 
 .PHONY: all kit demo examples scarce-memory refused-memory man-page documents one-source one-meaning refused-code check \
 	wrong-bodies wrong-bodies-changed wrong-bodies-test test bench bench-case bench-cells bench-pages bench-fold bench-run \
-	bench-threads bench-explore tools install clean
+	bench-threads bench-large bench-explore tools install clean
 
 all: kit
 	@echo "make: proving the program and what it stands on, over what earlier runs kept (the first time: 45 minutes)"
@@ -141,6 +141,7 @@ bench: tools all
 	@$(MAKE) --no-print-directory bench-fold
 	@$(MAKE) --no-print-directory bench-run
 	@$(MAKE) --no-print-directory bench-threads
+	@$(MAKE) --no-print-directory bench-large
 	@$(MAKE) --no-print-directory bench-explore
 
 # Builds a program of bench/, which is a crate of the repository for as long as that takes: the crate's name, its source,
@@ -202,6 +203,15 @@ bench-threads: tools all
 	@mkdir -p $(OUT)
 	@$(RUSTC) -O --edition 2024 -o $(OUT)/plain_threads bench/plain_threads.rs
 	@$(PYTHON) bench/threads.py --rows 1.3 "bin/tracer run" $(OUT)/plain_threads
+
+# The same on cases that are large in one way.
+bench-large: tools all
+	@echo "bench-large: timing bin/tracer run and plain Rust programs in turn on six large cases (two minutes)"
+	@mkdir -p $(OUT)
+	@$(RUSTC) -O --edition 2024 -o $(OUT)/generate_case bench/generate_case.rs
+	@$(RUSTC) -O --edition 2024 -o $(OUT)/plain_run bench/plain_run.rs
+	@$(RUSTC) -O --edition 2024 -o $(OUT)/plain_threads bench/plain_threads.rs
+	@$(PYTHON) bench/large.py "bin/tracer run" $(OUT)/plain_run $(OUT)/plain_threads $(OUT)/generate_case
 
 # The program that finds all outcomes, beside a plain search for them.
 bench-explore: tools all

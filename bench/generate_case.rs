@@ -1,5 +1,7 @@
-//! Writes a case file of about 16 MB to standard output: 64 rows in four families, with every kind of line. The first
-//! row of a family creates five threads and ten processes, each of which execs now and then. The same text each time.
+//! Writes a case file of about 16 MB to standard output, or of as many bytes as its argument says: 64 rows in four
+//! families, with every kind of line. The first row of a family creates five threads and ten processes, each of which
+//! execs now and then. The same text each time.
+use std::env;
 use std::io::{self, BufWriter, Write};
 
 const MOST: usize = 16_777_216;
@@ -7,10 +9,18 @@ const FAMILIES: u32 = 4;
 const THREADS: u32 = 5;
 const PROCESSES: u32 = 10;
 const ROWS: u32 = FAMILIES * (1 + THREADS + PROCESSES);
-/// How many bytes a row has, its last lines aside, so that all rows do not exceed the most that a file may have.
-const ROW_BYTES: usize = MOST / ROWS as usize - 256;
-/// How many steps lie between two execs, or two births.
-const APART: u32 = 500;
+/// What the last lines of a row may take, so that all rows do not exceed the most that a file may have.
+const LAST_LINES: usize = 256;
+/// How many steps lie between two execs, or two births, in a file of MOST bytes.
+const APART: usize = 500;
+
+/// How large a row is.
+struct Size {
+    /// How many bytes it has, its last lines aside.
+    bytes: usize,
+    /// How many steps lie between two execs, or two births.
+    apart: u32,
+}
 
 const TEXT: u64 = 0x401000;
 const DATA: u64 = 0x601000;
@@ -77,14 +87,14 @@ fn call(numbers: &mut Numbers) -> String {
     }
 }
 
-/// The step that is not a call, where it is time for one.
-fn other(row: &Row, turn: u32, numbers: &mut Numbers, out: &mut String) {
+/// The step that is not a call, where it is time for one, the first time being 0.
+fn other(row: &Row, time: u32, numbers: &mut Numbers, out: &mut String) {
     match row {
-        Row::First { tid } if turn / APART < THREADS => *out += &format!("thread {}\n", tid + 1 + turn / APART),
-        Row::First { tid } if turn / APART < THREADS + PROCESSES => {
-            *out += &format!("fork {}\n", tid + 1 + turn / APART)
+        Row::First { tid } if time < THREADS => *out += &format!("thread {}\n", tid + 1 + time),
+        Row::First { tid } if time < THREADS + PROCESSES => {
+            *out += &format!("fork {}\n", tid + 1 + time)
         }
-        Row::Process if turn / APART % 4 == 1 => {
+        Row::Process if time % 4 == 1 => {
             *out += &format!("exec {DATA:#x}\n");
             image(numbers, out);
         }
@@ -92,13 +102,13 @@ fn other(row: &Row, turn: u32, numbers: &mut Numbers, out: &mut String) {
     }
 }
 
-fn block(head: &str, row: &Row, numbers: &mut Numbers) -> String {
-    let mut out = format!("# a tracee of {ROW_BYTES} bytes\n{head}\n");
+fn block(head: &str, row: &Row, size: &Size, numbers: &mut Numbers) -> String {
+    let mut out = format!("# a tracee of {} bytes\n{head}\n", size.bytes);
     image(numbers, &mut out);
     let mut turn = 0;
-    while out.len() < ROW_BYTES {
-        if turn % APART == 0 {
-            other(row, turn, numbers, &mut out);
+    while out.len() < size.bytes {
+        if turn % size.apart == 0 {
+            other(row, turn / size.apart, numbers, &mut out);
         } else {
             out += &call(numbers);
             out.push('\n');
@@ -111,14 +121,17 @@ fn block(head: &str, row: &Row, numbers: &mut Numbers) -> String {
 fn main() -> io::Result<()> {
     let mut out = BufWriter::new(io::stdout().lock());
     let mut numbers = Numbers(1);
+    let most = env::args().nth(1).and_then(|word| word.parse().ok()).unwrap_or(MOST);
+    let apart = (APART * most / MOST).max(1) as u32;
+    let size = Size { bytes: (most / ROWS as usize).saturating_sub(LAST_LINES), apart };
     for first in (1000..).step_by(100).take(FAMILIES as usize) {
         let head = format!("tracee {first} {first} {first} 0");
-        out.write_all(block(&head, &Row::First { tid: first }, &mut numbers).as_bytes())?;
+        out.write_all(block(&head, &Row::First { tid: first }, &size, &mut numbers).as_bytes())?;
         for tid in first + 1..=first + THREADS + PROCESSES {
             let thread = tid <= first + THREADS;
             let (tgid, row) = if thread { (first, Row::Thread) } else { (tid, Row::Process) };
             let head = format!("tracee {tid} {tgid} {first} {first}");
-            out.write_all(block(&head, &row, &mut numbers).as_bytes())?;
+            out.write_all(block(&head, &row, &size, &mut numbers).as_bytes())?;
         }
     }
     out.flush()

@@ -1,15 +1,16 @@
 //! The run of a case file on standard input as a plain Rust program, to measure against: the standard library only, safe
 //! code, one thread. It reads the case as `plain_case.rs` does, runs the scripts one after the other, and prints the text
-//! of each row at once, with every call shown and strings of at most 32 bytes.
+//! of each row at once, with every call shown. Its argument is how many bytes of a string are shown, 32 without one.
 
 #[path = "plain_case.rs"]
 pub mod plain_case;
 
 use plain_case::{Call, Case, Image, MOST_BYTES, PAGE_SIZE, Row, Script, Step, read};
+use std::env;
 use std::io::{self, Read, Write};
 use std::process::ExitCode;
 
-const LIMIT: u64 = 32;
+pub const LIMIT: u64 = 32;
 const MOST_ENTRIES: u64 = 1024;
 
 pub const SIGNALS: [&str; 31] = [
@@ -80,6 +81,8 @@ impl<'a> Iterator for Pieces<'a> {
 /// The text of a row, as it is printed.
 pub struct Text<'a> {
     pub bytes: &'a mut Vec<u8>,
+    /// How many bytes of a string, and how many parts of an array, are shown.
+    pub limit: u64,
 }
 
 impl Text<'_> {
@@ -152,7 +155,7 @@ impl Text<'_> {
     fn buffer(&mut self, image: &Image, address: u64, length: u64) {
         let start = self.bytes.len();
         self.bytes.push(b'"');
-        let mut left = length.min(LIMIT);
+        let mut left = length.min(self.limit);
         for piece in (Pieces { image, at: address, left }) {
             self.quoted(piece);
             left -= piece.len() as u64;
@@ -161,13 +164,13 @@ impl Text<'_> {
             self.bytes.truncate(start);
             return self.address(address);
         }
-        self.words(if length > LIMIT { "\"..." } else { "\"" });
+        self.words(if length > self.limit { "\"..." } else { "\"" });
     }
 
     pub fn string(&mut self, image: &Image, address: u64) {
         let start = self.bytes.len();
         self.bytes.push(b'"');
-        let mut left = LIMIT + 1;
+        let mut left = self.limit + 1;
         for piece in (Pieces { image, at: address, left }) {
             if let Some(end) = piece.iter().position(|byte| *byte == 0) {
                 let shown = (end as u64).min(left - 1) as usize;
@@ -192,7 +195,7 @@ impl Text<'_> {
             return self.address(address);
         }
         self.bytes.push(b'[');
-        for place in 0..count.min(LIMIT) {
+        for place in 0..count.min(self.limit) {
             let mut entry = [0u8; 16];
             let mut filled = 0;
             let pieces = address.checked_add(16 * place).map(|at| Pieces { image, at, left: 16 });
@@ -215,7 +218,7 @@ impl Text<'_> {
             self.decimal(length);
             self.bytes.push(b'}');
         }
-        if count > LIMIT {
+        if count > self.limit {
             self.words(", ...");
         }
         self.bytes.push(b']');
@@ -314,7 +317,7 @@ pub fn after(text: &mut Text, image: &Image, call: &Call) {
 /// Runs a script and prints its lines; the children that it creates are born.
 fn run(row: &Row, script: Script, fills: &[u8], births: &mut Vec<u32>, text: &mut Text) {
     let mut tid = Vec::new();
-    Text { bytes: &mut tid }.decimal(u64::from(row.tid));
+    Text { bytes: &mut tid, limit: LIMIT }.decimal(u64::from(row.tid));
     tid.push(b' ');
     let mut image = script.image;
     for step in script.steps {
@@ -376,18 +379,19 @@ fn run(row: &Row, script: Script, fills: &[u8], births: &mut Vec<u32>, text: &mu
 }
 
 /// The text of a case. A row's parent stands before it.
-fn text_of(case: Case) -> Vec<u8> {
+fn text_of(case: Case, limit: u64) -> Vec<u8> {
     let mut bytes = Vec::new();
     let mut births = Vec::new();
     for (row, script) in case.rows.iter().zip(case.scripts) {
         if row.parent.is_none() || births.contains(&row.tid) {
-            run(row, script, &case.bytes, &mut births, &mut Text { bytes: &mut bytes });
+            run(row, script, &case.bytes, &mut births, &mut Text { bytes: &mut bytes, limit });
         }
     }
     bytes
 }
 
 fn main() -> ExitCode {
+    let limit = env::args().nth(1).and_then(|word| word.parse().ok()).unwrap_or(LIMIT);
     let mut text = Vec::with_capacity(MOST_BYTES + 1);
     if io::stdin().lock().take(MOST_BYTES as u64 + 1).read_to_end(&mut text).is_err() {
         eprintln!("tracer: cannot read");
@@ -396,7 +400,7 @@ fn main() -> ExitCode {
     match read(&text) {
         Ok(case) => {
             drop(text);
-            match io::stdout().write_all(&text_of(case)) {
+            match io::stdout().write_all(&text_of(case, limit)) {
                 Ok(()) => ExitCode::SUCCESS,
                 Err(_) => {
                     eprintln!("tracer: cannot write");

@@ -10,7 +10,7 @@
 mod plain_run;
 
 use plain_run::plain_case::{Case, Image, MOST_BYTES, Row, Script, Step, read};
-use plain_run::{SIGNALS, Text, after, before};
+use plain_run::{LIMIT, SIGNALS, Text, after, before};
 use std::collections::VecDeque;
 use std::io::{self, Read, Write};
 use std::process::ExitCode;
@@ -181,7 +181,7 @@ impl Board {
 /// Prints a step's part at its first stop, and at its last one.
 fn print(record: &mut Record) {
     let Record { tid, at, step, image, text } = record;
-    let mut text = Text { bytes: text };
+    let mut text = Text { bytes: text, limit: LIMIT };
     match (*at, step) {
         (At::Start | At::Event, _) | (_, None) => {}
         (At::Enter, Some(step)) => {

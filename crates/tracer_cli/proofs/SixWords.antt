@@ -11,7 +11,9 @@ use Rattle.tracer_cli.specs.Grammar.{claim_line, exit_line, publish_ending, publ
 use Rattle.tracer_cli.specs.Grammar.{replay_in_place}
 use Rattle.tracer_cli.specs.Grammar.{replay_keyword_of, replay_line_of, replay_rest_of, resume_line, row_line}
 use Rattle.tracer_cli.specs.Grammar.{state_line}
-use Rattle.text_lines.specs.Lines.{nth_word}
+use Rattle.tracer_cli.specs.File.{ReplayContent, has_begun, line_added, replay_line_read, replay_words_read}
+use Rattle.trace_script.specs.Reading.{with_cause}
+use Rattle.text_lines.specs.Lines.{nth_word, words_in}
 use Rattle.text_lines.specs.Ranges.{◌>>=◌}
 
 same_length : (words : List (List ℕ)) (k : ℕ) → k ≤ 4 → eqb (length (take 5 words)) k ≡ eqb (length words) k
@@ -77,3 +79,11 @@ first_six begun (first ∷ words) =
     let same : (λ w. replay_rest_of w (take 5 words)) ≡ (λ w. replay_rest_of w words) = λ i w. at_most_five w words i in
     ap (λ (read : ReplayKeyword → Result Line LineFault). if eqb (slice_index first 0) 35 then Ok line.Nothing else
     (replay_keyword_of first >>= λ k. replay_in_place begun k >>= read)) same
+
+-- a line is read by its first six words, since none has more than five
+pub read_by_six : (so_far : ReplayContent) (line : List ℕ) (read : List (List ℕ)) → read ≡ take 6 (words_in line)
+    → replay_words_read so_far read ≡ replay_line_read so_far line
+read_by_six so_far line read is =
+    ap (replay_words_read so_far) is
+    ∙ ap (λ (said : Result Line LineFault). with_cause said >>= line_added so_far)
+    (first_six (has_begun so_far) (words_in line))

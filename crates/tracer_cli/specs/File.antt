@@ -50,9 +50,12 @@ line_added so_far line.Nothing = Ok so_far
 line_added so_far (line.Row row) = row_added so_far row (push_fault so_far.rows row)
 line_added so_far (line.Command tid command) = order_added so_far command (row_of so_far.rows tid)
 
--- what one more line makes of the content so far, or its first fault
+-- what one more line makes of the content so far, by its words, or its first fault
+abbrev pub replay_words_read : ReplayContent → List (List ℕ) → Result ReplayContent Cause
+replay_words_read so_far words = with_cause (replay_line_of (has_begun so_far) words) >>= line_added so_far
+
 abbrev pub replay_line_read : ReplayContent → List ℕ → Result ReplayContent Cause
-replay_line_read so_far line = with_cause (replay_line_of (has_begun so_far) (words_in line)) >>= line_added so_far
+replay_line_read so_far line = replay_words_read so_far (words_in line)
 
 -- what lines make of the content before them, or their first fault; the first of them has number n
 abbrev pub replay_content_after : (n : ℕ) → ReplayContent → List (List ℕ) → Result ReplayContent CaseError

@@ -4,7 +4,6 @@ ghost use Rattle.std.specs.Prelude.{◌≡◌, ◌<◌, map, IfOk};
 ghost use Rattle.stop_history.specs.declared.limits.TheConstants.{TRACERS};
 ghost use Rattle.trace_record.specs.Death.{IsDeath};
 ghost use Rattle.trace_record.specs.Stop.{IsStop};
-ghost use Rattle.text_lines.specs.Lines.{words_in};
 ghost use Rattle.tracer_cli.specs.Grammar.{IsLine, claim_line, death_with_number, exit_line, publish_line};
 ghost use Rattle.tracer_cli.specs.Grammar.{publish_ending, publish_numbered, publish_plain, replay_in_place};
 ghost use Rattle.tracer_cli.specs.Grammar.{replay_line_of};
@@ -13,7 +12,7 @@ ghost use Rattle.tracer_cli.specs.Grammar.{tracer_number};
 
 use crate::command::Command;
 use stop_board::{Row, TRACERS};
-use text_lines::{LineFault, first_words, keyword, number_between};
+use text_lines::{LineFault, keyword, number_between};
 use trace_options::LAST_SIGNAL;
 use trace_record::{Death, Kind, Resume, Stop};
 use trace_script::{id, row_of_words};
@@ -58,7 +57,7 @@ pub(crate) enum DeathWord {
 }
 
 /// How many words of a line are looked at: one more than any line may have.
-const WORDS_LOOKED_AT: usize = 6;
+pub(crate) const WORDS_LOOKED_AT: usize = 6;
 
 /// The first words of lines.
 const KEYWORDS: [(&str, ReplayKeyword); 6] = [
@@ -98,18 +97,9 @@ const ENDINGS: [(&str, DeathWord); 2] = [
     ("killed", DeathWord::Killed),
 ];
 
-/// What a line says, where commands have begun or not, or its first fault.
-pub(crate) fn read_line(begun: bool, line: &[u8]) -> Result<Line, LineFault>
-    ensures line { result ≡ replay_line_of begun (words_in line.now) }
-    ensures range { IfOk result IsLine }
-{
-    let mut words: [&[u8]; WORDS_LOOKED_AT] = [&[]; WORDS_LOOKED_AT];
-    let count = first_words(line, &mut words);
-    read_words(begun, &words[..count])
-}
-
-/// What the words of a line say, where commands have begun or not.
-fn read_words(begun: bool, words: &[&[u8]]) -> Result<Line, LineFault>
+/// What the words of a line say, where commands have begun or not, or its first fault. Of more words than any line may
+/// have, one more is enough.
+pub(crate) fn read_words(begun: bool, words: &[&[u8]]) -> Result<Line, LineFault>
     ensures line { result ≡ replay_line_of begun (map (λ w. w.now) words.now) }
     ensures range { IfOk result IsLine }
 {

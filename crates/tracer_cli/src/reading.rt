@@ -1,21 +1,21 @@
 //! A replay file read whole, before any command of it is run: no fault of a file depends on the board.
 
-ghost use Rattle.std.specs.Prelude.{◌≡◌, ◌≤◌, All, IfErr, IfOk, List, Ok, length};
+ghost use Rattle.std.specs.Prelude.{◌≡◌, ◌≤◌, All, IfErr, IfOk, List, Ok, length, map};
 ghost use Rattle.tracer_cli.specs.declared.order.Order.{Order};
 ghost use Rattle.tracer_cli.specs.Command.{IsCommand, IsOrder};
 ghost use Rattle.trace_script.specs.Reading.{Refuses, TakesLine, most_bytes};
-ghost use Rattle.tracer_cli.specs.File.{content_of, nothing, order_added, replay_content_after, replay_line_read};
+ghost use Rattle.tracer_cli.specs.File.{content_of, nothing, order_added, replay_content_after, replay_words_read};
 ghost use Rattle.tracer_cli.specs.File.{row_added};
 ghost use Rattle.text_lines.specs.Lines.{lines_of};
 ghost use Rattle.stop_history.specs.declared.roster.Row.{Row};
 ghost use Rattle.stop_history.specs.Roster.{push_fault, row_of};
 
 use crate::command::Command;
-use crate::grammar::{Line, read_line};
+use crate::grammar::{Line, WORDS_LOOKED_AT, read_words};
 use crate::order::Order;
 use std::alloc::Allocator;
 use stop_board::{Roster, Row};
-use text_lines::cut_line;
+use text_lines::cut_words;
 use trace_script::{CaseError, Cause, MOST_BYTES};
 
 /// The shortest line that is a command.
@@ -31,20 +31,20 @@ pub(crate) struct ReplayFile<A: Allocator> {
     pub(crate) orders: Vec<Order, A>,
 }
 
-/// Takes one more line into the rows and the orders so far, or returns its first fault. The text has `left` bytes from
-/// this line on.
+/// Takes one more line, by its words, into the rows and the orders so far, or returns its first fault. The text has
+/// `left` bytes from this line on.
 fn take_line<A: Allocator>(
     rows: &mut Roster<A>,
     orders: &mut Vec<Order, A>,
     guesses: &mut [u32; GUESSES],
-    line: &[u8],
+    words: &[&[u8]],
     left: usize,
 ) -> Result<(), Cause>
     ensures line { TakesLine result (record { rows = rows.new; orders = orders.new.items })
-        (replay_line_read (record { rows = rows.old; orders = orders.old.items }) line.now) }
+        (replay_words_read (record { rows = rows.old; orders = orders.old.items }) (map (λ w. w.now) words.now)) }
     ensures range { All IsOrder orders.old.items → All IsOrder orders.new.items }
 {
-    match read_line(!orders.is_empty(), line)? {
+    match read_words(!orders.is_empty(), words)? {
         Line::Nothing => Ok(()),
         Line::Row(row) => take_row(rows, row),
         Line::Command(tid, command) => {
@@ -134,11 +134,19 @@ fn read_lines<A: Allocator + Copy>(alloc: A, text: &[u8]) -> Result<ReplayFile<A
     let mut rows = Roster::empty(alloc);
     let mut orders = Vec::new(alloc);
     let mut guesses = [0u32; GUESSES];
+    let mut words: [&[u8]; WORDS_LOOKED_AT] = [&[]; WORDS_LOOKED_AT];
     let mut rest = text;
     let mut number = 1u32;
     while !rest.is_empty() {
-        let (line, after) = cut_line(rest);
-        if let Err(cause) = take_line(&mut rows, &mut orders, &mut guesses, line, rest.len()) {
+        let (count, after) = cut_words(rest, &mut words);
+        let taken = take_line(
+            &mut rows,
+            &mut orders,
+            &mut guesses,
+            &words[..count],
+            rest.len(),
+        );
+        if let Err(cause) = taken {
             return Err(CaseError {
                 line: number,
                 cause,

@@ -2,12 +2,14 @@
 use Rattle.std.proofs.Common.{◌≡◌, ◌+◌, ◌≤◌, All, length}
 use Rattle.tracer_cli.specs.Command.{IsOrder}
 use Rattle.tracer_cli.specs.File.{nothing, replay_content_after}
+use Rattle.tracer_cli.specs.declared.grammar.TheConstants.{WORDS_LOOKED_AT}
 use Rattle.text_lines.specs.Lines.{lines_of}
 use Rattle.tracer_cli.proofs.reading.read_lines.Given as goal
 
 -- what the lines left make of the content so far is what all lines make of nothing
-abbrev pub invariant-loop-rest : goal.invariant-loop-rest
-invariant-loop-rest g l = record {
+abbrev pub invariant-loop-words : goal.invariant-loop-words
+invariant-loop-words g l = record {
+  long : length l.words ≡ WORDS_LOOKED_AT;
   room : l.number + length l.rest ≤ length l.text + 1;
   counted : l.number + length (lines_of l.rest) ≡ length (lines_of l.text) + 1;
   first : 1 ≤ l.number;
@@ -16,5 +18,5 @@ invariant-loop-rest g l = record {
       (lines_of l.rest) ≡ replay_content_after 1 nothing (lines_of l.text);
 }
 
-abbrev pub decreases-loop-rest : goal.decreases-loop-rest
-decreases-loop-rest g l = length l.rest
+abbrev pub decreases-loop-words : goal.decreases-loop-words
+decreases-loop-words g l = length l.rest

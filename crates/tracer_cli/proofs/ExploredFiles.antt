@@ -1,6 +1,6 @@
 -- What is found of the program of a litmus file, by its own commands, as the lists of each thread have them.
 use Rattle.std.proofs.Common.{refl, ◌≡◌, ◌∙◌, ◌<◌, ◌≤◌, ◌-◌, ◌==◌, ◌⊎◌, ℕ, Bool, true, false, not, List, Option, Some, None}
-use Rattle.std.proofs.Common.{ap, inl, inr, length, slice_get, subst, sym}
+use Rattle.std.proofs.Common.{ap, arith, inl, inr, length, slice_get, subst, sym}
 use Rattle.std.proofs.Math.Path.{fun_ext}
 use Rattle.std.proofs.lemmas.Option.{same_Some}
 use Rattle.std.proofs.lemmas.List.Elements.{All-filter, All-map, All-same, All-weaker}
@@ -81,6 +81,20 @@ pub more_with : (content : LitmusContent) (count budget : ℕ) (voices : List Vo
 more_with content count budget voices program program_is voices_are more =
     subst (λ v. HasMorePlaces content.rows (is_quiet v) (commands_with content count) budget) voices_are
     (subst (λ p. HasMorePlaces content.rows (is_quiet voices) (own_commands p) budget) program_is more)
+
+-- where places have a number that is within the budget, they are not more than the budget
+pub not_more_with : (content : LitmusContent) (count budget places : ℕ) (voices : List Voice) (program : Program)
+    → program ≡ program_with count content.lines → voices ≡ content.voices
+    → HasPlaces content.rows (is_quiet voices) (own_commands program) places → places ≤ budget
+    → ((rows : List Row) (quiet : ℕ → Bool) (commands : ℕ → List ThreadCommand) (number most : ℕ)
+    → HasPlaces rows quiet commands number → HasMorePlaces rows quiet commands most → most < number)
+    → HasMorePlacesWith content count budget → ⊥
+not_more_with content count budget places voices program program_is voices_are counted within law more =
+    let has : HasPlaces content.rows (is_quiet content.voices) (commands_with content count) places =
+    subst (λ v. HasPlaces content.rows (is_quiet v) (commands_with content count) places) voices_are
+    (subst (λ p. HasPlaces content.rows (is_quiet voices) (own_commands p) places) program_is counted) in
+    let above = law content.rows (is_quiet content.voices) (commands_with content count) places budget has more in
+    omega (arith, above, within)
 
 -- a search with more requirements tells of fewer, where these have all replies
 pub outcomes_within : (content : LitmusContent) (count more places : ℕ) (found : List EndedRun) → count ≤ more
@@ -268,6 +282,9 @@ all_shown options content searched text known none allowed is = record {
 -- ---- that nothing has all that the file requires
 
 pub forbidden_shown : (options : ExploreOptions) (content : LitmusContent) (text : List ℕ)
-    → number_asked options.listing ≡ None → (CanMeet content (all_required content) → ⊥)
-    → IsForbiddenText options.budget content text → IsShown options content text true
-forbidden_shown options content text none unmet says = record { lists = none; unmet = unmet; says = says }
+    → number_asked options.listing ≡ None
+    → (HasMorePlacesWith content (all_required content) options.budget → ⊥)
+    → (CanMeet content (all_required content) → ⊥) → IsForbiddenText options.budget content text
+    → IsShown options content text true
+forbidden_shown options content text none few unmet says =
+    record { lists = none; few = few; unmet = unmet; says = says }

@@ -5,6 +5,7 @@ pub mod DoneTurns
 pub mod ExploredFiles
 pub mod FirstOf
 pub mod Guesses
+pub mod Halving
 pub mod LinesBack
 pub mod LitmusCopies
 pub mod LitmusFiles

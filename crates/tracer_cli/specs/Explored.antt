@@ -93,29 +93,35 @@ pub record IsFirstUnmet (content : LitmusContent) (count : ℕ) : Type 0 where
 abbrev pub midway : (low high : ℕ) → ℕ
 midway low high = low + (high - low) / 2
 
--- two counts, of which not all of the second can be met, and all of the first, or it is 0: at first 0 and all of them,
--- and then one of these and what is midway
-pub data IsHalved (content : LitmusContent) : (low high : ℕ) → Type 0 where
-  whole : IsHalved content 0 (all_required content)
-  lower : (low high : ℕ) → IsHalved content low high → 2 ≤ high - low → ¬ CanMeet content (midway low high)
-      → IsHalved content low (midway low high)
-  upper : (low high : ℕ) → IsHalved content low high → 2 ≤ high - low → CanMeet content (midway low high)
-      → IsHalved content (midway low high) high
+-- two counts that halving comes to from two others: these, and then, while they are not neighbours, one of the last two
+-- and what is midway between them: the first where not all down to midway can be met, the second where they can
+pub data IsHalved (content : LitmusContent) (first last : ℕ) : (low high : ℕ) → Type 0 where
+  whole : IsHalved content first last first last
+  lower : (low high : ℕ) → IsHalved content first last low high → 2 ≤ high - low
+      → ¬ CanMeet content (midway low high) → IsHalved content first last low (midway low high)
+  upper : (low high : ℕ) → IsHalved content first last low high → 2 ≤ high - low
+      → CanMeet content (midway low high) → IsHalved content first last (midway low high) high
 
--- whether the first n can be met is searched for: n is midway, and some command has a reply that is not among them
-pub record IsAsked (content : LitmusContent) (count : ℕ) : Type 0 where
+-- halving from these two counts, it is searched for whether the first n can be met: n is midway, and some command has a
+-- reply that is not among them
+pub record IsAskedFrom (content : LitmusContent) (first last count : ℕ) : Type 0 where
   pub low : ℕ
   pub high : ℕ
-  pub halved : IsHalved content low high
+  pub halved : IsHalved content first last low high
   pub wide : 2 ≤ high - low
   pub is_midway : count ≡ midway low high
   pub replies : have_numbers_to count content.lines ≡ false
 
+-- that is searched for, where it begins with none of them and all
+abbrev pub IsAsked : LitmusContent → (count : ℕ) → Type 0
+IsAsked content count = IsAskedFrom content 0 (all_required content) count
+
 -- what is said where not all can be met: the line of the first one with which those down to it cannot; or no line, where
--- a search that halving asks for has more places than the budget
+-- a search that halving asks for has more places than the budget, and only there
 abbrev pub IsForbiddenText : (budget : ℕ) → LitmusContent → (text : List ℕ) → Type 0
 IsForbiddenText budget content text =
     ((count : ℕ) × IsFirstUnmet content count
+    × ((asked : ℕ) → IsAsked content asked → ¬ HasMorePlacesWith content asked budget)
     × (text ≡ forbidden_line (slice_get content.requirements (count - 1))))
     ⊎ (((count : ℕ) × IsAsked content count × HasMorePlacesWith content count budget) × (text ≡ forbidden_line None))
 
@@ -165,6 +171,7 @@ pub record IsListed (options : ExploreOptions) (content : LitmusContent) (text :
 -- a text that says that no run has all that the file requires
 pub record IsForbidden (options : ExploreOptions) (content : LitmusContent) (text : List ℕ) : Type 0 where
   pub lists : number_asked options.listing ≡ None
+  pub few : ¬ HasMorePlacesWith content (all_required content) options.budget
   pub unmet : ¬ CanMeet content (all_required content)
   pub says : IsForbiddenText options.budget content text
 

@@ -1,12 +1,12 @@
 //! A litmus file from bytes to bytes.
 
 ghost use Rattle.std.specs.Prelude.{◌≡◌, ◌≤◌, ◌<◌, ◌⊎◌, ℕ, Decides, IfErr, IfOk, IsOkAnd, Err, Ok, None, Some};
-ghost use Rattle.std.specs.Prelude.{false, length, string_bytes};
+ghost use Rattle.std.specs.Prelude.{◌-◌, false, length, slice_get, string_bytes};
 ghost use Rattle.std.specs.List.{list_any};
 ghost use Rattle.stop_explorer.specs.Search.{commands_in};
 ghost use Rattle.tracer_cli.specs.Chosen.{is_chosen};
-ghost use Rattle.tracer_cli.specs.Explored.{CanMeet, HasMorePlacesWith, IsAsked, IsFirstUnmet, IsForbiddenText};
-ghost use Rattle.tracer_cli.specs.Explored.{IsHalved, IsSearched};
+ghost use Rattle.tracer_cli.specs.Explored.{CanMeet, HasMorePlacesWith, IsAskedFrom, IsFirstUnmet, IsForbiddenText};
+ghost use Rattle.tracer_cli.specs.Explored.{IsSearched};
 ghost use Rattle.tracer_cli.specs.Explored.{IsShown, IsUnshown, all_text, chosen_with, forbids, have_numbers_to};
 ghost use Rattle.tracer_cli.specs.Explored.{number_asked, shows_ends};
 ghost use Rattle.tracer_cli.specs.LitmusDraft.{IsLitmusFile, content_in};
@@ -22,6 +22,7 @@ use crate::outcomes::order::outcome_replay;
 use crate::outcomes::text::{ToldProgram, forbidden_text, outcomes_text};
 use std::alloc::Global;
 use stop_board::NoMemory;
+use stop_explorer::laws::places_have_one_number;
 use stop_explorer::{ExploreError, Explored, FoundRun, ThreadCommand, commands_of, explore};
 
 /// What is shown of a program.
@@ -102,9 +103,12 @@ fn search(
 ) -> Result<Searched, ExploreError>
     requires { IsLitmusFile file.now }
     ensures found { IfOk result (IsSearched (content_in file.now) budget count) }
+    ensures few { IfOk result (λ _. ¬ HasMorePlacesWith (content_in file.now) count budget) }
     ensures too_many { result ≡ Err ExploreError.TooMany →
         HasMorePlacesWith (content_in file.now) count budget }
 {
+    // What is counted says how many places there are, and so that they are not more than the budget.
+    places_have_one_number();
     let program = program_with(alloc, count, file.lines.as_slice())?;
     let lines = program.as_slice();
     let voices = file.voices.as_slice();
@@ -153,6 +157,7 @@ fn show_outcomes(
 ) -> Result<ExploredText, NoMemory>
     requires file { IsLitmusFile file.now }
     requires whole { IsSearched (content_in file.now) options.budget (length file.now.requirements.items) whole.now }
+    requires few { ¬ HasMorePlacesWith (content_in file.now) (length file.now.requirements.items) options.budget }
     requires all { number_asked options.listing ≡ None }
     ensures { IfOk result (λ told.
         IsShown options (content_in file.now) (string_bytes told.text) told.forbidden) }
@@ -251,10 +256,18 @@ fn explain(
     ensures { IfOk result (λ text. IsForbiddenText budget (content_in file.now) (string_bytes text)) }
 {
     match first_unmet(alloc, file, budget, whole, 0, file.requirements.len()) {
-        Ok(count) => forbidden_text(alloc, file.requirements.get(count - 1).copied()),
+        Ok(count) => forbidden_text(alloc, line_of(file, count)),
         Err(ExploreError::TooMany) => forbidden_text(alloc, None),
         Err(ExploreError::NoMemory) => Err(NoMemory),
     }
+}
+
+/// The line of a requirement, which are numbered from 1.
+fn line_of(file: &LitmusFile<'_, Global>, number: usize) -> Option<u32>
+    requires { 1 ≤ number }
+    ensures { result ≡ slice_get file.now.requirements.items (number - 1) }
+{
+    file.requirements.get(number - 1).copied()
 }
 
 /// The number of the first requirement with which those down to it cannot all be met, by halving: those down to `low`
@@ -269,14 +282,15 @@ fn first_unmet(
 ) -> Result<usize, ExploreError>
     requires file { IsLitmusFile file.now }
     requires whole { IsSearched (content_in file.now) budget (length file.now.requirements.items) whole.now }
-    requires halved { IsHalved (content_in file.now) low high }
     requires between { low < high }
     requires within { high ≤ length file.now.requirements.items }
     requires met { (low ≡ 0) ⊎ CanMeet (content_in file.now) low }
     requires unmet { ¬ CanMeet (content_in file.now) high }
     ensures found { IfOk result (IsFirstUnmet (content_in file.now)) }
-    ensures too_many { result ≡ Err ExploreError.TooMany →
-        (count : ℕ) × IsAsked (content_in file.now) count × HasMorePlacesWith (content_in file.now) count budget }
+    ensures few { IfOk result (λ _. (count : ℕ) → IsAskedFrom (content_in file.now) low high count →
+        ¬ HasMorePlacesWith (content_in file.now) count budget) }
+    ensures too_many { result ≡ Err ExploreError.TooMany → (count : ℕ)
+        × IsAskedFrom (content_in file.now) low high count × HasMorePlacesWith (content_in file.now) count budget }
 {
     if high - low <= 1 {
         return Ok(high);
@@ -302,6 +316,8 @@ fn can_meet(
     requires whole { IsSearched (content_in file.now) budget (length file.now.requirements.items) whole.now }
     requires few { count ≤ length file.now.requirements.items }
     ensures met { IfOk result (λ can. Decides can (CanMeet (content_in file.now) count)) }
+    ensures few { IfOk result (λ _. have_numbers_to count file.now.lines.items ≡ false →
+        ¬ HasMorePlacesWith (content_in file.now) count budget) }
     ensures too_many { result ≡ Err ExploreError.TooMany → (have_numbers_to count file.now.lines.items ≡ false)
         × HasMorePlacesWith (content_in file.now) count budget }
 {

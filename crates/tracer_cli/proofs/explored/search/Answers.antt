@@ -5,7 +5,7 @@ use Rattle.stop_explorer.specs.BoardCall.{IsBoardCall}
 use Rattle.stop_explorer.specs.Program.{Program, own_commands}
 use Rattle.tracer_cli.specs.LitmusDraft.{content_in, names_kept}
 use Rattle.tracer_cli.specs.Required.{conditions_with, program_with}
-use Rattle.tracer_cli.proofs.ExploredFiles.{outcomes_with}
+use Rattle.tracer_cli.proofs.ExploredFiles.{not_more_with, outcomes_with}
 use Rattle.tracer_cli.proofs.LitmusFiles.{length_kept}
 use Rattle.tracer_cli.proofs.Unmet.{calls_with, threads_with}
 use Rattle.tracer_cli.proofs.explored.search.Goals as goal
@@ -43,3 +43,11 @@ commands_of-requires-clause-threads c =
     subst (λ (p : Program). All (λ line. line.thread < c.len.result) p) (sym program_is)
     (subst (λ n. All (λ line. line.thread < n) (program_with c.args.count c.args.file.now.lines.items)) threads
     (threads_with c.args.count (length c.args.file.now.names.items) c.args.file.now.lines.items c.requires.threads))
+
+pub returns-clause-few : goal.returns-clause-few
+returns-clause-few c =
+    not_more_with (content_in c.args.file.now) c.args.count c.args.budget c.in_ok-explored.explored.places
+    c.as_slice-voices.result.now c.as_slice-lines.result.now
+    (c.as_slice-lines.ensures.value ∙ c.in_ok-program.ensures ∙ ap (program_with c.args.count) c.as_slice.ensures.value)
+    c.as_slice-voices.ensures.value c.in_ok-explored.ensures.places c.in_ok-explored.ensures.within
+    c.places_have_one_number.ensures.more

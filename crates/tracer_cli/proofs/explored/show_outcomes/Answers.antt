@@ -17,7 +17,7 @@ pub returns-then-is_forbidden : goal.returns-then-is_forbidden
 returns-then-is_forbidden c =
     let file = c.args.file.now in
     let whole = c.args.whole.now in
-    forbidden_shown c.args.options (content_in file) (string_bytes c.in_ok-text.text) c.requires.all
+    forbidden_shown c.args.options (content_in file) (string_bytes c.in_ok-text.text) c.requires.all c.requires.few
     (forbidden_unmet (content_in file) (length file.requirements.items) whole.explored.places
     whole.explored.runs.items (known_of file c.requires.file) c.requires.whole.all
     (sym c.is_forbidden.ensures ∙ c.if-is_forbidden.true))

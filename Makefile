@@ -97,14 +97,13 @@ check: kit
 	$(call part,proofs from nothing$(COMMA) must-fail edits$(COMMA) tests and programs)
 	@RT_JOBS=$${RT_JOBS:-$(CHECKS)} $(RT) ci
 	$(call part,wrong bodies)
-	@$(MAKE) --no-print-directory wrong-bodies-test
 	@$(MAKE) --no-print-directory wrong-bodies-changed
-	$(call part,examples$(COMMA) scarce memory$(COMMA) the pages$(COMMA) programs that must not compile)
-	@$(MAKE) --no-print-directory examples PROGRAM=crates/tracer/out/tracer
-	@$(MAKE) --no-print-directory scarce-memory PROGRAM=crates/tracer/out/tracer
-	@$(MAKE) --no-print-directory man-page
-	@$(MAKE) --no-print-directory documents PROGRAM=crates/tracer/out/tracer
-	@$(MAKE) --no-print-directory refused-code
+	$(call part,the tool for wrong bodies$(COMMA) examples$(COMMA) the pages$(COMMA) refused programs: side by side)
+	@mkdir -p $(OUT) && cp crates/tracer/out/tracer $(OUT)/proved_tracer
+	@$(MAKE) --no-print-directory --jobs=$(CHECKS) --output-sync=target PROGRAM=$(OUT)/proved_tracer \
+		wrong-bodies-test examples man-page documents refused-code
+	$(call part,scarce memory)
+	@$(MAKE) --no-print-directory scarce-memory PROGRAM=$(OUT)/proved_tracer
 	$(call part,done)
 
 # The edits of wrong-bodies/; those of must-fail/ are tried by rt ci. CRATE=NAME tries those of one crate.

@@ -23,7 +23,7 @@ use trace_status::WaitStatus;
 
 impl<A: Allocator> Calls<A> {
     /// `waitid` that tries again while the answer is `StillAlive`; with WNOHANG it tries once. Between two tries it
-    /// lets other threads run, and after each 1024 tries it sleeps a millisecond. It may never return.
+    /// lets other threads run, and after each 256 tries it sleeps a millisecond. It may never return.
     pub fn waitid_blocking<R: Wait + Clock>(
         &mut self,
         rt: &R,
@@ -40,7 +40,7 @@ impl<A: Allocator> Calls<A> {
     }
 
     /// `waitpid` that tries again while the answer is `StillAlive`; with WNOHANG it tries once. Between two tries it
-    /// lets other threads run, and after each 1024 tries it sleeps a millisecond. It may never return.
+    /// lets other threads run, and after each 256 tries it sleeps a millisecond. It may never return.
     pub fn waitpid_blocking<R: Wait + Clock>(
         &mut self,
         rt: &R,
@@ -60,7 +60,7 @@ impl<A: Allocator> Calls<A> {
     }
 
     /// `wait_row` that tries again while the answer is None; with WNOHANG it tries once. Between two tries it lets
-    /// other threads run, and after each 1024 tries it sleeps a millisecond. It may never return.
+    /// other threads run, and after each 256 tries it sleeps a millisecond. It may never return.
     pub fn wait_row_blocking<R: Wait + Clock>(
         &mut self,
         rt: &R,

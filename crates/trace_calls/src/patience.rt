@@ -4,8 +4,8 @@ use std::thread;
 use std::time::{Clock, Duration};
 
 /// How many looks find nothing before a thread sleeps. With 64 a lone tracee and its worker sleep at one stop in 20,
-/// with 256 at one in 200; more looks cost processor time where a thread waits for long.
-const LOOKS: u32 = 1024;
+/// with this number at one in 200; more looks cost processor time where a thread waits for long.
+const LOOKS: u32 = 256;
 
 /// How long it sleeps, in milliseconds.
 const PAUSE: u64 = 1;
@@ -23,7 +23,7 @@ impl Patience {
         Patience { looks: 1 }
     }
 
-    /// Waits after a look that found nothing: it lets other threads run, or sleeps a millisecond where 1024 looks have
+    /// Waits after a look that found nothing: it lets other threads run, or sleeps a millisecond where 256 looks have
     /// found nothing since the last sleep. It takes no memory.
     pub fn wait<R: Clock>(&mut self, rt: &R) {
         if self.looks < LOOKS {

@@ -1,7 +1,6 @@
 //! A worker's thread.
 
-ghost use Rattle.std.specs.Prelude.{◌≡◌, ◌≢◌, ◌<◌, ◌≤◌, ◌+◌, ◌-◌, ◌∷◌, ◌++◌, [], List, MatchOption, None, Ok, Some, false};
-ghost use Rattle.std.specs.Prelude.{if◌then◌else◌, nat_lt};
+ghost use Rattle.std.specs.Prelude.{◌≡◌, ◌≢◌, ◌↔◌, ◌≤◌, ◌∷◌, ◌++◌, [], IsTrue, List, MatchOption, None, Ok, Some, false};
 ghost use Rattle.record_printer.specs.Piece as pieces;
 ghost use Rattle.stop_history.specs.declared.limits.TheConstants.{LAST_NUMBER};
 ghost use Rattle.stop_table.specs.Entry.{content_after};
@@ -32,6 +31,10 @@ use trace_calls::{Calls, Id, RowStatus};
 use trace_options::{Errno, WaitFlags};
 use trace_record::Death;
 use trace_status::WaitStatus;
+
+/// How many workers look again at once where there is nothing to serve. With 16 that do, a run of 64 rows on four
+/// processors takes 1.4 times as long as with 4.
+const AT_ONCE: u32 = 4;
 
 /// What a worker brings back.
 #[derive(Drop)]
@@ -91,8 +94,8 @@ pub fn run_worker<A: Allocator + Copy, R: Wait + Clock, G: Gate>(
 /// has, what a wait for all rows answers. None: no tracee can have one any more. So rows that have ended are not looked
 /// at again for each stop of a later row.
 ///
-/// A worker that is not the first one tries each row, and sleeps before that wait: what the first one serves alone needs
-/// no more workers, and looks of theirs would take the processors from the tracees.
+/// Some workers look at once, the others sleep between their tries of that wait: what a few serve alone needs no more,
+/// and looks of theirs would take the processors from the tracees.
 fn next_found<A: Allocator, R: Wait + Clock>(
     rt: &R,
     calls: &mut Calls<A>,
@@ -104,36 +107,22 @@ fn next_found<A: Allocator, R: Wait + Clock>(
     ensures answer { MatchOption result (NoChild anyone calls.old.view calls.new.view)
         (λ found. HasFound calls.old calls.new found) }
 {
-    let rows = calls.rows();
-    let tries = if worker == 0 {
-        rows.saturating_sub(from)
-    } else {
-        rows
-    };
-    for tried in 0..tries {
-        let row = row_in_turn(from, tried, rows);
+    for row in from..calls.rows() {
         if let Some(found) = status_in(calls.wait_one(row)) {
             return Some(found);
         }
     }
-    if worker > 0 {
+    if worker < AT_ONCE {
+        return status_in(calls.wait_row_blocking(rt, Id::All, WaitFlags::WEXITED));
+    }
+    for _ in rt.forever() {
+        let answer = calls.wait_row(Id::All, WaitFlags::WEXITED);
+        if !is_nothing(answer) {
+            return status_in(answer);
+        }
         thread::sleep(rt, Duration::from_millis(PAUSE));
     }
-    status_in(calls.wait_row_blocking(rt, Id::All, WaitFlags::WEXITED))
-}
-
-/// The row that is tried after so many others, from a row on: after the last one the first.
-fn row_in_turn(from: u32, tried: u32, rows: u32) -> u32
-    requires { tried < rows }
-    ensures row { result ≡ (if nat_lt tried (rows - from) then from + tried else tried - (rows - from)) }
-    ensures within { result < rows }
-{
-    let left = rows.saturating_sub(from);
-    if tried < left {
-        from + tried
-    } else {
-        tried - left
-    }
+    unreachable!()
 }
 
 /// The status that a wait answered, if it answered one.
@@ -144,6 +133,13 @@ fn status_in(answer: Result<Option<RowStatus>, Errno>) -> Option<RowStatus>
         Ok(found) => found,
         Err(_) => None,
     }
+}
+
+/// Whether there was nothing to report yet.
+fn is_nothing(answer: Result<Option<RowStatus>, Errno>) -> bool
+    ensures { IsTrue result ↔ (answer ≡ Ok None) }
+{
+    matches!(answer, Ok(None))
 }
 
 /// The death that a status reports, with the thread id, if it reports one.

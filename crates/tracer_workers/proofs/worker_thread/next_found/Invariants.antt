@@ -2,5 +2,8 @@
 use Rattle.trace_calls.specs.Retry.{OnlyLooked}
 use Rattle.tracer_workers.proofs.worker_thread.next_found.Given as goal
 
-abbrev pub invariant-loop-tried : goal.invariant-loop-tried
-invariant-loop-tried g l = OnlyLooked l.fn.calls l.calls
+abbrev pub invariant-loop-row : goal.invariant-loop-row
+invariant-loop-row g l = OnlyLooked l.fn.calls l.calls
+
+abbrev pub invariant-loop : goal.invariant-loop
+invariant-loop g l = OnlyLooked l.fn.calls l.calls

@@ -9,11 +9,11 @@ time may be at most so many times the plain program's, with --memory its memory 
 """
 
 import argparse
-import os
 import subprocess
 import sys
 import tempfile
-import time
+
+from timed import run
 
 # A file is large from this many bytes on: then the memory is given as times the file too.
 LARGE = 1 << 20
@@ -26,19 +26,6 @@ def answers(words, text):
         file.seek(0)
         done = subprocess.run(words, stdin=file, capture_output=True)
     return done.returncode, done.stdout, done.stderr
-
-
-def run(words, path):
-    """One run's seconds, and its peak memory in KiB. A child begins with the memory of this program, which counts as
-    its own, so this program keeps little."""
-    ends = [(os.POSIX_SPAWN_OPEN, 0, path, os.O_RDONLY, 0), (os.POSIX_SPAWN_OPEN, 1, os.devnull, os.O_WRONLY, 0)]
-    start = time.perf_counter()
-    child = os.posix_spawn(words[0], words, {}, file_actions=ends)
-    _, status, usage = os.wait4(child, 0)
-    seconds = time.perf_counter() - start
-    if status != 0:
-        sys.exit(f"{words[0]} ended with status {status}")
-    return seconds, usage.ru_maxrss
 
 
 def arguments():

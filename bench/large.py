@@ -14,7 +14,8 @@ import os
 import subprocess
 import sys
 import tempfile
-import time
+
+from timed import run
 
 RUNS = 5
 ROWS = 64
@@ -57,23 +58,11 @@ def write_strings(file):
     file.write(f"call write 1 0x10000 {WRITTEN} = {WRITTEN}\n" * WRITES + "exit 0\nend\n")
 
 
-def run(words, path):
-    """One run's seconds and its peak memory in MiB. A child begins with the memory of this program, which keeps little."""
-    ends = [(os.POSIX_SPAWN_OPEN, 0, path, os.O_RDONLY, 0), (os.POSIX_SPAWN_OPEN, 1, os.devnull, os.O_WRONLY, 0)]
-    start = time.perf_counter()
-    child = os.posix_spawn(words[0], words, {}, file_actions=ends)
-    _, status, usage = os.wait4(child, 0)
-    seconds = time.perf_counter() - start
-    if status != 0:
-        sys.exit(f"{words[0]} ended with status {status}")
-    return seconds, usage.ru_maxrss / 1024
-
-
 def compare(name, path, programs):
     """Prints the best time and the peak memory of each of these programs on a case."""
     found = [[run(words, path) for words in programs] for _ in range(RUNS)]
     best = [min(each[at][0] for each in found) for at in range(len(programs))]
-    peak = [max(each[at][1] for each in found) for at in range(len(programs))]
+    peak = [max(each[at][1] for each in found) / 1024 for at in range(len(programs))]
     size = os.path.getsize(path) / 1e6
     print(f"{name}, {size:.1f} MB:")
     for at, words in enumerate(programs):

@@ -17,7 +17,8 @@ import os
 import subprocess
 import sys
 import tempfile
-import time
+
+from timed import run
 
 RUNS = 7
 WORKERS = (1, 2, 4, 8, 16)
@@ -65,23 +66,10 @@ def births(words, most):
     return is_above(max(others) / first, most)
 
 
-def seconds_of(words, path):
-    """One run's seconds, its output thrown away."""
-    ends = [(os.POSIX_SPAWN_OPEN, 0, path, os.O_RDONLY, 0), (os.POSIX_SPAWN_OPEN, 1, os.devnull, os.O_WRONLY, 0)]
-    start = time.perf_counter()
-    child = os.posix_spawn(words[0], words, {}, file_actions=ends)
-    _, status, _ = os.wait4(child, 0)
-    if status != 0:
-        sys.exit(f"{words[0]} ended with status {status}")
-    return time.perf_counter() - start
-
-
 def best_of(runs):
     """The best time of each of these programs on its case, in turn."""
-    best = [seconds_of(*run) for run in runs]
-    for _ in range(RUNS - 1):
-        best = [min(old, seconds_of(*run)) for old, run in zip(best, runs)]
-    return best
+    times = [[run(words, path)[0] for words, path in runs] for _ in range(RUNS)]
+    return [min(each) for each in zip(*times)]
 
 
 def check_texts(programs, path):

@@ -36,7 +36,7 @@ impl<A: Allocator> Calls<A> {
         ensures once { has flags flag.WNOHANG ≡ true →
             IfSome (waitid_request id flags) (λ request. IsOneTry request self.old.view self.new.view) }
     {
-        without_row(self.wait_row_blocking(rt, id, flags))
+        without_row(self.wait_row_blocking(rt, id, flags, Patience::new()))
     }
 
     /// `waitpid` that tries again while the answer is `StillAlive`; with WNOHANG it tries once. Between two tries it
@@ -56,16 +56,17 @@ impl<A: Allocator> Calls<A> {
         let Some(request) = waitpid_request(pid, flags) else {
             return Err(Errno::EINVAL);
         };
-        without_row(self.wait_by(rt, request, flags))
+        without_row(self.wait_by(rt, request, flags, Patience::new()))
     }
 
-    /// `wait_row` that tries again while the answer is None; with WNOHANG it tries once. Between two tries it lets
-    /// other threads run, and after each 256 tries it sleeps a millisecond. It may never return.
+    /// `wait_row` that tries again while the answer is None; with WNOHANG it tries once. Between two tries it waits as
+    /// `patience` says. It may never return.
     pub fn wait_row_blocking<R: Wait + Clock>(
         &mut self,
         rt: &R,
         id: Id,
         flags: WaitFlags,
+        patience: Patience,
     ) -> Result<Option<RowStatus>, Errno>
         ensures table { KeepsTable self.old self.new }
         ensures answer { IsWaitRowAnswer (waitid_request id flags) self.old self.new result }
@@ -76,7 +77,7 @@ impl<A: Allocator> Calls<A> {
         let Some(request) = waitid_request(id, flags) else {
             return Err(Errno::EINVAL);
         };
-        self.wait_by(rt, request, flags)
+        self.wait_by(rt, request, flags, patience)
     }
 
     /// Tries once with WNOHANG, and without it until there is something to report.
@@ -85,6 +86,7 @@ impl<A: Allocator> Calls<A> {
         rt: &R,
         request: WaitRequest,
         flags: WaitFlags,
+        patience: Patience,
     ) -> Result<Option<RowStatus>, Errno>
         ensures table { KeepsTable self.old self.new }
         ensures answer { IsRowAnswer request self.old self.new result }
@@ -94,7 +96,7 @@ impl<A: Allocator> Calls<A> {
         if flags.contains(WaitFlags::WNOHANG) {
             return self.wait(request);
         }
-        self.wait_until(rt, request)
+        self.wait_until(rt, request, patience)
     }
 
     /// Tries until there is something to report.
@@ -102,13 +104,13 @@ impl<A: Allocator> Calls<A> {
         &mut self,
         rt: &R,
         request: WaitRequest,
+        mut patience: Patience,
     ) -> Result<Option<RowStatus>, Errno>
         ensures table { KeepsTable self.old self.new }
         ensures answer { IsRowAnswer request self.old self.new result }
         ensures waits { result ≢ Ok None }
     {
         handle_is_legal(&self.tracer);
-        let mut patience = Patience::new();
         for _ in rt.forever() {
             let answer = self.wait(request);
             if !is_nothing_yet(answer) {

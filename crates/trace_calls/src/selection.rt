@@ -18,7 +18,7 @@ pub(crate) enum Selection {
 
 impl Selection {
     /// Whether a row is among them.
-    pub fn has(self, row: Row) -> bool
+    pub(crate) fn has(self, row: Row) -> bool
         ensures { result ≡ is_selected self row }
     {
         match self {

@@ -17,7 +17,6 @@ pub mod ModeText
 pub mod OneActor
 pub mod OneThread
 pub mod OwnEntries
-mod Passed
 pub mod Rearranged
 pub mod Reaped
 pub mod Rounds

@@ -16,11 +16,9 @@ ghost use Rattle.tracer_workers.specs.TraceeThread.{IsToStart};
 
 use crate::fault::FAULT_DEATH;
 use crate::invariants;
-use crate::pause::PAUSE;
 use std::alloc::Allocator;
 use std::sync::Wait;
-use std::thread;
-use std::time::{Clock, Duration};
+use std::time::Clock;
 use stop_table::{GroupAlive, Start, Tracee};
 use trace_calls::Patience;
 use trace_record::{Death, Resume, StopRecord};
@@ -59,11 +57,12 @@ fn await_birth<A: Allocator, R: Wait + Clock>(rt: &R, tracee: &mut Tracee<A>) ->
     ensures handle { HasLooked tracee.old tracee.new }
     ensures never { result ≡ false → IsFinal tracee.old.view.roster tracee.new.view.seen tracee.old.row start.Never }
 {
+    let mut patience = Patience::with_looks(1);
     for _ in rt.forever() {
         match tracee.start() {
             Start::Born => return true,
             Start::Never => return false,
-            Start::NotYet => thread::sleep(rt, Duration::from_millis(PAUSE)),
+            Start::NotYet => patience.wait(rt),
         }
     }
     unreachable!()

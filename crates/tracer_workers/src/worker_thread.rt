@@ -1,6 +1,6 @@
 //! A worker's thread.
 
-ghost use Rattle.std.specs.Prelude.{◌≡◌, ◌≢◌, ◌↔◌, ◌≤◌, ◌∷◌, ◌++◌, [], IsTrue, List, MatchOption, None, Ok, Some, false};
+ghost use Rattle.std.specs.Prelude.{◌≡◌, ◌≢◌, ◌≤◌, ◌∷◌, ◌++◌, [], List, MatchOption, None, Ok, Some, false};
 ghost use Rattle.record_printer.specs.Piece as pieces;
 ghost use Rattle.stop_history.specs.declared.limits.TheConstants.{LAST_NUMBER};
 ghost use Rattle.stop_table.specs.Entry.{content_after};
@@ -21,13 +21,11 @@ ghost use Rattle.tracer_workers.specs.WorkerThread.{AreOverForGood, death_in, ow
 use crate::config::{Config, policy};
 use crate::gate::Gate;
 use crate::invariants;
-use crate::pause::PAUSE;
 use record_printer::{Piece, death_piece, piece_of};
 use std::alloc::{Allocator, Global};
 use std::sync::Wait;
-use std::thread;
-use std::time::{Clock, Duration};
-use trace_calls::{Calls, Id, RowStatus};
+use std::time::Clock;
+use trace_calls::{Calls, Id, Patience, RowStatus};
 use trace_options::{Errno, WaitFlags};
 use trace_record::Death;
 use trace_status::WaitStatus;
@@ -112,17 +110,12 @@ fn next_found<A: Allocator, R: Wait + Clock>(
             return Some(found);
         }
     }
-    if worker < AT_ONCE {
-        return status_in(calls.wait_row_blocking(rt, Id::All, WaitFlags::WEXITED));
-    }
-    for _ in rt.forever() {
-        let answer = calls.wait_row(Id::All, WaitFlags::WEXITED);
-        if !is_nothing(answer) {
-            return status_in(answer);
-        }
-        thread::sleep(rt, Duration::from_millis(PAUSE));
-    }
-    unreachable!()
+    let patience = if worker < AT_ONCE {
+        Patience::new()
+    } else {
+        Patience::with_looks(1)
+    };
+    status_in(calls.wait_row_blocking(rt, Id::All, WaitFlags::WEXITED, patience))
 }
 
 /// The status that a wait answered, if it answered one.
@@ -133,13 +126,6 @@ fn status_in(answer: Result<Option<RowStatus>, Errno>) -> Option<RowStatus>
         Ok(found) => found,
         Err(_) => None,
     }
-}
-
-/// Whether there was nothing to report yet.
-fn is_nothing(answer: Result<Option<RowStatus>, Errno>) -> bool
-    ensures { IsTrue result ↔ (answer ≡ Ok None) }
-{
-    matches!(answer, Ok(None))
 }
 
 /// The death that a status reports, with the thread id, if it reports one.

@@ -12,7 +12,7 @@ use std::sync::Wait;
 use std::test::Fail;
 use std::thread;
 use std::time::Clock;
-use trace_calls::{Calls, Id, RowStatus};
+use trace_calls::{Calls, Id, Patience, RowStatus};
 use trace_options::{Errno, WaitFlags};
 use trace_record::{Kind, Resume, Stop};
 use trace_status::WaitStatus;
@@ -169,7 +169,7 @@ fn with_wnohang_a_blocking_wait_by_row_answers_at_once(rt: HostRuntime) -> Resul
     // The root runs, and nothing will ever be reported of it.
     same(
         &rt,
-        &calls.wait_row_blocking(&rt, Id::All, flags),
+        &calls.wait_row_blocking(&rt, Id::All, flags, Patience::new()),
         &Ok(None),
     );
     let _tracer = end(&rt, calls, &[]);
@@ -183,7 +183,8 @@ fn wait_for_a_row<R: Wait + Clock>(
     alloc: Global,
 ) -> Option<Result<Option<RowStatus>, Errno>> {
     let mut calls = waiter.calls(alloc)?;
-    let answer = calls.wait_row_blocking(rt, Id::All, WaitFlags::WSTOPPED);
+    let patience = Patience::with_looks(1);
+    let answer = calls.wait_row_blocking(rt, Id::All, WaitFlags::WSTOPPED, patience);
     let _tracer = end(rt, calls, &[100]);
     Some(answer)
 }

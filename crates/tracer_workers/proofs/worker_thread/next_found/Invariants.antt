@@ -4,6 +4,3 @@ use Rattle.tracer_workers.proofs.worker_thread.next_found.Given as goal
 
 abbrev pub invariant-loop-row : goal.invariant-loop-row
 invariant-loop-row g l = OnlyLooked l.fn.calls l.calls
-
-abbrev pub invariant-loop : goal.invariant-loop
-invariant-loop g l = OnlyLooked l.fn.calls l.calls

@@ -1,12 +1,15 @@
 //! Bytes in quotes, as strace(1) prints a string.
 
-ghost use Rattle.std.specs.Prelude.{◌≡◌, ◌++◌, OnOk};
+ghost use Rattle.std.specs.Prelude.{◌≡◌, ◌++◌, ◌∷◌, [], OnOk, true};
 ghost use Rattle.std.specs.List.{flat_map};
 ghost use Rattle.record_printer.specs.Quote.{escaped, octal, quoted, shortened};
 
 use mem_views::Cut;
 use std::alloc::Allocator;
 use trace_options::NoMemory;
+
+/// How many bytes are looked at at once.
+const BLOCK: usize = 32;
 
 /// Writes the bytes that are left of a view in quotes, and dots after them where there are more bytes than the view
 /// has.
@@ -49,13 +52,50 @@ fn write_cut<A: Allocator, B: Allocator>(
     Ok(())
 }
 
+/// Writes bytes, a block of them after the other.
 fn write_piece<A: Allocator>(text: &mut Vec<u8, A>, piece: &[u8]) -> Result<(), NoMemory>
     ensures { OnOk result (text.new.items ≡ text.old.items ++ flat_map escaped piece.now) }
 {
-    for byte in piece {
+    let mut rest = piece;
+    while !rest.is_empty() {
+        let (block, after) = rest.split_at(rest.len().min(BLOCK));
+        write_block(text, block)?;
+        rest = after;
+    }
+    Ok(())
+}
+
+/// Writes bytes: as they are, where each stands for itself.
+fn write_block<A: Allocator>(text: &mut Vec<u8, A>, block: &[u8]) -> Result<(), NoMemory>
+    ensures { OnOk result (text.new.items ≡ text.old.items ++ flat_map escaped block.now) }
+{
+    if are_plain(block) {
+        text.extend_from_slice(block)?;
+        return Ok(());
+    }
+    for byte in block {
         write_escaped(text, *byte)?;
     }
     Ok(())
+}
+
+/// Whether each byte stands for itself. It looks at all of them, so that several are looked at at once.
+fn are_plain(bytes: &[u8]) -> bool
+    ensures { result ≡ true → flat_map escaped bytes.now ≡ bytes.now }
+{
+    let mut plain = true;
+    for byte in bytes {
+        plain &= is_plain(*byte);
+    }
+    plain
+}
+
+/// Whether a byte stands for itself.
+#[tactic(auto, unfolding(crate::specs::Quote::escaped))]
+fn is_plain(byte: u8) -> bool
+    ensures { result ≡ true → escaped byte ≡ byte ∷ [] }
+{
+    matches!(byte, b' ' | b'!' | b'#'..=b'[' | b']'..=b'~')
 }
 
 #[tactic(auto, unfolding(crate::specs::Quote::escaped))]

@@ -1,6 +1,6 @@
 -- By induction over the history.
 use Rattle.tracer_workers.proofs.ThreadLaws.{claimed_are_made}
-use Rattle.tracer_workers.proofs.thread_laws.claimed_pieces_were_made.Goals as goal
+use Rattle.tracer_workers.proofs.laws.claimed_pieces_were_made.Goals as goal
 
 pub returns : goal.returns
 returns c = claimed_are_made

@@ -13,8 +13,10 @@
 | the version | crates/tracer_cli/src/arguments.rt | man/tracer.1 |
 | the system calls, with their arguments | crates/trace_options/src/syscall.rt | docs/formats/tables.md, man/tracer.1 |
 | the options of ptrace(2) | crates/trace_options/specs/Options.antt | options.rt, docs/formats/tables.md |
-| the messages of a run | crates/tracer_cli/specs/Failure.antt | failure.rt, run_error.rt, docs/FORMATS.md |
-| the most rows | crates/stop_history/src/limits.rt | README.md, FORMATS.md, case-files.md, man/tracer.1, bench/ |
+| wait flags, events | wait_flags.rt and event.rt of trace_options | docs/formats/tables.md |
+| the messages of a run | crates/tracer_cli/specs/Failure.antt | failure.rt, run_error.rt, FORMATS.md, man/tracer.1 |
+| the causes of a refusal | crates/trace_script/src/cause.rt | FORMATS.md, case-files.md, man/tracer.1 |
+| the limits | limits.rt of stop_history and trace_script, pages.rt | README.md, docs/, man/tracer.1, bench/ |
 | the bits of a word | layout.rt and Layout.antt of stop_history | its word.rt, docs/formats/layouts.md |
 | the word of an example | docs/formats/layouts.md | docs/definitions/words.md |
 """
@@ -33,22 +35,46 @@ ARGUMENTS, SYSCALLS = "crates/tracer_cli/src/arguments.rt", "crates/trace_option
 OPTIONS, OPTION_BITS = "crates/trace_options/specs/Options.antt", "crates/trace_options/src/options.rt"
 MESSAGES, FAILURE = "crates/tracer_cli/specs/Failure.antt", "crates/tracer_cli/src/failure.rt"
 RUN_ERROR = "crates/tracer_workers/src/run_error.rt"
-LIMITS, WORD = "crates/stop_history/src/limits.rt", "crates/stop_history/src/word.rt"
+LIMITS = ("crates/stop_history/src/limits.rt", "crates/trace_script/src/limits.rt", "crates/trace_pages/src/pages.rt")
+WAIT_FLAGS, EVENTS = "crates/trace_options/src/wait_flags.rt", "crates/trace_options/src/event.rt"
+WORD, CAUSES = "crates/stop_history/src/word.rt", "crates/trace_script/src/cause.rt"
 CASE_FILES, LAYOUTS = "docs/formats/case-files.md", "docs/formats/layouts.md"
+LITMUS_FILES = "docs/formats/litmus-files.md"
 WORDS = "docs/definitions/words.md"
 WIDTHS, TRACER_WIDTH = "crates/stop_history/src/word/layout.rt", "crates/stop_history/specs/Layout.antt"
 PLAIN, PLAIN_CASE, PLAIN_LITMUS = "bench/plain.rs", "bench/plain_case.rs", "bench/plain_litmus.rs"
 
-# What is said of the most rows, and where: {rows} stands for that number, {more} for one more.
-MOST_ROWS = [
-    (README, "{rows} rows, 16 tracers"),
-    (FORMATS, "First come rows, at most {rows},"),
-    (FORMATS, "more than {rows} rows, at the {more}th"),
-    (CASE_FILES, "A file is a list of blocks, at most {rows}."),
-    (PAGE, "and {rows} tracees."),
-    (PLAIN, "const MOST_ROWS: usize = {rows};"),
-    (PLAIN_CASE, "const MOST_ROWS: usize = {rows};"),
-    (PLAIN_LITMUS, "const MOST_ROWS: usize = {rows};"),
+# What is said of the limits, and where: a name stands for its number, with :, as 16,777,215, with :_ as 16_777_215.
+SAID = [
+    (README, "{MOST_ROWS} rows, {TRACERS} tracers, stop numbers to {LAST_NUMBER:,}, ids to {LAST_ID:,},"),
+    (README, "{MOST_BYTES:,} bytes, {MOST_STEPS:,} steps and {MOST_PAGES} pages"),
+    (FORMATS, "First come rows, at most {MOST_ROWS},"),
+    (FORMATS, "more than {MOST_ROWS} rows, at the {ROWS_AND_ONE}th"),
+    (FORMATS, "| `Full` | stop {LAST_NUMBER:,} has been made |"),
+    (FORMATS, "| TID, TGID, PGID, the tid of a fork, a clone or an exec | 1 to {LAST_ID:,} |"),
+    (FORMATS, "| PARENT | 0 to {LAST_ID:,} |"),
+    (CALLS, "No pid is above {LAST_ID:,}, so neither"),
+    (CASE_FILES, "A file is a list of blocks, at most {MOST_ROWS}."),
+    (CASE_FILES, "at most {MOST_STEPS:,} steps"),
+    (LAYOUTS, "0 before any, at most {LAST_NUMBER:,} |"),
+    (LITMUS_FILES, "N is 0 to {LAST_NUMBER:,},"),
+    (PAGE, "A file has at most {MOST_BYTES:,} bytes, and {MOST_ROWS} tracees."),
+    (PLAIN, "const MOST_BYTES: usize = {MOST_BYTES:_};"),
+    (PLAIN, "const MOST_ROWS: usize = {MOST_ROWS};"),
+    (PLAIN, "const LAST_NUMBER: u32 = {LAST_NUMBER:_};"),
+    (PLAIN, "const LAST_ID: u32 = {LAST_ID:_};"),
+    (PLAIN, "const LAST_TRACER: u32 = {LAST_TRACER};"),
+    (PLAIN_CASE, "const MOST_BYTES: usize = {MOST_BYTES:_};"),
+    (PLAIN_CASE, "const MOST_ROWS: usize = {MOST_ROWS};"),
+    (PLAIN_CASE, "const MOST_STEPS: usize = {MOST_STEPS:_};"),
+    (PLAIN_CASE, "const MOST_PAGES: usize = {MOST_PAGES};"),
+    (PLAIN_CASE, "const PAGE_SIZE: usize = {PAGE_SIZE};"),
+    (PLAIN_CASE, "const LAST_ID: u32 = {LAST_ID:_};"),
+    (PLAIN_LITMUS, "const MOST_BYTES: usize = {MOST_BYTES:_};"),
+    (PLAIN_LITMUS, "const MOST_ROWS: usize = {MOST_ROWS};"),
+    (PLAIN_LITMUS, "const LAST_NUMBER: u32 = {LAST_NUMBER:_};"),
+    (PLAIN_LITMUS, "const LAST_ID: u32 = {LAST_ID:_};"),
+    (PLAIN_LITMUS, "const LAST_TRACER: u32 = {LAST_TRACER};"),
 ]
 
 
@@ -110,25 +136,53 @@ def option_faults(read):
         yield f"{TABLES}: the options are not those of {OPTIONS}"
 
 
+def flag_faults(read):
+    flags = re.findall(r"pub const (\w+): WaitFlags = WaitFlags\((\w+)\);", read(WAIT_FLAGS))
+    events = re.findall(r"^            Event::(\w+) => (\d+),$", read(EVENTS), re.M)
+    part = read(TABLES).split("\n## Options, wait flags, events\n")[1].split("\n## ")[0]
+    rows = [line.strip("| ").split(" | ") for line in part.splitlines() if line.startswith("| TRACE")]
+    said = [(name, int(row[3].strip("`"), 0)) for row in rows if len(row) == 6 for name in row[2].split(", ")]
+    if sorted(said) != sorted((name, int(bit.replace("_", ""), 0)) for name, bit in flags):
+        yield f"{TABLES}: the wait flags are not those of {WAIT_FLAGS}"
+    if [(row[-2], row[-1]) for row in rows] != events:
+        yield f"{TABLES}: the events are not those of {EVENTS}"
+
+
+def cause_faults(read):
+    wanted = re.findall(r"^    (\w+),$", read(CAUSES).split("pub enum Cause {")[1].split("\n}")[0], re.M)
+    wanted.remove("NoMemory")
+    page = read(PAGE).split("\n.I CAUSE\none of\n")[1].split("\nStatus 1.")[0]
+    if re.findall(r"^\.BR (\w+)", page, re.M) != wanted:
+        yield f"{PAGE}: the causes are not those of {CAUSES}"
+    said = read(FORMATS) + read(CASE_FILES)
+    for cause in wanted:
+        if f"`{cause}`" not in said:
+            yield f"{CASE_FILES}: neither it nor {FORMATS} has the cause {cause} of {CAUSES}"
+
+
 def message_faults(read):
     messages = re.findall(r'codes "(tracer: [^"]*?)\\n"', read(MESSAGES))
-    failure, formats = read(FAILURE), read(FORMATS)
+    failure, formats, page = read(FAILURE), read(FORMATS), read(PAGE)
     for message in messages:
         if f'"{message}\\n"' not in failure:
             yield f"{FAILURE}: does not have the message {message!r} of {MESSAGES}"
         if f"`{message}`" not in formats:
             yield f"{FORMATS}: does not have the message {message!r} of {MESSAGES}"
+        if f'"{message.replace("-", chr(92) + "-")}"' not in page:
+            yield f"{PAGE}: does not have the message {message!r} of {MESSAGES}"
     for message in re.findall(r'#\[error\("(.*?)"\)\]', read(RUN_ERROR)):
         if message not in messages:
             yield f"{RUN_ERROR}: {message!r} is no message of {MESSAGES}"
 
 
-def row_faults(read):
-    rows = int(re.search(r"pub const MOST_ROWS: usize = (\d+);", read(LIMITS))[1])
-    for page, text in MOST_ROWS:
-        wanted = text.format(rows=rows, more=rows + 1)
+def limit_faults(read):
+    found = [it for path in LIMITS for it in re.findall(r"^pub const (\w+): u\w+ = ([\d_]+);", read(path), re.M)]
+    limits = {name: int(number) for name, number in found}
+    limits |= {"ROWS_AND_ONE": limits["MOST_ROWS"] + 1, "LAST_TRACER": limits["TRACERS"] - 1}
+    for page, text in SAID:
+        wanted = text.format(**limits)
         if wanted not in read(page):
-            yield f"{page}: does not say {wanted!r}, as {LIMITS} has it"
+            yield f"{page}: does not say {wanted!r}, as {', '.join(LIMITS)} have it"
 
 
 def places_of(widths):
@@ -150,7 +204,17 @@ def bit_faults(read):
             yield f"{WORDS}: {bits} is no word of {LAYOUTS}"
 
 
-PARTS = [code_faults, version_faults, syscall_faults, option_faults, message_faults, row_faults, bit_faults]
+PARTS = [
+    code_faults,
+    version_faults,
+    syscall_faults,
+    option_faults,
+    flag_faults,
+    cause_faults,
+    message_faults,
+    limit_faults,
+    bit_faults,
+]
 
 # What the self-test changes: in this file this text, which is there once, to that one.
 CHANGES = [
@@ -167,11 +231,20 @@ CHANGES = [
     (TABLES, "| TRACEEXIT | `0x40`", "| TRACEEXIT | `0x41`"),
     (FAILURE, "tracer: lost stop", "tracer: lost a stop"),
     (FORMATS, "`tracer: cannot start threads`", "`tracer: cannot start a thread`"),
+    (TABLES, "| WNOWAIT | `0x01000000` |", "| WNOWAIT | `0x02000000` |"),
+    (TABLES, "| Seccomp | 7 |", "| Seccomp | 8 |"),
+    (PAGE, ".BR SharedExec ,\n", ""),
+    (CASE_FILES, "`SharedExec`", "`ExecShared`"),
+    (PAGE, '"tracer: cannot write"', '"tracer: cannot print"'),
     (RUN_ERROR, "tracer: no memory", "tracer: out of memory"),
-    (README, "256 rows, 16 tracers", "64 rows, 16 tracers"),
+    (README, "256 rows, 16 tracers", "256 rows, 64 tracers"),
+    (README, "65,536 steps", "65,535 steps"),
+    (CALLS, "is above 4,194,303, so", "is above 4,194,304, so"),
     (FORMATS, "more than 256 rows, at the 257th", "more than 256 rows, at the 65th"),
     (CASE_FILES, "blocks, at most 256.", "blocks, at most 64."),
+    (LITMUS_FILES, "N is 0 to 16,777,215,", "N is 1 to 16,777,215,"),
     (PAGE, "and 256 tracees.", "and 64 tracees."),
+    (PLAIN, "LAST_TRACER: u32 = 15;", "LAST_TRACER: u32 = 16;"),
     (PLAIN_CASE, "MOST_ROWS: usize = 256;", "MOST_ROWS: usize = 64;"),
     (WORD, "| 3 to 10 | births", "| 3 to 8 | births"),
     (LAYOUTS, "| 59 to 62 | tracer", "| 57 to 60 | tracer"),

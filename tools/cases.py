@@ -229,7 +229,8 @@ def wanted_run(where, words, given, stdout, stderr, status):
 
 
 def random_runs():
-    """The runs of random litmus files, with what litmus.py makes of them."""
+    """The runs of random litmus files and of one of a long text, with what litmus.py makes of them."""
+    yield wanted_run("the litmus file of a long text", *litmus.long_run())
     for number, found in enumerate(litmus.random_runs(RANDOM_FILES), 1):
         yield wanted_run(f"random litmus file {number}:\n{found[1].decode()}", *found)
 
@@ -333,7 +334,7 @@ def all_runs():
             print(f"  {len(more):4} more runs of these, with options and as replays")
     more = [*random_runs()]
     runs += more
-    print(f"  {len(more):4} random litmus files")
+    print(f"  {len(more):4} litmus files, random ones and one of a long text")
     paths = sorted((TOP / "tests/cases").glob("*.cases"))
     for path in paths:
         found = runs_of_file(path)

@@ -3,7 +3,7 @@
 
 use crate::cells::cast::{Cast, open_for};
 use crate::cells::runner::AtRest;
-use crate::compare::same;
+use crate::compare::{holds, same};
 use crate::explored::programs::{NO_LOOKER, Round, of_three, of_two, outcomes};
 use crate::explored::threads::{Line, look_and_claim, run_tracees, wait_twice};
 use crate::rows::roots;
@@ -145,6 +145,11 @@ fn rounds_of_two_threads_have_an_outcome(rt: HostRuntime) -> Result<(), Fail> {
     }
     same(&rt, &tally.outcomes.len(), &1);
     same(&rt, &(tally.strange, tally.kinds()), &(0, 1));
+    holds(
+        &rt,
+        tally.rounds() >= ROWS,
+        "a round for each row, at least",
+    );
     Ok(())
 }
 
@@ -160,7 +165,11 @@ fn rounds_of_three_threads_have_an_outcome(rt: HostRuntime) -> Result<(), Fail> 
         }
     }
     let (kinds, all, rounds) = (tally.kinds(), tally.outcomes.len(), tally.rounds());
-    println!(rt; "of {all} outcomes {kinds} were seen in {rounds} rounds of three threads")?;
+    let seen = tally.seen.as_slice();
+    println!(rt;
+        "of {all} outcomes {kinds} were seen in {rounds} rounds of three threads: {seen:?}"
+    )?;
     same(&rt, &tally.strange, &0);
+    holds(&rt, rounds >= ROWS, "a round for each row, at least");
     Ok(())
 }

@@ -210,6 +210,44 @@ fn what_cannot_be_written_is_reported(rt: HostRuntime) -> Result<(), Fail> {
     Ok(())
 }
 
+/// Two tracers got one stop, which is forbidden at line 7.
+const TWICE: &[u8] = b"row 100 100 77 0
+thread tracee
+publish 100 start
+thread one
+wait 100 0 = stop 1 0x80057f
+thread two
+wait 100 1 = stop 1 0x80057f
+";
+
+/// The text of a file without a line has 51 bytes, and `forbidden: line 7` with its line feed 18.
+#[test]
+fn outcomes_that_cannot_be_written_are_reported(rt: HostRuntime) -> Result<(), Fail> {
+    for (file, room, status) in [
+        (b"".as_slice(), 0, 3),
+        (b"", 50, 3),
+        (b"", 51, 0),
+        (TWICE, 0, 3),
+        (TWICE, 17, 3),
+        (TWICE, 18, 4),
+    ] {
+        let line = command_line(&rt, &["explore"])?;
+        let mut input = file;
+        let mut output = narrow(&rt, room);
+        let mut errors = Vec::new(rt.alloc());
+        let ended = program(&rt, line.as_slice(), &mut input, &mut output, &mut errors);
+        same(&rt, &(file, room, ended), &(file, room, status));
+        same(&rt, &(file, output.taken.len()), &(file, room));
+        let expected = if status == 3 {
+            CANNOT_WRITE
+        } else {
+            b"".as_slice()
+        };
+        same(&rt, &(file, errors.as_slice()), &(file, expected));
+    }
+    Ok(())
+}
+
 /// What the program says where standard error takes a byte at a time, and no more than there is room for, and standard
 /// output takes none: its exit status, and what standard error has.
 fn told<H: Files + AllocGlobal + Threads + Wait + Clock + Sync>(

@@ -1,5 +1,5 @@
 -- The test for replies that came true says that each command with a reply was done, and says it where it is so.
-use Rattle.std.proofs.Common.{refl, ◌≡◌, ◌<◌, ◌≤◌, ◌+◌, ◌||◌, ◌∷◌, ◌==◌, [], ℕ, Bool, true, false, not, List, Option, Some, None}
+use Rattle.std.proofs.Common.{refl, ◌≡◌, ◌<◌, ◌≤◌, ◌+◌, ◌||◌, ◌&&◌, ◌∷◌, ◌==◌, [], ℕ, Bool, true, false, not, List, Option, Some, None}
 use Rattle.std.proofs.Common.{IsSome, is_some, length, slice_get, arith, ◌∙◌, ap, sym, inl, inr, eqb}
 use Rattle.std.proofs.lemmas.Bool.{cases_Bool, cases_lt, eq-eqb, eqb-true, false≢true, not-true, not_from_false, or_cases}
 use Rattle.std.proofs.lemmas.Bool.{or_left, or_right}
@@ -8,7 +8,10 @@ use Rattle.stop_explorer.specs.declared.command.ThreadCommand.{ThreadCommand}
 use Rattle.stop_explorer.specs.Program.{Log}
 use Rattle.stop_explorer.specs.Replies.{DoneCommand, HaveComeTrue, WasDone, done_by_thread}
 use Rattle.stop_explorer.specs.Progress.{has_reply}
-use Rattle.tracer_cli.specs.Chosen.{has_come_true, has_thread_come_true, have_come_true, was_done}
+use Rattle.stop_explorer.specs.Run.{EndedRun}
+use Rattle.tracer_cli.specs.declared.litmus.required.Condition.{Condition}
+use Rattle.tracer_cli.specs.Chosen.{has_come_true, has_thread_come_true, have_come_true, is_chosen, was_done}
+use Rattle.tracer_cli.specs.Conditions.{conditions_hold}
 use Rattle.tracer_cli.proofs.AllOf.{all_pass, passes_at}
 
 -- ---- a command that was done
@@ -81,3 +84,11 @@ true_came threads commands log all =
     (λ at least most.
     came_at (slice_get (commands thread) at) (was_done at (done_by_thread commands log thread))
     (λ command is wanted. done_is at (done_by_thread commands log thread) (all thread at command is wanted))))
+
+-- an outcome is chosen where all replies came true, and all conditions hold
+pub chosen_by : (threads : ℕ) (commands : ℕ → List ThreadCommand) (conditions : List Condition) (ending : EndedRun)
+    → have_come_true threads commands ending.turns ≡ true → conditions_hold commands conditions ending ≡ true
+    → is_chosen threads commands conditions ending ≡ true
+unfolding is_chosen
+chosen_by threads commands conditions ending came hold =
+    ap (λ b. b && conditions_hold commands conditions ending) came ∙ hold

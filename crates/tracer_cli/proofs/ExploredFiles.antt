@@ -6,7 +6,7 @@ use Rattle.std.proofs.lemmas.Option.{same_Some}
 use Rattle.std.proofs.lemmas.List.Elements.{All-filter, All-map, All-same, All-weaker}
 use Rattle.std.specs.List.{All, list_any}
 use Rattle.std.specs.Prelude.{cond, filter, map}
-use Rattle.std.specs.Prelude.{Ok}
+use Rattle.std.specs.Prelude.{Ok, Result}
 use Rattle.stop_history.specs.Event.{History}
 use Rattle.stop_history.specs.declared.roster.Row.{Row}
 use Rattle.stop_explorer.specs.declared.command.ProgramLine.{ProgramLine}
@@ -25,6 +25,7 @@ use Rattle.tracer_cli.specs.declared.arguments.ExploreOptions.{ExploreOptions}
 use Rattle.tracer_cli.specs.declared.arguments.Listing.{Listing}
 use Rattle.tracer_cli.specs.declared.arguments.Listing.TheVariants as listing
 use Rattle.tracer_cli.specs.declared.explored.Searched.{Searched}
+use Rattle.tracer_cli.specs.declared.failure.Failure.{Failure}
 use Rattle.tracer_cli.specs.declared.failure.Failure.TheVariants.{NoOutcome}
 use Rattle.tracer_cli.specs.LitmusFile.{LitmusContent}
 use Rattle.tracer_cli.specs.LitmusGrammar.{HasTracer, IsLitmusCall}
@@ -32,6 +33,7 @@ use Rattle.tracer_cli.specs.OutcomeEnds.{ends_text}
 use Rattle.tracer_cli.specs.OutcomeOrder.{HaveTracers, outcome_replay}
 use Rattle.tracer_cli.specs.OutcomeText.{chosen_text}
 use Rattle.tracer_cli.specs.Required.{conditions_with, program_with}
+use Rattle.tracer_cli.specs.Run.{WritesIfMemory}
 use Rattle.tracer_cli.specs.declared.litmus.file.LitmusFile.{LitmusFile}
 use Rattle.tracer_cli.specs.declared.litmus.required.NumberedLine.{NumberedLine}
 use Rattle.tracer_cli.specs.LitmusDraft.{IsLitmusFile, content_in}
@@ -250,6 +252,23 @@ texts_are content threads places lists conditions rows names voices required fou
     (commands_with content (all_required content)) q places chosen) required_is
     ∙ ap (all_text false content places)
     (chosen_is content (all_required content) threads lists conditions found long own conditions_are)
+
+pub printed_are : (content : LitmusContent) (threads places : ℕ) (lists : ℕ → List ThreadCommand)
+    (conditions : List Condition) (rows : List Row) (names : List (Option (List ℕ))) (voices : List Voice)
+    (required : Bool) (found : List EndedRun) (before after : Option (List ℕ)) (result : Result (Unit {0}) Failure)
+    → rows ≡ content.rows → names ≡ content.names → voices ≡ content.voices → threads ≡ length content.names
+    → ((thread : ℕ) → lists thread ≡ commands_with content (all_required content) thread)
+    → conditions ≡ conditions_with (all_required content) content.conditions
+    → required ≡ not (all_required content == 0)
+    → WritesIfMemory (chosen_text rows names voices lists required places (chosen_of threads lists conditions found))
+    before after result
+    → WritesIfMemory (all_text false content places (chosen_with content (all_required content) found))
+    before after result
+printed_are content threads places lists conditions rows names voices required found before after result rows_are
+    names_are voices_are long own conditions_are required_is writes =
+    subst (λ t. WritesIfMemory t before after result)
+    (texts_are content threads places lists conditions rows names voices required found _ rows_are names_are voices_are
+    long own conditions_are required_is refl) writes
 
 all_listed : (asked : Listing) (content : LitmusContent) (found : List EndedRun) (places : ℕ) (text : List ℕ)
     → number_asked asked ≡ None

@@ -19,6 +19,7 @@ pub mod Names
 pub mod OutcomeLines
 pub mod OutcomeOrders
 pub mod PlainWords
+pub mod Printing
 pub mod ReadBack
 pub mod Runs
 pub mod SixWords

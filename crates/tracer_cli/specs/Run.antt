@@ -58,6 +58,11 @@ Writes text before after (Ok done) = Appends before after text
 Writes text before after (Err CannotWrite) = IsCutOff before after text
 Writes text before after (Err failure) = ⊥
 
+-- the same, if there is memory
+abbrev pub WritesIfMemory : (text : List ℕ) → (before after : Option (List ℕ)) → Result (Unit {0}) Failure → Type 0
+WritesIfMemory text before after (Err NoMemory) = Unit {0}
+WritesIfMemory text before after result = Writes text before after result
+
 -- the text of a file is written, or the file is refused by its first fault; only of a file that is taken can a write
 -- fail; or memory runs out
 abbrev pub Prints : Result (List ℕ) CaseError → (before after : Option (List ℕ)) → Result (Unit {0}) Failure → Type 0

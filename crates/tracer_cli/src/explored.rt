@@ -1,16 +1,17 @@
-//! A litmus file from bytes to bytes.
+//! A litmus file from bytes to what is printed.
 
 ghost use Rattle.std.specs.Prelude.{◌≡◌, ◌≤◌, ◌<◌, ◌⊎◌, ℕ, Decides, IfErr, IfOk, IsOkAnd, Err, Ok, None, Some};
-ghost use Rattle.std.specs.Prelude.{◌-◌, false, length, slice_get, string_bytes};
+ghost use Rattle.std.specs.Prelude.{◌-◌, ◌==◌, false, length, not, slice_get, string_bytes, true};
 ghost use Rattle.std.specs.List.{list_any};
 ghost use Rattle.stop_explorer.specs.Search.{commands_in};
 ghost use Rattle.tracer_cli.specs.Chosen.{is_chosen};
 ghost use Rattle.tracer_cli.specs.Explored.{CanMeet, HasMorePlacesWith, IsAskedFrom, IsFirstUnmet, IsForbiddenText};
 ghost use Rattle.tracer_cli.specs.Explored.{IsSearched};
 ghost use Rattle.tracer_cli.specs.Explored.{IsShown, IsUnshown, all_text, chosen_with, forbids, have_numbers_to};
-ghost use Rattle.tracer_cli.specs.Explored.{number_asked, shows_ends};
+ghost use Rattle.tracer_cli.specs.Explored.{PrintsOutcomes, WritesShown, number_asked, shows_ends};
 ghost use Rattle.tracer_cli.specs.LitmusDraft.{IsLitmusFile, content_in};
 ghost use Rattle.tracer_cli.specs.LitmusFile.{litmus_content_of};
+ghost use Rattle.tracer_cli.specs.Run.{IsUnwritten, WritesIfMemory};
 
 use crate::arguments::{ExploreOptions, Listing};
 use crate::failure::Failure;
@@ -18,20 +19,15 @@ use crate::litmus::file::{LitmusFile, read_litmus};
 use crate::litmus::required::{Condition, NumberedLine, conditions_with, program_with};
 use crate::outcomes::chosen::{count_chosen, is_chosen};
 use crate::outcomes::ends::ends_text;
-use crate::outcomes::order::outcome_replay;
-use crate::outcomes::text::{ToldProgram, forbidden_text, outcomes_text};
+use crate::outcomes::printed::print_outcomes;
+use crate::outcomes::replay_order::outcome_replay;
+use crate::outcomes::text::{ToldProgram, forbidden_text};
+use crate::print::print;
 use std::alloc::Global;
+use std::io::Write;
 use stop_board::NoMemory;
 use stop_explorer::laws::places_have_one_number;
 use stop_explorer::{ExploreError, Explored, FoundRun, ThreadCommand, commands_of, explore};
-
-/// What is shown of a program.
-#[derive(Drop)]
-pub(crate) struct ExploredText {
-    pub(crate) text: String,
-    /// No order of the commands has all that the file requires.
-    pub(crate) forbidden: bool,
-}
 
 /// What a search found: the outcomes of the program with the first n of the replies and conditions of its file, beside
 /// that program and these conditions.
@@ -42,36 +38,40 @@ pub(crate) struct Searched {
     pub(crate) explored: Explored,
 }
 
-/// The outcomes of the program of a litmus file, how they end, or the order of one of them as a replay file; or why
-/// there are none.
-pub(crate) fn explore_file(
+/// Prints the outcomes of the program of a litmus file, how they end, or the order of one of them as a replay file.
+pub(crate) fn explore_file<W: Write>(
     alloc: Global,
     text: &[u8],
     options: ExploreOptions,
-) -> Result<ExploredText, Failure>
-    ensures shown { IfOk result (λ told. IsOkAnd (litmus_content_of text.now) (λ content.
-        IsShown options content (string_bytes told.text) told.forbidden)) }
-    ensures unshown { IfErr result (IsUnshown options (litmus_content_of text.now)) }
+    output: &mut W,
+) -> Result<(), Failure>
+    ensures printed { PrintsOutcomes options (litmus_content_of text.now) (W.contents output.old)
+        (W.contents output.new) result }
+    ensures unwritten { IsUnwritten output.old output.new result }
 {
     let file = read_litmus(alloc, text)?;
-    explore_content(alloc, &file, options)
+    explore_content(alloc, &file, options, output)
 }
 
-/// The outcomes of a program, how they end, or the order of one of them.
-fn explore_content(
+/// Prints the outcomes of a program, how they end, or the order of one of them.
+fn explore_content<W: Write>(
     alloc: Global,
     file: &LitmusFile<'_, Global>,
     options: ExploreOptions,
-) -> Result<ExploredText, Failure>
+    output: &mut W,
+) -> Result<(), Failure>
     requires { IsLitmusFile file.now }
-    ensures shown { IfOk result (λ told.
-        IsShown options (content_in file.now) (string_bytes told.text) told.forbidden) }
-    ensures unshown { IfErr result (IsUnshown options (Ok (content_in file.now))) }
+    ensures printed { PrintsOutcomes options (Ok (content_in file.now)) (W.contents output.old)
+        (W.contents output.new) result }
+    ensures unwritten { IsUnwritten output.old output.new result }
 {
     let whole = search(alloc, file, options.budget, file.requirements.len())?;
     match number_asked(options.listing) {
-        Some(number) => show_order(alloc, file, options, &whole, number),
-        None => Ok(show_outcomes(alloc, file, options, &whole)?),
+        Some(number) => {
+            let order = order_text(alloc, file, options, &whole, number)?;
+            print(order.as_bytes(), output)
+        }
+        None => print_found(alloc, file, options, &whole, output),
     }
 }
 
@@ -143,87 +143,156 @@ fn is_forbidden(file: &LitmusFile<'_, Global>, budget: u32, whole: &Searched) ->
 {
     let runs = whole.explored.runs.as_slice();
     let chosen = count_chosen(whole.commands.as_slice(), whole.conditions.as_slice(), runs);
-    !file.requirements.is_empty() && chosen == 0
+    has_requirements(file) && chosen == 0
 }
 
 // ---- what is shown
 
-/// All outcomes, or how they end; or that none has all that the file requires.
-fn show_outcomes(
+/// Prints all outcomes, or how they end; or that none has all that the file requires.
+fn print_found<W: Write>(
     alloc: Global,
     file: &LitmusFile<'_, Global>,
     options: ExploreOptions,
     whole: &Searched,
-) -> Result<ExploredText, NoMemory>
+    output: &mut W,
+) -> Result<(), Failure>
     requires file { IsLitmusFile file.now }
     requires whole { IsSearched (content_in file.now) options.budget (length file.now.requirements.items) whole.now }
     requires few { ¬ HasMorePlacesWith (content_in file.now) (length file.now.requirements.items) options.budget }
     requires all { number_asked options.listing ≡ None }
-    ensures { IfOk result (λ told.
-        IsShown options (content_in file.now) (string_bytes told.text) told.forbidden) }
+    ensures printed { PrintsOutcomes options (Ok (content_in file.now)) (W.contents output.old)
+        (W.contents output.new) result }
+    ensures unwritten { IsUnwritten output.old output.new result }
 {
     if is_forbidden(file, options.budget, whole) {
         let text = explain(alloc, file, options.budget, whole)?;
-        return Ok(ExploredText {
-            text,
-            forbidden: true,
-        });
+        return print_forbidden(text.as_str(), output);
     }
-    let text = show_all(
-        alloc,
-        file,
-        options.budget,
-        whole,
-        shows_ends(options.listing),
-    )?;
-    Ok(ExploredText {
-        text,
-        forbidden: false,
-    })
+    let ends = shows_ends(options.listing);
+    print_chosen(alloc, file, options.budget, whole, ends, output)
 }
 
-/// All outcomes, or how they end.
-fn show_all(
+/// Prints what is said of a program none of whose outcomes has all that its file requires.
+fn print_forbidden<W: Write>(text: &str, output: &mut W) -> Result<(), Failure>
+    ensures printed { WritesShown text.now true (W.contents output.old) (W.contents output.new) result }
+    ensures unwritten { IsUnwritten output.old output.new result }
+{
+    print(text.as_bytes(), output)?;
+    Err(Failure::Forbidden)
+}
+
+/// Prints all outcomes that have all that the file requires, or how they end.
+fn print_chosen<W: Write>(
     alloc: Global,
     file: &LitmusFile<'_, Global>,
     budget: u32,
     whole: &Searched,
     ends: bool,
+    output: &mut W,
+) -> Result<(), Failure>
+    requires file { IsLitmusFile file.now }
+    requires whole { IsSearched (content_in file.now) budget (length file.now.requirements.items) whole.now }
+    ensures printed { WritesIfMemory (all_text ends (content_in file.now) whole.now.explored.places
+        (chosen_with (content_in file.now) (length file.now.requirements.items) whole.now.explored.runs.items))
+        (W.contents output.old) (W.contents output.new) result }
+    ensures unwritten { IsUnwritten output.old output.new result }
+{
+    if ends {
+        let text = ends_of(alloc, file, budget, whole)?;
+        return print(text.as_bytes(), output);
+    }
+    print_each(alloc, file, budget, whole, output)
+}
+
+/// How the outcomes end that have all that the file requires.
+fn ends_of(
+    alloc: Global,
+    file: &LitmusFile<'_, Global>,
+    budget: u32,
+    whole: &Searched,
 ) -> Result<String, NoMemory>
     requires file { IsLitmusFile file.now }
     requires whole { IsSearched (content_in file.now) budget (length file.now.requirements.items) whole.now }
-    ensures { IfOk result (λ text. string_bytes text ≡ all_text ends (content_in file.now)
+    ensures { IfOk result (λ text. string_bytes text ≡ all_text true (content_in file.now)
         whole.now.explored.places (chosen_with (content_in file.now) (length file.now.requirements.items)
         whole.now.explored.runs.items)) }
 {
-    let program = ToldProgram {
+    let program = told_program(file, whole);
+    let required = has_requirements(file);
+    ends_text(
+        alloc,
+        &program,
+        whole.conditions.as_slice(),
+        required,
+        &whole.explored,
+    )
+}
+
+/// Prints each outcome that has all that the file requires.
+fn print_each<W: Write>(
+    alloc: Global,
+    file: &LitmusFile<'_, Global>,
+    budget: u32,
+    whole: &Searched,
+    output: &mut W,
+) -> Result<(), Failure>
+    requires file { IsLitmusFile file.now }
+    requires whole { IsSearched (content_in file.now) budget (length file.now.requirements.items) whole.now }
+    ensures printed { WritesIfMemory (all_text false (content_in file.now) whole.now.explored.places
+        (chosen_with (content_in file.now) (length file.now.requirements.items) whole.now.explored.runs.items))
+        (W.contents output.old) (W.contents output.new) result }
+    ensures unwritten { IsUnwritten output.old output.new result }
+{
+    let program = told_program(file, whole);
+    let required = has_requirements(file);
+    let conditions = whole.conditions.as_slice();
+    print_outcomes(
+        alloc,
+        &program,
+        conditions,
+        required,
+        &whole.explored,
+        output,
+    )
+}
+
+/// Whether a file has replies or conditions.
+fn has_requirements(file: &LitmusFile<'_, Global>) -> bool
+    ensures { result ≡ not (length file.now.requirements.items == 0) }
+{
+    !file.requirements.is_empty()
+}
+
+/// The program of a file, as the texts of its outcomes tell of it.
+fn told_program<'a, 't>(
+    file: &'a LitmusFile<'t, Global>,
+    whole: &'a Searched,
+) -> ToldProgram<'a, 't, Global>
+    ensures rows { result.rows.now ≡ file.now.rows }
+    ensures names { result.names.now ≡ file.now.names.items }
+    ensures voices { result.voices.now ≡ file.now.voices.items }
+    ensures commands { result.commands.now ≡ whole.now.commands.items }
+{
+    ToldProgram {
         rows: file.rows.rows(),
         names: file.names.as_slice(),
         voices: file.voices.as_slice(),
         commands: whole.commands.as_slice(),
-    };
-    let conditions = whole.conditions.as_slice();
-    let required = !file.requirements.is_empty();
-    let explored = &whole.explored;
-    if ends {
-        return ends_text(alloc, &program, conditions, required, explored);
     }
-    outcomes_text(alloc, &program, conditions, required, explored)
 }
 
 /// The order of one outcome as a replay file.
-fn show_order(
+fn order_text(
     alloc: Global,
     file: &LitmusFile<'_, Global>,
     options: ExploreOptions,
     whole: &Searched,
     number: u32,
-) -> Result<ExploredText, Failure>
+) -> Result<String, Failure>
     requires file { IsLitmusFile file.now }
     requires whole { IsSearched (content_in file.now) options.budget (length file.now.requirements.items) whole.now }
     requires asked { number_asked options.listing ≡ Some number }
-    ensures shown { IfOk result (λ told.
-        IsShown options (content_in file.now) (string_bytes told.text) told.forbidden) }
+    ensures shown { IfOk result (λ text. IsShown options (content_in file.now) (string_bytes text) false) }
     ensures unshown { IfErr result (IsUnshown options (Ok (content_in file.now))) }
 {
     let commands = whole.commands.as_slice();
@@ -231,10 +300,7 @@ fn show_order(
     let rows = file.rows.rows();
     let explored = &whole.explored;
     match outcome_replay(alloc, rows, commands, conditions, explored, number as usize)? {
-        Some(text) => Ok(ExploredText {
-            text,
-            forbidden: false,
-        }),
+        Some(text) => Ok(text),
         None => Err(Failure::NoOutcome(number)),
     }
 }

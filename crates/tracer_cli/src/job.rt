@@ -1,16 +1,15 @@
 //! What is left to do once the words are understood and the file is read: nothing is printed before.
 
-ghost use Rattle.std.specs.Prelude.{◌≡◌, None, IfErr, IfOk, IfSome, string_bytes};
-ghost use Rattle.tracer_cli.specs.Explored.{WritesShown};
+ghost use Rattle.std.specs.Prelude.{◌≡◌, None, IfErr, IfOk, IfSome};
 ghost use Rattle.tracer_cli.specs.Job.{AreWorkersInRange, HasNoJob, HasWorkers, IsDone, IsJob};
-ghost use Rattle.tracer_cli.specs.Run.{IsReadFailure, IsReadOf, IsUnread, IsUnwritten, LeavesInput, Writes};
+ghost use Rattle.tracer_cli.specs.Run.{IsReadFailure, IsReadOf, IsUnread, IsUnwritten, LeavesInput};
 
 use crate::arguments::{ExploreOptions, Request};
 use crate::case_text::{case_text, run_config};
-use crate::explored::{ExploredText, explore_file};
+use crate::explored::explore_file;
 use crate::failure::{Failure, read_failure};
+use crate::print::print;
 use crate::replay::replay_text;
-use record_printer::write_bytes;
 use std::fs;
 use std::io::{Read, Write};
 use std::rt::Files;
@@ -111,31 +110,6 @@ pub(crate) fn do_job<H: AllocGlobal + Threads + Wait + Clock + Sync, W: Write>(
             let text = case_text(rt, file, &config)?;
             print(text.as_bytes(), output)
         }
-        Job::Explore(options, file) => {
-            let explored = explore_file(rt.alloc(), file.as_slice(), options)?;
-            print_explored(&explored, output)
-        }
+        Job::Explore(options, file) => explore_file(rt.alloc(), file.as_slice(), options, output),
     }
-}
-
-/// Writes a text on standard output.
-fn print<W: Write>(text: &[u8], output: &mut W) -> Result<(), Failure>
-    ensures { Writes text.now (W.contents output.old) (W.contents output.new) result }
-{
-    match write_bytes(text, output) {
-        Ok(()) => Ok(()),
-        Err(_) => Err(Failure::CannotWrite),
-    }
-}
-
-/// Writes what is shown of a program. That no order of its commands has the replies of its file is a failure of its own.
-fn print_explored<W: Write>(explored: &ExploredText, output: &mut W) -> Result<(), Failure>
-    ensures { WritesShown (string_bytes explored.now.text) explored.now.forbidden (W.contents output.old)
-        (W.contents output.new) result }
-{
-    print(explored.text.as_bytes(), output)?;
-    if explored.forbidden {
-        return Err(Failure::Forbidden);
-    }
-    Ok(())
 }

@@ -7,8 +7,8 @@ ghost use Rattle.stop_explorer.specs.declared.command.ThreadCommand.{ThreadComma
 ghost use Rattle.stop_explorer.specs.BoardCall.{answer_to};
 ghost use Rattle.stop_explorer.specs.Command.{is_lasting_refusal};
 ghost use Rattle.stop_explorer.specs.Program.{Log};
-ghost use Rattle.stop_explorer.specs.Replies.{HaveComeTrue};
-ghost use Rattle.stop_explorer.specs.Run.{states_of};
+ghost use Rattle.stop_explorer.specs.Replies.{AreSoAnswered, HaveComeTrue, done_by_thread, without_replies};
+ghost use Rattle.stop_explorer.specs.Run.{IsRun, ended_run, states_of};
 ghost use Rattle.stop_history.specs.Event.{History};
 ghost use Rattle.stop_history.specs.State.{state_after};
 ghost use Rattle.stop_history.specs.declared.refused.Refused.{Refused};
@@ -19,13 +19,19 @@ ghost use Rattle.tracer_cli.specs.declared.arguments.ExploreOptions.{ExploreOpti
 ghost use Rattle.tracer_cli.specs.declared.arguments.RunOptions.{RunOptions};
 ghost use Rattle.tracer_cli.specs.declared.arguments.TheConstants.{MOST_PLACES, MOST_SHOWN};
 ghost use Rattle.tracer_cli.specs.Chosen.{have_come_true};
+ghost use Rattle.tracer_cli.specs.Conditions.{conditions_hold};
+ghost use Rattle.tracer_cli.specs.Explored.{CanMeet, all_required, commands_with};
 ghost use Rattle.tracer_cli.specs.File.{ReplayContent, content_of};
+ghost use Rattle.tracer_cli.specs.LitmusFile.{LitmusContent};
+ghost use Rattle.tracer_cli.specs.Required.{conditions_with};
 ghost use Rattle.tracer_cli.specs.Spelling.{IsContent, spelling};
 ghost use Rattle.tracer_cli.specs.Waiting.{state_at, waiting_refusal};
 ghost use Rattle.tracer_cli.specs.declared.grammar.TheConstants.{DEATH_STOPS, ENDINGS, KEYWORDS, KINDS};
 ghost use Rattle.tracer_cli.specs.declared.grammar.TheConstants.{NUMBERED_STOPS, PLAIN_STOPS};
 ghost use Rattle.tracer_cli.specs.declared.litmus.grammar.TheConstants.{LONGEST_NAME, MOST_REPEATS};
 ghost use Rattle.tracer_cli.specs.declared.litmus.draft.TheConstants.{MOST_COMMANDS, MOST_THREADS};
+
+use stop_explorer::laws::replies_choose_runs;
 
 /// Rows and commands that are spelled as a file are read back from it, each in its place.
 pub fn what_is_spelled_is_read()
@@ -87,3 +93,17 @@ pub fn printed_outcomes_came_true()
         ((thread : ℕ) → threads ≤ thread → commands thread ≡ []) → (log : Log) →
         Decides (have_come_true threads commands log) (HaveComeTrue commands log) }
 {}
+
+/// What is forbidden of a file has no run of its program without replies either: none in which each command with a reply
+/// was done and so answered, and at whose end each condition holds.
+pub fn what_is_forbidden_has_no_run()
+    ensures { (content : LitmusContent) → ¬ CanMeet content (all_required content) → (run : Log) (last : History) →
+        IsRun content.rows (without_replies (commands_with content (all_required content))) run last →
+        ((thread : ℕ) → AreSoAnswered (commands_with content (all_required content) thread)
+        (done_by_thread (commands_with content (all_required content)) run thread)) →
+        HaveComeTrue (commands_with content (all_required content)) run →
+        conditions_hold (commands_with content (all_required content))
+        (conditions_with (all_required content) content.conditions) (ended_run content.rows run last) ≡ false }
+{
+    replies_choose_runs();
+}

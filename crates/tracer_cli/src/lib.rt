@@ -14,6 +14,7 @@ mod litmus;
 mod order;
 mod outcomes;
 mod parts;
+mod print;
 mod reading;
 mod replay;
 mod replies;

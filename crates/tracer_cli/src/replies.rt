@@ -3,7 +3,7 @@
 ghost use Rattle.std.specs.Prelude.{◌≡◌, ◌++◌, ◌≤◌, ◌∷◌, [], length, All, OnOk, codes, decimal, string_bytes};
 ghost use Rattle.tracer_cli.specs.Command.{IsOrder};
 ghost use Rattle.tracer_cli.specs.Replies.{at_status, done_text, got_text, history_after_command};
-ghost use Rattle.tracer_cli.specs.Replies.{published_text, refusal_text, replies, reply_text, state_text};
+ghost use Rattle.tracer_cli.specs.Replies.{published_text, refusal_name, refusal_text, replies, reply_text, state_text};
 ghost use Rattle.stop_history.specs.Roster.{row_at};
 ghost use Rattle.stop_history.specs.declared.limits.TheConstants.{MOST_ROWS, TRACERS};
 ghost use Rattle.stop_board.specs.World.{Moment, StandsAt};
@@ -76,6 +76,7 @@ pub(crate) fn write_got<A: Allocator>(
     }
 }
 
+#[tactic(auto, using(crate::proofs::Written::in_three))]
 pub(crate) fn write_refusal<A: Allocator>(
     out: &mut String<A>,
     rows: &[Row],
@@ -83,27 +84,33 @@ pub(crate) fn write_refusal<A: Allocator>(
 ) -> Result<(), NoMemory>
     ensures { OnOk result (string_bytes out.new ≡ string_bytes out.old ++ (refusal_text rows.now refusal ++ 10 ∷ [])) }
 {
-    match refusal {
-        Refused::NoRow => out.push_str("refused NoRow\n")?,
-        Refused::Unborn => out.push_str("refused Unborn\n")?,
-        Refused::NotRunning => out.push_str("refused NotRunning\n")?,
-        Refused::NotTaken => out.push_str("refused NotTaken\n")?,
-        Refused::NotNext => out.push_str("refused NotNext\n")?,
-        Refused::Full => out.push_str("refused Full\n")?,
-        Refused::NotWaitable => out.push_str("refused NotWaitable\n")?,
-        Refused::NotClaimed => out.push_str("refused NotClaimed\n")?,
-        Refused::NotHolder => out.push_str("refused NotHolder\n")?,
-        Refused::GroupAlive(row) => write_group_alive(out, tid_at(rows, row))?,
-    }
+    out.push_str("refused ")?;
+    write_refusal_name(out, rows, refusal)?;
+    out.push_str("\n")?;
     Ok(())
 }
 
-/// A leader's exit that another row of its group holds back, by that row's thread id.
-fn write_group_alive<A: Allocator>(out: &mut String<A>, tid: u32) -> Result<(), NoMemory>
-    ensures { OnOk result (string_bytes out.new
-        ≡ string_bytes out.old ++ ((codes "refused GroupAlive " ++ decimal tid) ++ 10 ∷ [])) }
+/// Writes the name of a refusal. Another row of a leader's group, which holds its exit back, is named by its thread id.
+pub(crate) fn write_refusal_name<A: Allocator>(
+    out: &mut String<A>,
+    rows: &[Row],
+    refusal: Refused,
+) -> Result<(), NoMemory>
+    ensures { OnOk result (string_bytes out.new ≡ string_bytes out.old ++ refusal_name rows.now refusal) }
 {
-    write_number(out, "refused GroupAlive ", tid, "\n")
+    match refusal {
+        Refused::NoRow => out.push_str("NoRow")?,
+        Refused::Unborn => out.push_str("Unborn")?,
+        Refused::NotRunning => out.push_str("NotRunning")?,
+        Refused::NotTaken => out.push_str("NotTaken")?,
+        Refused::NotNext => out.push_str("NotNext")?,
+        Refused::Full => out.push_str("Full")?,
+        Refused::NotWaitable => out.push_str("NotWaitable")?,
+        Refused::NotClaimed => out.push_str("NotClaimed")?,
+        Refused::NotHolder => out.push_str("NotHolder")?,
+        Refused::GroupAlive(row) => write_number(out, "GroupAlive ", tid_at(rows, row), "")?,
+    }
+    Ok(())
 }
 
 /// The thread id of a row, 0 of none.

@@ -13,7 +13,8 @@ use crate::outcomes::waiting::{
     claim_refusal, holding_back, resume_refusal, row_at, running_refusal, state_at,
 };
 use crate::replies::{
-    tid_at, write_done, write_got, write_number, write_published, write_refusal, write_state,
+    tid_at, write_done, write_got, write_number, write_published, write_refusal,
+    write_refusal_name, write_state,
 };
 use std::alloc::Allocator;
 use stop_board::{Got, NoMemory, Refused, Row, State};
@@ -153,7 +154,8 @@ fn write_exit_refusal<A: Allocator>(
     }
 }
 
-/// Writes a refusal, if there is one, as the last word of the line.
+/// Writes a refusal, if there is one, as the last words of the line.
+#[tactic(auto, using(crate::proofs::Written::in_three))]
 fn write_reason<A: Allocator>(
     out: &mut String<A>,
     rows: &[Row],
@@ -166,18 +168,9 @@ fn write_reason<A: Allocator>(
         out.push_str("\n")?;
         return Ok(());
     };
-    match refusal {
-        Refused::NoRow => out.push_str(" NoRow\n")?,
-        Refused::Unborn => out.push_str(" Unborn\n")?,
-        Refused::NotRunning => out.push_str(" NotRunning\n")?,
-        Refused::NotTaken => out.push_str(" NotTaken\n")?,
-        Refused::NotNext => out.push_str(" NotNext\n")?,
-        Refused::Full => out.push_str(" Full\n")?,
-        Refused::NotWaitable => out.push_str(" NotWaitable\n")?,
-        Refused::NotClaimed => out.push_str(" NotClaimed\n")?,
-        Refused::NotHolder => out.push_str(" NotHolder\n")?,
-        Refused::GroupAlive(row) => write_group_alive(out, tid_at(rows, row))?,
-    }
+    out.push_str(" ")?;
+    write_refusal_name(out, rows, refusal)?;
+    out.push_str("\n")?;
     Ok(())
 }
 

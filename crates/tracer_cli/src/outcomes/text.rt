@@ -4,24 +4,22 @@ ghost use Rattle.std.specs.Prelude.{◌≡◌, ◌++◌, ◌<◌, ◌^◌, lengt
 ghost use Rattle.std.specs.Prelude.{string_bytes};
 ghost use Rattle.stop_explorer.specs.Program.{command_after, own_turns};
 ghost use Rattle.stop_explorer.specs.Search.{commands_in};
-ghost use Rattle.tracer_cli.specs.Chosen.{chosen_of};
 ghost use Rattle.tracer_cli.specs.LitmusDraft.{AreTexts, names_kept};
-ghost use Rattle.tracer_cli.specs.OutcomeText.{allowed_line, chosen_text, counts_line, done_line, forbidden_line, name_at};
+ghost use Rattle.tracer_cli.specs.OutcomeText.{allowed_line, counts_line, done_line, forbidden_line, name_at};
 ghost use Rattle.tracer_cli.specs.OutcomeText.{order_text};
-ghost use Rattle.tracer_cli.specs.OutcomeText.{outcome_line, outcome_text, outcome_texts, quiet_line, thread_head};
+ghost use Rattle.tracer_cli.specs.OutcomeText.{outcome_line, outcome_text, quiet_line, thread_head};
 ghost use Rattle.tracer_cli.specs.OutcomeText.{thread_lines, thread_word, threads_text, told_lines, tracee_line, tracees_text};
 ghost use Rattle.tracer_cli.specs.OutcomeText.{turn_line, waiting_line};
 
 use super::answer_text::{write_answer, write_waits};
-use super::chosen::{count_chosen, is_chosen, is_quiet, thread_commands};
+use super::chosen::{is_quiet, thread_commands};
 use super::command_text::write_command;
-use super::order::command_of_turn;
-use crate::litmus::required::Condition;
+use super::replay_order::command_of_turn;
 use crate::replies::write_state;
 use itoa::Buffer;
 use std::alloc::Allocator;
 use stop_board::{NoMemory, Row, State};
-use stop_explorer::{Explored, FoundRun, ThreadCommand, Turn, Voice, command_after, index_after};
+use stop_explorer::{FoundRun, ThreadCommand, Turn, Voice, command_after, index_after};
 
 /// A program, as the texts of its outcomes tell of it: the rows of its board, the names and the voices of its threads,
 /// and their commands.
@@ -362,31 +360,6 @@ pub(crate) fn write_outcome<A: Allocator>(
     Ok(())
 }
 
-/// Writes the outcomes that are printed, numbered from 1.
-fn write_outcomes<A: Allocator>(
-    out: &mut String<A>,
-    program: &ToldProgram<'_, '_, A>,
-    conditions: &[Condition],
-    count: usize,
-    runs: &[FoundRun<A>],
-) -> Result<(), NoMemory>
-    requires names { AreTexts program.now.names.now }
-    requires few { length program.now.names.now < 2 ^ 32 }
-    ensures { OnOk result (string_bytes out.new ≡ string_bytes out.old
-        ++ outcome_texts program.now.rows.now (names_kept program.now.names.now) program.now.voices.now
-        (commands_in program.now.commands.now) 1 count (chosen_of (length program.now.commands.now)
-        (commands_in program.now.commands.now) conditions.now runs.now)) }
-{
-    let mut before = 0;
-    for run in runs {
-        if is_chosen(program.commands, conditions, run) {
-            write_outcome(out, program, before + 1, count, run)?;
-            before += 1;
-        }
-    }
-    Ok(())
-}
-
 /// Writes how many outcomes and places there are, and that the outcomes are allowed, where the file requires anything.
 #[tactic(auto, using(crate::proofs::Written::in_two))]
 pub(super) fn write_end<A: Allocator>(
@@ -422,30 +395,6 @@ fn write_allowed<A: Allocator>(out: &mut String<A>, required: bool) -> Result<()
         out.push_str("allowed\n")?;
     }
     Ok(())
-}
-
-/// The text of what was explored: the outcomes that have each reply, and in which each condition holds, and how many
-/// they and the places are. `required`: the file has replies or conditions. Each thread has a name, or none.
-pub(crate) fn outcomes_text<A: Allocator + Copy>(
-    alloc: A,
-    program: &ToldProgram<'_, '_, A>,
-    conditions: &[Condition],
-    required: bool,
-    explored: &Explored<A>,
-) -> Result<String<A>, NoMemory>
-    requires names { AreTexts program.now.names.now }
-    requires few { length program.now.names.now < 2 ^ 32 }
-    ensures { IfOk result (λ text. string_bytes text ≡ chosen_text program.now.rows.now
-        (names_kept program.now.names.now) program.now.voices.now (commands_in program.now.commands.now) required
-        explored.now.places (chosen_of (length program.now.commands.now) (commands_in program.now.commands.now)
-        conditions.now explored.now.runs.items)) }
-{
-    let mut out = String::new(alloc);
-    let runs = explored.runs.as_slice();
-    let count = count_chosen(program.commands, conditions, runs);
-    write_outcomes(&mut out, program, conditions, count, runs)?;
-    write_end(&mut out, count, explored.places, required)?;
-    Ok(out)
 }
 
 /// What is written where an order does not have all that a file requires: the number of a line, if there is one.

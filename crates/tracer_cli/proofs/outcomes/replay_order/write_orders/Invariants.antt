@@ -3,7 +3,7 @@ use Rattle.std.proofs.Common.{◌≡◌, ◌++◌, drop, string_bytes, take}
 use Rattle.stop_explorer.specs.Search.{commands_in}
 use Rattle.tracer_cli.specs.OutcomeOrder.{orders_after, orders_of}
 use Rattle.tracer_cli.specs.Spelling.{orders_text}
-use Rattle.tracer_cli.proofs.outcomes.order.write_orders.Given as goal
+use Rattle.tracer_cli.proofs.outcomes.replay_order.write_orders.Given as goal
 
 abbrev pub invariant-loop-i : goal.invariant-loop-i
 invariant-loop-i g l =

@@ -5,8 +5,8 @@ use Rattle.tracer_cli.specs.OutcomeOrder.{orders_after}
 use Rattle.tracer_cli.specs.Spelling.{orders_text}
 use Rattle.tracer_cli.proofs.OutcomeLines.{no_piece, one_piece}
 use Rattle.tracer_cli.proofs.OutcomeOrders.{orders_more, orders_over, text_of_none, text_of_order}
-use Rattle.tracer_cli.proofs.outcomes.order.write_orders.Goals as goal
-use Rattle.tracer_cli.proofs.outcomes.order.write_orders.Goals.{in-Some+in_ok-write_order, in_default}
+use Rattle.tracer_cli.proofs.outcomes.replay_order.write_orders.Goals as goal
+use Rattle.tracer_cli.proofs.outcomes.replay_order.write_orders.Goals.{in-Some+in_ok-write_order, in_default}
 
 pub loop-i-preserved : goal.loop-i-preserved
 loop-i-preserved g c =

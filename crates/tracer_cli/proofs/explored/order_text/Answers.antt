@@ -4,7 +4,7 @@ use Rattle.stop_explorer.specs.Search.{commands_in}
 use Rattle.tracer_cli.specs.Required.{program_with}
 use Rattle.tracer_cli.proofs.ExploredFiles.{have_tracers}
 use Rattle.tracer_cli.proofs.Unmet.{asked_with}
-use Rattle.tracer_cli.proofs.explored.show_order.Goals as goal
+use Rattle.tracer_cli.proofs.explored.order_text.Goals as goal
 
 pub outcome_replay-requires : goal.outcome_replay-requires
 outcome_replay-requires c =

@@ -1,0 +1,101 @@
+-- Texts that are collected and written part after part, and what of them is printed where a write fails.
+use Rattle.std.proofs.Common.{refl, ◌≡◌, ◌∙◌, ◌<◌, ◌++◌, [], ℕ, true, false, List, Option, Result, Ok, Err, ap, append_assoc}
+use Rattle.std.proofs.Common.{append-nil, length, subst, sym}
+use Rattle.std.proofs.KnownBytes.{Appends-nil}
+use Rattle.std.specs.Io.KnownBytes.{Appends}
+use Rattle.std.specs.Prelude.{IfErr}
+use Rattle.tracer_cli.specs.declared.failure.Failure.{Failure}
+use Rattle.tracer_cli.specs.declared.failure.Failure.TheVariants.{CannotWrite, Forbidden, NoMemory}
+use Rattle.tracer_cli.specs.declared.arguments.ExploreOptions.{ExploreOptions}
+use Rattle.tracer_cli.specs.CutOff.{IsCollected, IsCutOff}
+use Rattle.tracer_cli.specs.Explored.{IsShown, PrintsOutcomes, WritesShown}
+use Rattle.tracer_cli.specs.LitmusFile.{LitmusContent}
+use Rattle.tracer_cli.specs.Run.{Writes, WritesIfMemory}
+use Rattle.tracer_cli.proofs.TextOfParts.{appends_both, cut_in_part}
+
+-- nothing of a text is written
+pub nothing_of : (a : Option (List ℕ)) (text : List ℕ) → 0 < length text → IsCutOff a a text
+nothing_of a text some = (0, some, Appends-nil a)
+
+-- ---- part after part
+
+-- of a text behind one that was collected, some is written, some is collected, and the rest is left
+abbrev pub IsSoFar : (before now : Option (List ℕ)) → (old all new rest : List ℕ) → Type 0
+IsSoFar before now old all new rest =
+    (written : List ℕ) × Appends before now written × (written ++ (new ++ rest) ≡ old ++ all)
+
+pub at_first : (a : Option (List ℕ)) (old all : List ℕ) → IsSoFar a a old all old all
+at_first a old all = ([], Appends-nil a, refl)
+
+module _ (a b c : Option (List ℕ)) (old all mid rest part more : List ℕ) (so_far : IsSoFar a b old all mid rest)
+    (cut : rest ≡ part ++ more) where
+  parts : so_far.0 ++ ((mid ++ part) ++ more) ≡ old ++ all
+  parts =
+      ap (λ t. so_far.0 ++ t) (append_assoc mid part more ∙ ap (λ t. mid ++ t) (sym cut)) ∙ so_far.2
+
+  pub one_more : (new : List ℕ) → IsCollected b c mid part new → IsSoFar a c old all new more
+  one_more new added = (
+    so_far.0 ++ added.0,
+    appends_both a b c so_far.0 added.0 so_far.1 added.1,
+    append_assoc so_far.0 added.0 (new ++ more)
+        ∙ ap (λ t. so_far.0 ++ t) (sym (append_assoc added.0 new more) ∙ ap (λ t. t ++ more) added.2) ∙ parts,
+  )
+
+  pub cut_there : IsCutOff b c (mid ++ part) → IsCutOff a c (old ++ all)
+  cut_there off = cut_in_part so_far.0 (mid ++ part) more (old ++ all) a b c parts so_far.1 off
+
+-- the same of what is equal
+pub so_far_as : (a b c : Option (List ℕ)) (old all new same rest left : List ℕ) → c ≡ b → same ≡ new → left ≡ rest
+    → IsSoFar a b old all new rest → IsSoFar a c old all same left
+so_far_as a b c old all new same rest left output text texts so_far = (
+  so_far.0,
+  subst (λ o. Appends a o so_far.0) (sym output) so_far.1,
+  ap (λ t. so_far.0 ++ t) (ap (λ t. t ++ left) text ∙ ap (λ t. new ++ t) texts) ∙ so_far.2,
+)
+
+pub at_last : (a b : Option (List ℕ)) (old all new rest : List ℕ) → IsSoFar a b old all new rest → rest ≡ []
+    → IsCollected a b old all new
+at_last a b old all new rest so_far none = (
+  so_far.0,
+  so_far.1,
+  ap (λ t. so_far.0 ++ t) (sym (append-nil new) ∙ ap (λ t. new ++ t) (sym none)) ∙ so_far.2,
+)
+
+-- what is cut off behind a text that was collected, where nothing was collected before it
+pub cut_behind : {T E : Type 0} (result : Result T E) (a b c : Option (List ℕ)) (old first mid second : List ℕ)
+    → old ≡ [] → IsCollected a b old first mid → IfErr result (λ _. IsCutOff b c (mid ++ second))
+    → IfErr result (λ _. IsCutOff a c (first ++ second))
+cut_behind {T} {E} (Ok done) a b c old first mid second none so_far off = tt
+cut_behind {T} {E} (Err error) a b c old first mid second none so_far off =
+    let whole : so_far.0 ++ ((mid ++ second) ++ []) ≡ first ++ second =
+    ap (λ t. so_far.0 ++ t) (append-nil (mid ++ second)) ∙ sym (append_assoc so_far.0 mid second)
+    ∙ ap (λ t. t ++ second) (so_far.2 ∙ ap (λ o. o ++ first) none) in
+    cut_in_part so_far.0 (mid ++ second) [] (first ++ second) a b c whole so_far.1 off
+
+-- ---- what is printed of a file
+
+pub writes_if_memory : (text : List ℕ) (before after : Option (List ℕ)) (result : Result (Unit {0}) Failure)
+    → Writes text before after result → WritesIfMemory text before after result
+writes_if_memory text before after (Err NoMemory) writes = tt
+writes_if_memory text before after other writes = writes
+
+pub shown_printed : (options : ExploreOptions) (content : LitmusContent) (text : List ℕ)
+    (before after : Option (List ℕ)) (result : Result (Unit {0}) Failure) → IsShown options content text false
+    → WritesIfMemory text before after result → PrintsOutcomes options (Ok content) before after result
+shown_printed options content text before after (Ok done) shown writes = (text, (false, shown, writes))
+shown_printed options content text before after (Err CannotWrite) shown writes = (text, (false, shown, writes))
+shown_printed options content text before after (Err NoMemory) shown writes = tt
+shown_printed options content text before after (Err failure) shown writes = absurd writes
+
+pub writes_as : (said text : List ℕ) (before after : Option (List ℕ)) (result : Result (Unit {0}) Failure) → said ≡ text
+    → Writes said before after result → WritesIfMemory text before after result
+writes_as said text before after result same writes =
+    writes_if_memory text before after result (subst (λ t. Writes t before after result) same writes)
+
+pub forbidden_printed : (options : ExploreOptions) (content : LitmusContent) (text : List ℕ)
+    (before after : Option (List ℕ)) (result : Result (Unit {0}) Failure) → IsShown options content text true
+    → WritesShown text true before after result → PrintsOutcomes options (Ok content) before after result
+forbidden_printed options content text before after (Err Forbidden) shown writes = (text, (true, shown, writes))
+forbidden_printed options content text before after (Err CannotWrite) shown writes = (text, (true, shown, writes))
+forbidden_printed options content text before after (Ok done) shown writes = absurd writes
+forbidden_printed options content text before after (Err failure) shown writes = absurd writes

@@ -1,0 +1,16 @@
+-- What was collected is the text so far and that of the outcome.
+use Rattle.std.proofs.Common.{◌++◌, string_bytes}
+use Rattle.stop_explorer.specs.Search.{commands_in}
+use Rattle.tracer_cli.specs.LitmusDraft.{names_kept}
+use Rattle.tracer_cli.specs.OutcomeText.{outcome_text}
+use Rattle.tracer_cli.proofs.TextOfParts.{cut_off_as}
+use Rattle.tracer_cli.proofs.outcomes.printed.print_outcome.Goals as goal
+
+pub returns-in-Ok-clause-cut_off : goal.returns-in-Ok-clause-cut_off
+returns-in-Ok-clause-cut_off g c =
+    let program = c.args.program.now in
+    cut_off_as c.write_enough.result (g.W.Write.contents c.args.output.now)
+    (g.W.Write.contents c.write_enough.new.output) (string_bytes c.write_outcome.new.out)
+    (string_bytes c.args.out.now ++ outcome_text program.rows.now (names_kept program.names.now) program.voices.now
+    (commands_in program.commands.now) c.args.number c.args.count c.args.run.now)
+    c.in-Ok.ensures c.write_enough.ensures.cut_off

@@ -42,6 +42,7 @@ use Rattle.trace_script.proofs.ImagesBack.{image_loads, parts_are_spelled, parts
 use Rattle.trace_script.proofs.LinesRead.{all_read, goes_on}
 use Rattle.trace_script.proofs.LinesSpelled.{HasNumbers, IsInside, IsPart, end_says, part_are_words, part_says}
 use Rattle.trace_script.proofs.LinesSpelled.{row_says, step_are_words, step_says, without_image}
+use Rattle.trace_script.proofs.OpenBlocks.{in_force_after}
 use Rattle.trace_script.proofs.RowsBack.{HasRanges, row_are_words, row_fits, row_ranges, rows_fine}
 
 -- ---- steps that are taken
@@ -317,11 +318,6 @@ same_fault image (step.Thread child) = refl
 same_fault image (step.Exec path new) = refl
 same_fault image (step.Signal signal deadly) = refl
 same_fault image (step.Exit status) = refl
-
-in_force_after : (first : Image) (done : List Step) (s : Step) → in_force first (done ++ s ∷ []) ≡ image_after
-    (in_force first done) s
-in_force_after first [] s = refl
-in_force_after first (d ∷ done) s = in_force_after (image_after first d) done s
 
 born_after : (done : List Step) (s : Step) → length (born_by (done ++ s ∷ [])) ≡ length (born_by done) + length
     (children_of s)

@@ -1,13 +1,12 @@
 -- An image that is loaded part by part.
 use Rattle.std.proofs.Common.{refl, ◌≡◌, ◌+◌, ◌/◌, ◌∷◌, [], ℕ, zero, suc, true, false, List, length, ap, sym, ◌∙◌}
-use Rattle.std.proofs.Common.{arith, cond, eqb, get_or, set, Some, Result, Ok, Err, is_ok, IsOk}
+use Rattle.std.proofs.Common.{arith, cond, eqb, get_or, set, Bool, Some, None, Result, Ok, Err, is_ok, IsOk}
 use Rattle.std.proofs.lemmas.Bool.Decides.{nat_tests}
 use Rattle.text_lines.specs.Ranges.{◌>>=◌}
 use Rattle.trace_pages.specs.declared.fault.Fault.{Fault}
 use Rattle.trace_pages.specs.declared.map_error.MapError.{MapError}
-use Rattle.trace_pages.specs.FlatMemory.{FlatMemory, Full, Absent, Top, MapsPage, RunEnd, StoresBytes, run_end, stored}
+use Rattle.trace_pages.specs.FlatMemory.{FlatMemory, Full, Absent, Top, RunEnd, mapped, run_end, stored}
 use Rattle.trace_pages.specs.Memory.{map_refusal, store_answer}
-use Rattle.trace_pages.proofs.Memories.{mapped_is, stored_is}
 use Rattle.trace_script.specs.declared.cause.Cause.{Cause}
 use Rattle.trace_script.specs.declared.cause.Cause.TheVariants.{NoMemory, Unmapped}
 use Rattle.trace_script.specs.CaseFile.{is_full, is_mapped, page_loaded, part_loaded, part_of_last, part_of_script}
@@ -33,15 +32,24 @@ takes_part f (Err cause) new read is = ap (λ r. r >>= λ x. Ok (f x)) is
 
 -- ---- a page
 
-pub page_is : (image : Image) (page : ℕ) (new : FlatMemory) (done : Unit {0})
-    → ((error : MapError) → map_refusal image.memory page ≡ Some error → Ok done ≡ Err error)
-    → MapsPage image.memory new page
+-- a page that was mapped had nothing against it
+pub can_map : (memory : FlatMemory) (image : Image) (page : ℕ) (done : Unit {0}) → memory ≡ image.memory
+    → ((error : MapError) → map_refusal memory page ≡ Some error → Ok done ≡ Err error)
+    → map_refusal image.memory page ≡ None
+can_map memory image page done same free =
+    ap (λ (m : FlatMemory). map_refusal m page) (sym same) ∙ none_refused done (map_refusal memory page) free
+
+pub page_is : (image : Image) (page : ℕ) (new : FlatMemory) → map_refusal image.memory page ≡ None
+    → new ≡ mapped image.memory page
     → page_loaded image page (map_refusal image.memory page)
     ≡ Ok (record { memory = new; rip = image.rip; rsp = image.rsp })
-page_is image page new done free maps =
-    ap (page_loaded image page) (none_refused done (map_refusal image.memory page) free)
-    ∙ ap (λ (m : FlatMemory). Ok (record { memory = m; rip = image.rip; rsp = image.rsp }))
-    (sym (mapped_is image.memory new page maps))
+page_is image page new free maps =
+    ap (page_loaded image page) free
+    ∙ ap (λ (m : FlatMemory). Ok (record { memory = m; rip = image.rip; rsp = image.rsp })) (sym maps)
+
+pub page_is_ok : (image : Image) (page : ℕ) → map_refusal image.memory page ≡ None
+    → IsOk (page_loaded image page (map_refusal image.memory page))
+page_is_ok image page free = rw free refl
 
 -- ---- bytes
 
@@ -82,13 +90,32 @@ data_is_ok image address word is taken = rw (data_loaded image address word is t
 
 pub data_is : (image : Image) (address : ℕ) (word bytes : List ℕ) (new : FlatMemory) → is_byte_word word ≡ true
     → is_ok (store_answer (run_end image.memory address (length word / 2))) ≡ true
-    → bytes ≡ bytes_written word → StoresBytes image.memory new address bytes
+    → bytes ≡ bytes_written word → new ≡ stored image.memory address bytes
     → part_loaded image (line.Data address (bytes_written word))
     ≡ Ok (record { memory = new; rip = image.rip; rsp = image.rsp })
 data_is image address word bytes new is taken same stores =
     data_loaded image address word is taken
     ∙ ap (λ (m : FlatMemory). Ok (record { memory = m; rip = image.rip; rsp = image.rsp }))
-    (ap (stored image.memory address) (sym same) ∙ sym (stored_is image.memory new address bytes stores))
+    (ap (stored image.memory address) (sym same) ∙ sym stores)
+
+-- what is tested on a memory is known of an image that has the same
+pub as_tested : (memory : FlatMemory) (image : Image) (address count : ℕ) (taken : Bool) → memory ≡ image.memory
+    → is_ok (store_answer (run_end memory address count)) ≡ taken
+    → is_ok (store_answer (run_end image.memory address count)) ≡ taken
+as_tested memory image address count taken same is =
+    ap (λ (m : FlatMemory). is_ok (store_answer (run_end m address count))) (sym same) ∙ is
+
+full_by : (end : RunEnd) → is_ok (store_answer end) ≡ true → end ≡ Full
+full_by Full taken = refl
+full_by (Absent address) taken = absurd (let clash : false ≡ true = taken in cc)
+full_by Top taken = absurd (let clash : false ≡ true = taken in cc)
+
+pub can_store : (memory : FlatMemory) (address : ℕ) (word bytes : List ℕ) → is_byte_word word ≡ true
+    → is_ok (store_answer (run_end memory address (length word / 2))) ≡ true → bytes ≡ bytes_written word
+    → run_end memory address (length bytes) ≡ Full
+can_store memory address word bytes is taken same =
+    let size : length bytes ≡ length word / 2 = ap (λ (b : List ℕ). length b) same ∙ bytes_are_halves word is in
+    ap (run_end memory address) size ∙ full_by (run_end memory address (length word / 2)) taken
 
 -- a store that was tested is done
 pub tested_store : (memory : FlatMemory) (address : ℕ) (word bytes : List ℕ) (fault : Fault) → is_byte_word word ≡ true

@@ -10,6 +10,7 @@ pub mod LinePlaces
 pub mod LinesRead
 pub mod LinesSpelled
 pub mod Looks
+pub mod MemoryParts
 pub mod OpenBlocks
 pub mod Places
 pub mod ReadFacts

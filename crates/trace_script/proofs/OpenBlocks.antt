@@ -1,59 +1,79 @@
--- What is counted in an open block: its last exec, and its births.
-use Rattle.std.proofs.Common.{refl, ◌≡◌, ◌+◌, ◌≤◌, ◌++◌, ◌∷◌, [], ℕ, suc, List, length, ap}
-use Rattle.std.proofs.Common.{sym, ◌∙◌, arith, Option, Some, None, drop, slice_get, take, append_assoc, length-append}
+-- What is known of an open block: the memory that is in force, its births, and the bytes of its fills.
+use Rattle.std.proofs.Common.{refl, ◌≡◌, ◌+◌, ◌≤◌, ◌++◌, ◌∷◌, [], ℕ, zero, suc, List, length, ap}
+use Rattle.std.proofs.Common.{sym, ◌∙◌, arith, drop, set, take, append_assoc, length-append}
 use Rattle.std.proofs.Math.Seq.{drop-append_seam, take-append_seam}
 use Rattle.std.proofs.lemmas.List.{append-nil, map-append}
+use Rattle.trace_pages.specs.FlatMemory.{FlatMemory}
 use Rattle.trace_script.specs.declared.script.Step.{Step as KeptStep}
-use Rattle.trace_script.specs.Kept.{step_of, steps_of}
+use Rattle.trace_script.specs.declared.script.Step.TheVariants as kept
 use Rattle.trace_script.specs.CaseFile.{born_by, children_of, image_after, in_force}
-use Rattle.trace_script.specs.OpenBlock.{exec_after, first_exec, last_exec, or_first}
+use Rattle.trace_script.specs.Fills.{memory_after}
+use Rattle.trace_script.specs.Kept.{step_of, steps_of}
+use Rattle.trace_script.specs.OpenBlock.{kept_after}
 use Rattle.trace_script.specs.Script.{Image, Step}
 use Rattle.trace_script.specs.Script as step
 
--- the image in force is that of the last exec, or else the first
-abbrev pub IsLast : Image → List Step → Option ℕ → Type 0
-IsLast image steps None = in_force image steps ≡ image
-IsLast image steps (Some place) =
-    (path : ℕ) × (new : Image) × (slice_get steps place ≡ Some (step.Exec path new)) × (in_force image steps ≡ new)
+-- ---- the memory in force
 
-one_before : (image : Image) (s : Step) (steps : List Step) (last : Option ℕ) → IsLast (image_after image s) steps last
-    → IsLast image (s ∷ steps) (or_first last (first_exec s))
-one_before image s steps (Some place) is = is
-one_before image (step.Exec path new) steps None is = (path, new, refl, is)
-one_before image (step.Call nr arguments answer fill) steps None is = is
-one_before image (step.Fork child) steps None is = is
-one_before image (step.Thread child) steps None is = is
-one_before image (step.Signal signal deadly) steps None is = is
-one_before image (step.Exit status) steps None is = is
+-- one step more at the end
+pub in_force_after : (first : Image) (done : List Step) (s : Step) → in_force first (done ++ s ∷ []) ≡ image_after
+    (in_force first done) s
+in_force_after first [] s = refl
+in_force_after first (d ∷ done) s = in_force_after (image_after first d) done s
 
-pub last_is : (image : Image) (steps : List Step) → IsLast image steps (last_exec steps)
-last_is image [] = refl
-last_is image (s ∷ steps) = one_before image s steps (last_exec steps) (last_is (image_after image s) steps)
+memory_of_image : (image : Image) (s : Step) → (image_after image s).memory ≡ memory_after image.memory s
+memory_of_image image (step.Exec path new) = refl
+memory_of_image image (step.Call nr arguments answer fill) = refl
+memory_of_image image (step.Fork child) = refl
+memory_of_image image (step.Thread child) = refl
+memory_of_image image (step.Signal signal deadly) = refl
+memory_of_image image (step.Exit status) = refl
 
-only : (s : Step) → first_exec s ≡ exec_after None 0 s
-only (step.Exec path new) = refl
-only (step.Call nr arguments answer fill) = refl
-only (step.Fork child) = refl
-only (step.Thread child) = refl
-only (step.Signal signal deadly) = refl
-only (step.Exit status) = refl
+pub memory_more : (image : Image) (memory new : FlatMemory) (before after : List Step) (s : Step)
+    → memory ≡ (in_force image before).memory → new ≡ memory_after memory s → after ≡ before ++ s ∷ []
+    → new ≡ (in_force image after).memory
+memory_more image memory new before after s is new_is after_is =
+    new_is ∙ ap (λ (m : FlatMemory). memory_after m s) is ∙ sym (memory_of_image (in_force image before) s)
+    ∙ ap (λ (i : Image). i.memory) (sym (in_force_after image before s))
+    ∙ ap (λ (steps : List Step). (in_force image steps).memory) (sym after_is)
 
-after_first : (last first : Option ℕ) (n : ℕ) (s : Step)
-    → or_first (exec_after last n s) first ≡ exec_after (or_first last first) (suc n) s
-after_first last first n (step.Exec path new) = refl
-after_first last first n (step.Call nr arguments answer fill) = refl
-after_first last first n (step.Fork child) = refl
-after_first last first n (step.Thread child) = refl
-after_first last first n (step.Signal signal deadly) = refl
-after_first last first n (step.Exit status) = refl
+-- the last step, as it is kept
+memory_of_kept : (image : Image) (filled : List ℕ) (s : KeptStep FlatMemory)
+    → (image_after image (step_of filled s)).memory ≡ kept_after image.memory s
+memory_of_kept image filled (kept.Exec path new) = refl
+memory_of_kept image filled (kept.Call call) = refl
+memory_of_kept image filled (kept.Fork child) = refl
+memory_of_kept image filled (kept.Thread child) = refl
+memory_of_kept image filled (kept.Signal signal deadly) = refl
+memory_of_kept image filled (kept.Exit status) = refl
 
--- one more step at the end
-pub exec_more : (steps : List Step) (s : Step)
-    → last_exec (steps ++ s ∷ []) ≡ exec_after (last_exec steps) (length steps) s
-exec_more [] s = only s
-exec_more (first ∷ steps) s =
-    ap (λ last. or_first last (first_exec first)) (exec_more steps s)
-    ∙ after_first (last_exec steps) (first_exec first) (length steps) s
+pub memory_at_last : (image : Image) (filled : List ℕ) (steps : List (KeptStep FlatMemory)) (i : ℕ)
+    (last : KeptStep FlatMemory) → i + 1 ≡ length steps
+    → (in_force image (steps_of filled (set steps i last))).memory
+    ≡ kept_after (in_force image (steps_of filled (take i steps))).memory last
+memory_at_last image filled [] i last end = absurd (omega arith)
+memory_at_last image filled (s ∷ []) zero last end = memory_of_kept image filled last
+memory_at_last image filled (s ∷ []) (suc i) last end = absurd (omega arith)
+memory_at_last image filled (s ∷ next ∷ steps) zero last end = absurd (omega arith)
+memory_at_last image filled (s ∷ next ∷ steps) (suc i) last end =
+    memory_at_last (image_after image (step_of filled s)) filled (next ∷ steps) i last (omega arith)
+
+-- the memory in force is that of the last step, if it is an exec
+pub kept_twice : (memory : FlatMemory) (s : KeptStep FlatMemory)
+    → kept_after memory s ≡ kept_after (kept_after memory s) s
+kept_twice memory (kept.Exec path new) = refl
+kept_twice memory (kept.Call call) = refl
+kept_twice memory (kept.Fork child) = refl
+kept_twice memory (kept.Thread child) = refl
+kept_twice memory (kept.Signal signal deadly) = refl
+kept_twice memory (kept.Exit status) = refl
+
+pub no_step_yet : (image : Image) (filled : List ℕ) (steps : List (KeptStep FlatMemory)) → length steps ≡ 0
+    → (in_force image (steps_of filled steps)).memory ≡ image.memory
+no_step_yet image filled [] none = refl
+no_step_yet image filled (s ∷ steps) none = absurd (omega (arith, none))
+
+-- ---- births
 
 pub births_more : (steps : List Step) (s : Step)
     → length (born_by (steps ++ s ∷ [])) ≡ length (born_by steps) + length (children_of s)
@@ -78,13 +98,6 @@ pub few_births : (steps : List Step) → length (born_by steps) ≤ length steps
 few_births [] = omega arith
 few_births (s ∷ steps) = omega (arith, few_births steps, one_child s, length-append (children_of s) (born_by steps))
 
--- what is counted, with one more step
-pub counted_exec : (exec : Option ℕ) (at : ℕ) (before after : List Step) (s : Step) → exec ≡ last_exec before
-    → at ≡ length before → after ≡ before ++ s ∷ [] → exec_after exec at s ≡ last_exec after
-counted_exec exec at before after s exec_is at_is after_is =
-    ap (λ e. exec_after e at s) exec_is ∙ ap (λ n. exec_after (last_exec before) n s) at_is ∙ sym (exec_more before s)
-    ∙ ap last_exec (sym after_is)
-
 pub counted_births : (births : ℕ) (before after : List Step) (s : Step) → births ≡ length (born_by before)
     → after ≡ before ++ s ∷ [] → births + length (children_of s) ≡ length (born_by after)
 counted_births births before after s births_is after_is =
@@ -105,10 +118,10 @@ fill_added filled bytes all more start len all_is start_is len_is =
     ∙ take-append_seam bytes more
 
 -- the steps that are kept, with one more, whose bytes are added to theirs
-module _ {Z : Type 0} (filled bytes all : List ℕ) (old new : List (KeptStep Z)) (kept : KeptStep Z) (s : Step)
-    (all_is : all ≡ filled ++ bytes) (new_is : new ≡ old ++ kept ∷ [])
+module _ (filled bytes all : List ℕ) (old new : List (KeptStep FlatMemory)) (last : KeptStep FlatMemory) (s : Step)
+    (all_is : all ≡ filled ++ bytes) (new_is : new ≡ old ++ last ∷ [])
     (whole : (more : List ℕ) → steps_of (filled ++ more) old ≡ steps_of filled old)
-    (kept_is : (more : List ℕ) → step_of (all ++ more) kept ≡ s) where
+    (last_is : (more : List ℕ) → step_of (all ++ more) last ≡ s) where
   before_it : (more : List ℕ) → steps_of (all ++ more) old ≡ steps_of filled old
   before_it more =
       ap (λ b. steps_of (b ++ more) old) all_is
@@ -118,9 +131,9 @@ module _ {Z : Type 0} (filled bytes all : List ℕ) (old new : List (KeptStep Z)
   with_more : (more : List ℕ) → steps_of (all ++ more) new ≡ steps_of filled old ++ s ∷ []
   with_more more =
       ap (λ steps. steps_of (all ++ more) steps) new_is
-      ∙ map-append (step_of (all ++ more)) old (kept ∷ [])
-      ∙ ap (λ steps. steps ++ step_of (all ++ more) kept ∷ []) (before_it more)
-      ∙ ap (λ x. steps_of filled old ++ x ∷ []) (kept_is more)
+      ∙ map-append (step_of (all ++ more)) old (last ∷ [])
+      ∙ ap (λ steps. steps ++ step_of (all ++ more) last ∷ []) (before_it more)
+      ∙ ap (λ x. steps_of filled old ++ x ∷ []) (last_is more)
 
   pub kept_more : steps_of all new ≡ steps_of filled old ++ s ∷ []
   kept_more = ap (λ b. steps_of b new) (sym (append-nil all)) ∙ with_more []

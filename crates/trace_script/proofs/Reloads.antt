@@ -3,13 +3,15 @@
 use Rattle.std.proofs.Common.{refl, ◌≡◌, ◌++◌, ◌∷◌, [], ℕ, Bool, true, false, List, length, ap, cond, eqb, IfOk, IsOk}
 use Rattle.std.proofs.Common.{OnOk, Result, Ok, Err, sym, ◌∙◌}
 use Rattle.text_lines.specs.Ranges.{◌>>=◌}
+use Rattle.trace_pages.specs.FlatMemory.{FlatMemory}
 use Rattle.trace_script.specs.declared.case.block.Block.{Block}
 use Rattle.trace_script.specs.declared.cause.Cause.{Cause}
 use Rattle.trace_script.specs.declared.script.Script.{Script as KeptScript}
-use Rattle.trace_script.specs.CaseFile.{born_by, children_of, part_loaded, part_of_last, part_of_script, part_of_step}
+use Rattle.trace_script.specs.CaseFile.{born_by, children_of, in_force, part_loaded, part_of_last, part_of_script}
+use Rattle.trace_script.specs.CaseFile.{part_of_step}
 use Rattle.trace_script.specs.CaseLine.{Part}
 use Rattle.trace_script.specs.Kept.{image_of, script_by, script_of, steps_of}
-use Rattle.trace_script.specs.OpenBlock.{IsCounted, first_exec, last_exec, or_first}
+use Rattle.trace_script.specs.OpenBlock.{IsCounted}
 use Rattle.trace_script.specs.Reading.{TakesLine}
 use Rattle.trace_script.specs.Script.{Image, Script, Step}
 use Rattle.trace_script.specs.Script as step
@@ -53,19 +55,18 @@ module _ (P : List Step → List Step → Type 0) where
 -- ---- what is counted stays
 
 abbrev SameCounts : List Step → List Step → Type 0
-SameCounts old new = (last_exec new ≡ last_exec old) × (born_by new ≡ born_by old)
+SameCounts old new = born_by new ≡ born_by old
 
 one_counts : (s t : Step) → Reloaded s t → SameCounts (s ∷ []) (t ∷ [])
-one_counts s t (Reloaded.unchanged _) = (refl, refl)
-one_counts s t (Reloaded.exec path image new) = (refl, refl)
+one_counts s t (Reloaded.unchanged _) = refl
+one_counts s t (Reloaded.exec path image new) = refl
 
 more_counts : (s next : Step) (steps new : List Step) → SameCounts (next ∷ steps) new
     → SameCounts (s ∷ next ∷ steps) (s ∷ new)
-more_counts s next steps new same =
-    (ap (λ last. or_first last (first_exec s)) same.0, ap (λ (born : List ℕ). children_of s ++ born) same.1)
+more_counts s next steps new same = ap (λ (born : List ℕ). children_of s ++ born) same
 
 counts_of_last : (steps : List Step) (part : Part) → IfOk (part_of_last steps part) (SameCounts steps)
-counts_of_last steps part = last_reloaded SameCounts (refl, refl) one_counts more_counts part steps
+counts_of_last steps part = last_reloaded SameCounts refl one_counts more_counts part steps
 
 abbrev SameScript : Script → Script → Type 0
 SameScript old new = SameCounts old.steps new.steps
@@ -76,7 +77,7 @@ counts_by : (script : Script) (part : Part) (none : Bool)
     (SameScript script)
 counts_by script part true =
     if_ok (λ image. Unit {0}) (SameScript script) (λ image. record { image = image; steps = script.steps })
-    (part_loaded script.image part) (any_image (part_loaded script.image part)) (λ image h. (refl, refl))
+    (part_loaded script.image part) (any_image (part_loaded script.image part)) (λ image h. refl)
 counts_by script part false =
     if_ok (SameCounts script.steps) (SameScript script) (λ steps. record { image = script.image; steps = steps })
     (part_of_last script.steps part) (counts_of_last script.steps part) (λ steps h. h)
@@ -99,20 +100,21 @@ same_new (Err cause) part one other new new_other ok same takes takes_other =
     absurd (let clash : false ≡ true = ok in cc)
 
 -- a block is counted after a part was loaded
-pub still_counted : {Z : Type 0} (result : Result (Unit {0}) Cause) (block : Block Z) (new : KeptScript Z) (part : Part)
-    → IsCounted block
+pub still_counted : {Z : Type 0} (result : Result (Unit {0}) Cause) (block : Block Z) (new : KeptScript Z)
+    (memory : FlatMemory) (part : Part) → IsCounted block
     → ((filled : List ℕ)
     → TakesLine result (script_by filled new) (part_of_script (script_by filled block.script) part))
     → new.filled.items ≡ block.script.filled.items
-    → OnOk result (IsCounted (record { script = new; exec = block.exec; births = block.births }))
-still_counted (Ok done) block new part counted takes same_bytes =
+    → OnOk result (memory ≡ (in_force (script_of new).image (script_of new).steps).memory)
+    → OnOk result (IsCounted (record { script = new; memory = memory; births = block.births }))
+still_counted (Ok done) block new memory part counted takes same_bytes now_in_force =
     let filled = block.script.filled.items in
     let same = rw (takes filled) at (counts_of_script (script_of block.script) part) in
     let now : steps_of new.filled.items new.steps.items ≡ steps_of filled new.steps.items =
     ap (λ (b : List ℕ). steps_of b new.steps.items) same_bytes in
     record {
-      exec = counted.exec ∙ sym same.0 ∙ ap last_exec (sym now);
-      births = counted.births ∙ ap (λ (born : List ℕ). length born) (sym same.1)
+      memory = now_in_force;
+      births = counted.births ∙ ap (λ (born : List ℕ). length born) (sym same)
           ∙ ap (λ (steps : List Step). length (born_by steps)) (sym now);
       whole = λ more.
           ap (λ (b : List ℕ). steps_of (b ++ more) new.steps.items) same_bytes
@@ -123,4 +125,4 @@ still_counted (Ok done) block new part counted takes same_bytes =
           (counted.whole more)) (takes (filled ++ more)) (takes filled))
           ∙ sym now;
     }
-still_counted (Err cause) block new part counted takes same_bytes = tt
+still_counted (Err cause) block new memory part counted takes same_bytes now_in_force = tt

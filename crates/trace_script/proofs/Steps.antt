@@ -103,108 +103,110 @@ done_leads s how (kept.Exits death) stop x y acts stays exits =
     ∙ ap (λ z. exit_outcome s how death z) (sym (exits death refl))
 done_leads s how (kept.Faults address) stop x y acts stays exits = refl
 
-module _ {Z : Type 0} where
-  -- ---- what is left
+-- ---- what is left
 
-  pub left_first : (s : Setting) (filled : List ℕ) (steps : List (KeptStep Z)) → left_in s filled steps 0
-      ≡ acts_of_steps s (steps_of filled steps)
-  unfolding acts_of_steps
-  left_first s filled [] = refl
-  left_first s filled (step ∷ steps) = refl
+pub left_first : (s : Setting) (filled : List ℕ) (steps : List (KeptStep FlatMemory)) → left_in s filled steps 0
+    ≡ acts_of_steps s (steps_of filled steps)
+unfolding acts_of_steps
+left_first s filled [] = refl
+left_first s filled (step ∷ steps) = refl
 
-  left_at : (s : Setting) (filled : List ℕ) (steps : List (KeptStep Z)) (index : ℕ) (step : KeptStep Z) (place : ℕ)
-      → index < length steps
-      → left_in s filled (drop index steps) place
-      ≡ acts_at s (step_of filled (get_or steps index step)) place ++ left_in s filled (drop (index + 1) steps) 0
-  left_at s filled [] index step place within = absurd (omega arith)
-  left_at s filled (first ∷ steps) zero step place within =
-      ap (λ acts. acts_at s (step_of filled first) place ++ acts) (sym (left_first s filled steps))
-  left_at s filled (first ∷ steps) (suc index) step place within =
-      let next : suc index + 1 ≡ suc (index + 1) = omega arith in
-      rw next (left_at s filled steps index step place (omega arith))
+left_at : (s : Setting) (filled : List ℕ) (steps : List (KeptStep FlatMemory)) (index : ℕ)
+    (step : KeptStep FlatMemory) (place : ℕ)
+    → index < length steps
+    → left_in s filled (drop index steps) place
+    ≡ acts_at s (step_of filled (get_or steps index step)) place ++ left_in s filled (drop (index + 1) steps) 0
+left_at s filled [] index step place within = absurd (omega arith)
+left_at s filled (first ∷ steps) zero step place within =
+    ap (λ acts. acts_at s (step_of filled first) place ++ acts) (sym (left_first s filled steps))
+left_at s filled (first ∷ steps) (suc index) step place within =
+    let next : suc index + 1 ≡ suc (index + 1) = omega arith in
+    rw next (left_at s filled steps index step place (omega arith))
 
-  next_left : (s : Setting) (filled : List ℕ) (steps : List (KeptStep Z)) (index : ℕ) (step : KeptStep Z) (place : ℕ)
-      (act : Act) → index < length steps
-      → slice_get (acts_of s (step_of filled (get_or steps index step))) place ≡ Some act
-      → left_in s filled (drop index steps) place ≡ act ∷ left_in s filled (drop index steps) (place + 1)
-  next_left s filled steps index step place act within is =
-      let rest = left_in s filled (drop (index + 1) steps) 0 in
-      left_at s filled steps index step place within
-      ∙ ap (λ acts. acts ++ rest) (drop_next (acts_of s (step_of filled (get_or steps index step))) place act is)
-      ∙ ap (λ acts. act ∷ acts) (sym (left_at s filled steps index step (place + 1) within))
+next_left : (s : Setting) (filled : List ℕ) (steps : List (KeptStep FlatMemory)) (index : ℕ)
+    (step : KeptStep FlatMemory) (place : ℕ)
+    (act : Act) → index < length steps
+    → slice_get (acts_of s (step_of filled (get_or steps index step))) place ≡ Some act
+    → left_in s filled (drop index steps) place ≡ act ∷ left_in s filled (drop index steps) (place + 1)
+next_left s filled steps index step place act within is =
+    let rest = left_in s filled (drop (index + 1) steps) 0 in
+    left_at s filled steps index step place within
+    ∙ ap (λ acts. acts ++ rest) (drop_next (acts_of s (step_of filled (get_or steps index step))) place act is)
+    ∙ ap (λ acts. act ∷ acts) (sym (left_at s filled steps index step (place + 1) within))
 
-  none_left : (s : Setting) (filled : List ℕ) (steps : List (KeptStep Z)) (index : ℕ) (step : KeptStep Z) (place : ℕ)
-      → index < length steps
-      → None ≡ option_map Some (slice_get (acts_of s (step_of filled (get_or steps index step))) place)
-      → left_in s filled (drop index steps) place ≡ left_in s filled (drop (index + 1) steps) 0
-  none_left s filled steps index step place within is =
-      left_at s filled steps index step place within
-      ∙ ap (λ acts. acts ++ left_in s filled (drop (index + 1) steps) 0)
-      (drop_past (acts_of s (step_of filled (get_or steps index step))) place
-      (no_act (slice_get (acts_of s (step_of filled (get_or steps index step))) place) is))
+none_left : (s : Setting) (filled : List ℕ) (steps : List (KeptStep FlatMemory)) (index : ℕ)
+    (step : KeptStep FlatMemory) (place : ℕ)
+    → index < length steps
+    → None ≡ option_map Some (slice_get (acts_of s (step_of filled (get_or steps index step))) place)
+    → left_in s filled (drop index steps) place ≡ left_in s filled (drop (index + 1) steps) 0
+none_left s filled steps index step place within is =
+    left_at s filled steps index step place within
+    ∙ ap (λ acts. acts ++ left_in s filled (drop (index + 1) steps) 0)
+    (drop_past (acts_of s (step_of filled (get_or steps index step))) place
+    (no_act (slice_get (acts_of s (step_of filled (get_or steps index step))) place) is))
 
-  -- a step that was changed while an act of it was done
-  set_left : (s : Setting) (filled : List ℕ) (steps : List (KeptStep Z)) (index : ℕ) (step new : KeptStep Z)
-      (place : ℕ) → index < length steps
-      → acts_at s (step_of filled new) place ≡ acts_at s (step_of filled (get_or steps index step)) place
-      → left_in s filled (drop index (slice_set steps index new)) place ≡ left_in s filled (drop index steps) place
-  set_left s filled steps index step new place within same =
-      ap (λ left. left_in s filled left place) (drop-set steps index new within)
-      ∙ ap (λ acts. acts ++ acts_of_steps s (steps_of filled (drop (index + 1) steps))) same
-      ∙ ap (λ acts. acts_at s (step_of filled (get_or steps index step)) place ++ acts)
-      (sym (left_first s filled (drop (index + 1) steps)))
-      ∙ sym (left_at s filled steps index step place within)
+-- a step that was changed while an act of it was done
+set_left : (s : Setting) (filled : List ℕ) (steps : List (KeptStep FlatMemory)) (index : ℕ)
+    (step new : KeptStep FlatMemory) (place : ℕ) → index < length steps
+    → acts_at s (step_of filled new) place ≡ acts_at s (step_of filled (get_or steps index step)) place
+    → left_in s filled (drop index (slice_set steps index new)) place ≡ left_in s filled (drop index steps) place
+set_left s filled steps index step new place within same =
+    ap (λ left. left_in s filled left place) (drop-set steps index new within)
+    ∙ ap (λ acts. acts ++ acts_of_steps s (steps_of filled (drop (index + 1) steps))) same
+    ∙ ap (λ acts. acts_at s (step_of filled (get_or steps index step)) place ++ acts)
+    (sym (left_first s filled (drop (index + 1) steps)))
+    ∙ sym (left_at s filled steps index step place within)
 
-  -- ---- the next act, looked at and done
+-- ---- the next act, looked at and done
 
-  pub look_next : (s : Setting) (how : Resume) (filled : List ℕ) (steps : List (KeptStep Z)) (index : ℕ)
-      (step : KeptStep Z) (place : ℕ) (said : Option Act) (found : Result FlatMemory Found) (m : FlatMemory)
-      → index < length steps → IsAct said (slice_get (acts_of s (step_of filled (get_or steps index step))) place)
-      → IfSome said (λ act. found ≡ look_at s how act m)
-      → look_over s how (left_in s filled (drop index steps) place) m
-      ≡ (found >>= look_over s how (left_in s filled (drop index steps) (place + 1)))
-  look_next s how filled steps index step place said found m within is looked =
-      let act = act_is said (slice_get (acts_of s (step_of filled (get_or steps index step))) place) is in
-      let rest = left_in s filled (drop index steps) (place + 1) in
-      let at : found ≡ look_at s how act.0 m = rw act.1 at looked in
-      ap (λ acts. look_over s how acts m) (next_left s filled steps index step place act.0 within act.2)
-      ∙ ap (λ l. l >>= look_over s how rest) (sym at)
+pub look_next : (s : Setting) (how : Resume) (filled : List ℕ) (steps : List (KeptStep FlatMemory)) (index : ℕ)
+    (step : KeptStep FlatMemory) (place : ℕ) (said : Option Act) (found : Result FlatMemory Found) (m : FlatMemory)
+    → index < length steps → IsAct said (slice_get (acts_of s (step_of filled (get_or steps index step))) place)
+    → IfSome said (λ act. found ≡ look_at s how act m)
+    → look_over s how (left_in s filled (drop index steps) place) m
+    ≡ (found >>= look_over s how (left_in s filled (drop index steps) (place + 1)))
+look_next s how filled steps index step place said found m within is looked =
+    let act = act_is said (slice_get (acts_of s (step_of filled (get_or steps index step))) place) is in
+    let rest = left_in s filled (drop index steps) (place + 1) in
+    let at : found ≡ look_at s how act.0 m = rw act.1 at looked in
+    ap (λ acts. look_over s how acts m) (next_left s filled steps index step place act.0 within act.2)
+    ∙ ap (λ l. l >>= look_over s how rest) (sym at)
 
-  pub look_none : (s : Setting) (how : Resume) (filled : List ℕ) (steps : List (KeptStep Z)) (index : ℕ)
-      (step : KeptStep Z) (place : ℕ) (m : FlatMemory) → index < length steps
-      → None ≡ option_map Some (slice_get (acts_of s (step_of filled (get_or steps index step))) place)
-      → look_over s how (left_in s filled (drop index steps) place) m
-      ≡ look_over s how (left_in s filled (drop (index + 1) steps) 0) m
-  look_none s how filled steps index step place m within is =
-      ap (λ acts. look_over s how acts m) (none_left s filled steps index step place within is)
+pub look_none : (s : Setting) (how : Resume) (filled : List ℕ) (steps : List (KeptStep FlatMemory)) (index : ℕ)
+    (step : KeptStep FlatMemory) (place : ℕ) (m : FlatMemory) → index < length steps
+    → None ≡ option_map Some (slice_get (acts_of s (step_of filled (get_or steps index step))) place)
+    → look_over s how (left_in s filled (drop index steps) place) m
+    ≡ look_over s how (left_in s filled (drop (index + 1) steps) 0) m
+look_none s how filled steps index step place m within is =
+    ap (λ acts. look_over s how acts m) (none_left s filled steps index step place within is)
 
-  pub act_next : (s : Setting) (how : Resume) (filled : List ℕ) (steps : List (KeptStep Z)) (index : ℕ)
-      (step new : KeptStep Z) (place : ℕ) (said : Option Act) (effect : KeptEffect) (stop : Stop) (x y : Context)
-      → index < length steps → IsAct said (slice_get (acts_of s (step_of filled (get_or steps index step))) place)
-      → IfSome said (λ act. effect_of s how act x ≡ effect_by s effect stop y) → (effect ≡ kept.Stops → y ≡ x)
-      → ((death : Death) → effect ≡ kept.Exits death → y ≡ x)
-      → ((p : ℕ) → said ≡ slice_get (acts_of s (step_of filled (get_or steps index step))) p
-      → acts_at s (step_of filled new) (p + 1) ≡ acts_at s (step_of filled (get_or steps index step)) (p + 1))
-      → advance s how (left_in s filled (drop index steps) place) x
-      ≡ next_outcome s how (Some effect) (left_in s filled (drop index (slice_set steps index new)) (place + 1))
-      (left_in s filled (drop (index + 1) (slice_set steps index new)) 0) stop y
-  act_next s how filled steps index step new place said effect stop x y within is done stays exits after =
-      let act = act_is said (slice_get (acts_of s (step_of filled (get_or steps index step))) place) is in
-      let rest = left_in s filled (drop index steps) (place + 1) in
-      let at : effect_of s how act.0 x ≡ effect_by s effect stop y = rw act.1 at done in
-      ap (λ acts. advance s how acts x) (next_left s filled steps index step place act.0 within act.2)
-      ∙ ap (λ e. outcome_by e rest x (advance s how rest)) at
-      ∙ done_leads s how effect stop x y rest stays exits
-      ∙ ap (λ acts. act_outcome s how effect acts stop y)
-      (sym (set_left s filled steps index step new (place + 1) within (after place (act.1 ∙ sym act.2))))
+pub act_next : (s : Setting) (how : Resume) (filled : List ℕ) (steps : List (KeptStep FlatMemory)) (index : ℕ)
+    (step new : KeptStep FlatMemory) (place : ℕ) (said : Option Act) (effect : KeptEffect) (stop : Stop) (x y : Context)
+    → index < length steps → IsAct said (slice_get (acts_of s (step_of filled (get_or steps index step))) place)
+    → IfSome said (λ act. effect_of s how act x ≡ effect_by s effect stop y) → (effect ≡ kept.Stops → y ≡ x)
+    → ((death : Death) → effect ≡ kept.Exits death → y ≡ x)
+    → ((p : ℕ) → said ≡ slice_get (acts_of s (step_of filled (get_or steps index step))) p
+    → acts_at s (step_of filled new) (p + 1) ≡ acts_at s (step_of filled (get_or steps index step)) (p + 1))
+    → advance s how (left_in s filled (drop index steps) place) x
+    ≡ next_outcome s how (Some effect) (left_in s filled (drop index (slice_set steps index new)) (place + 1))
+    (left_in s filled (drop (index + 1) (slice_set steps index new)) 0) stop y
+act_next s how filled steps index step new place said effect stop x y within is done stays exits after =
+    let act = act_is said (slice_get (acts_of s (step_of filled (get_or steps index step))) place) is in
+    let rest = left_in s filled (drop index steps) (place + 1) in
+    let at : effect_of s how act.0 x ≡ effect_by s effect stop y = rw act.1 at done in
+    ap (λ acts. advance s how acts x) (next_left s filled steps index step place act.0 within act.2)
+    ∙ ap (λ e. outcome_by e rest x (advance s how rest)) at
+    ∙ done_leads s how effect stop x y rest stays exits
+    ∙ ap (λ acts. act_outcome s how effect acts stop y)
+    (sym (set_left s filled steps index step new (place + 1) within (after place (act.1 ∙ sym act.2))))
 
-  pub act_none : (s : Setting) (how : Resume) (filled : List ℕ) (steps : List (KeptStep Z)) (index : ℕ)
-      (step new : KeptStep Z) (place : ℕ) (stop : Stop) (x : Context) → index < length steps
-      → None ≡ option_map Some (slice_get (acts_of s (step_of filled (get_or steps index step))) place)
-      → advance s how (left_in s filled (drop index steps) place) x
-      ≡ next_outcome s how None (left_in s filled (drop index (slice_set steps index new)) (place + 1))
-      (left_in s filled (drop (index + 1) (slice_set steps index new)) 0) stop x
-  act_none s how filled steps index step new place stop x within is =
-      ap (λ acts. advance s how acts x) (none_left s filled steps index step place within is)
-      ∙ ap (λ left. advance s how (left_in s filled left 0) x)
-      (sym (drop-set-lt (index + 1) steps index new (omega arith)))
+pub act_none : (s : Setting) (how : Resume) (filled : List ℕ) (steps : List (KeptStep FlatMemory)) (index : ℕ)
+    (step new : KeptStep FlatMemory) (place : ℕ) (stop : Stop) (x : Context) → index < length steps
+    → None ≡ option_map Some (slice_get (acts_of s (step_of filled (get_or steps index step))) place)
+    → advance s how (left_in s filled (drop index steps) place) x
+    ≡ next_outcome s how None (left_in s filled (drop index (slice_set steps index new)) (place + 1))
+    (left_in s filled (drop (index + 1) (slice_set steps index new)) 0) stop x
+act_none s how filled steps index step new place stop x within is =
+    ap (λ acts. advance s how acts x) (none_left s filled steps index step place within is)
+    ∙ ap (λ left. advance s how (left_in s filled left 0) x)
+    (sym (drop-set-lt (index + 1) steps index new (omega arith)))

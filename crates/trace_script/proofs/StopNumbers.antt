@@ -3,7 +3,7 @@ use Rattle.std.proofs.Common.{◌≡◌, ◌+◌, ◌*◌, ◌≤◌, ◌∷◌,
 use Rattle.std.proofs.Common.{length, drop, cond, eqb, arith, ap, sym, ◌∙◌, subst}
 use Rattle.std.proofs.lemmas.List.{length-map}
 use Rattle.trace_options.specs.declared.options.TheConstants.Options.{TRACEEXIT}
-use Rattle.trace_pages.specs.FlatMemory.{RunEnd, Full, Absent, Top, run_end, stored}
+use Rattle.trace_pages.specs.FlatMemory.{FlatMemory, RunEnd, Full, Absent, Top, run_end, stored}
 use Rattle.trace_pages.specs.Memory.{store_answer}
 use Rattle.trace_record.specs.declared.death.Death.{Death}
 use Rattle.trace_record.specs.declared.death.Death.TheVariants.{Signaled}
@@ -147,50 +147,51 @@ exit_less : (s : Setting) (how : Resume) (b : Bool) (death : Death) (y : Context
 exit_less s how true death y most is less = less
 exit_less s how false death y most is less = cc is
 
-module _ {Z : Type 0} where
-  pub new_within : (s : Setting) (image : KeptImage Z) (filled : List ℕ) (copies steps : List (KeptStep Z))
-      → steps_of filled copies ≡ steps_of filled steps → length steps ≤ 65536
-      → IsWithin LAST_NUMBER (position s 0 (left_by s progress.New image filled copies))
-  new_within s image filled copies steps same few =
-      let all = four_each s (steps_of filled copies) in
-      let long : length (steps_of filled copies) ≡ length steps = ap length same ∙ length-map steps (step_of filled) in
-      omega (arith, all, long, few)
+pub new_within : (s : Setting) (image : KeptImage FlatMemory) (filled : List ℕ)
+    (copies steps : List (KeptStep FlatMemory))
+    → steps_of filled copies ≡ steps_of filled steps → length steps ≤ 65536
+    → IsWithin LAST_NUMBER (position s 0 (left_by s progress.New image filled copies))
+new_within s image filled copies steps same few =
+    let all = four_each s (steps_of filled copies) in
+    let long : length (steps_of filled copies) ≡ length steps = ap length same ∙ length-map steps (step_of filled) in
+    omega (arith, all, long, few)
 
-  pub loaded_within : (s : Setting) (at : Progress) (image : KeptImage Z) (filled : List ℕ) (steps : List (KeptStep Z))
-      (number : ℕ) → at ≡ progress.New → IsWithin LAST_NUMBER (position s number (left_by s at image filled steps))
-      → IsWithin LAST_NUMBER (position s (number + 1) (left_in s filled steps 0))
-  loaded_within s at image filled steps number new within =
-      let opened : IsWithin LAST_NUMBER (position s number (left_by s progress.New image filled steps)) =
-      subst (λ p. IsWithin LAST_NUMBER (position s number (left_by s p image filled steps))) new within in
-      subst (λ acts. IsWithin LAST_NUMBER (position s (number + 1) acts)) (sym (left_first s filled steps))
-      (omega (arith, opened))
+pub loaded_within : (s : Setting) (at : Progress) (image : KeptImage FlatMemory) (filled : List ℕ)
+    (steps : List (KeptStep FlatMemory)) (number : ℕ) → at ≡ progress.New
+    → IsWithin LAST_NUMBER (position s number (left_by s at image filled steps))
+    → IsWithin LAST_NUMBER (position s (number + 1) (left_in s filled steps 0))
+loaded_within s at image filled steps number new within =
+    let opened : IsWithin LAST_NUMBER (position s number (left_by s progress.New image filled steps)) =
+    subst (λ p. IsWithin LAST_NUMBER (position s number (left_by s p image filled steps))) new within in
+    subst (λ acts. IsWithin LAST_NUMBER (position s (number + 1) acts)) (sym (left_first s filled steps))
+    (omega (arith, opened))
 
-  pub stopped_within : (s : Setting) (how : Resume) (was : Progress) (image : KeptImage Z) (filled : List ℕ)
-      (steps : List (KeptStep Z)) (number index place : ℕ) (left : List Act) (at : Stop) (x y : Context)
-      → was ≡ progress.Going index place
-      → advance s how (left_in s filled (drop index steps) place) x ≡ Stopped left at y
-      → IsWithin LAST_NUMBER (position s number (left_by s was image filled steps))
-      → IsWithin LAST_NUMBER (position s (number + 1) left)
-  stopped_within s how was image filled steps number index place left at x y going is within =
-      let acts = left_in s filled (drop index steps) place in
-      let less : stops_in left + 1 ≤ stops_in acts =
-      subst (λ o. LeavesLess o (stops_in acts)) is (leaves_less s how acts x) in
-      let before : IsWithin LAST_NUMBER (position s number acts) =
-      subst (λ p. IsWithin LAST_NUMBER (position s number (left_by s p image filled steps))) going within in
-      omega (arith, before, less)
+pub stopped_within : (s : Setting) (how : Resume) (was : Progress) (image : KeptImage FlatMemory) (filled : List ℕ)
+    (steps : List (KeptStep FlatMemory)) (number index place : ℕ) (left : List Act) (at : Stop) (x y : Context)
+    → was ≡ progress.Going index place
+    → advance s how (left_in s filled (drop index steps) place) x ≡ Stopped left at y
+    → IsWithin LAST_NUMBER (position s number (left_by s was image filled steps))
+    → IsWithin LAST_NUMBER (position s (number + 1) left)
+stopped_within s how was image filled steps number index place left at x y going is within =
+    let acts = left_in s filled (drop index steps) place in
+    let less : stops_in left + 1 ≤ stops_in acts =
+    subst (λ o. LeavesLess o (stops_in acts)) is (leaves_less s how acts x) in
+    let before : IsWithin LAST_NUMBER (position s number acts) =
+    subst (λ p. IsWithin LAST_NUMBER (position s number (left_by s p image filled steps))) going within in
+    omega (arith, before, less)
 
-  pub exiting_within : (s : Setting) (how : Resume) (was : Progress) (image : KeptImage Z) (filled : List ℕ)
-      (steps : List (KeptStep Z)) (number index place : ℕ) (death : Death) (x y : Context)
-      → was ≡ progress.Going index place
-      → advance s how (left_in s filled (drop index steps) place) x ≡ exit_outcome s how death y
-      → has_option s TRACEEXIT ≡ true
-      → IsWithin LAST_NUMBER (position s number (left_by s was image filled steps))
-      → IsWithin LAST_NUMBER (position s (number + 1) (Dies death ∷ []))
-  exiting_within s how was image filled steps number index place death x y going is stops within =
-      let acts = left_in s filled (drop index steps) place in
-      let less : 1 ≤ stops_in acts =
-      exit_less s how (has_option s TRACEEXIT) death y (stops_in acts) stops
-      (subst (λ o. LeavesLess o (stops_in acts)) is (leaves_less s how acts x)) in
-      let before : IsWithin LAST_NUMBER (position s number acts) =
-      subst (λ p. IsWithin LAST_NUMBER (position s number (left_by s p image filled steps))) going within in
-      omega (arith, before, less)
+pub exiting_within : (s : Setting) (how : Resume) (was : Progress) (image : KeptImage FlatMemory) (filled : List ℕ)
+    (steps : List (KeptStep FlatMemory)) (number index place : ℕ) (death : Death) (x y : Context)
+    → was ≡ progress.Going index place
+    → advance s how (left_in s filled (drop index steps) place) x ≡ exit_outcome s how death y
+    → has_option s TRACEEXIT ≡ true
+    → IsWithin LAST_NUMBER (position s number (left_by s was image filled steps))
+    → IsWithin LAST_NUMBER (position s (number + 1) (Dies death ∷ []))
+exiting_within s how was image filled steps number index place death x y going is stops within =
+    let acts = left_in s filled (drop index steps) place in
+    let less : 1 ≤ stops_in acts =
+    exit_less s how (has_option s TRACEEXIT) death y (stops_in acts) stops
+    (subst (λ o. LeavesLess o (stops_in acts)) is (leaves_less s how acts x)) in
+    let before : IsWithin LAST_NUMBER (position s number acts) =
+    subst (λ p. IsWithin LAST_NUMBER (position s number (left_by s p image filled steps))) going within in
+    omega (arith, before, less)

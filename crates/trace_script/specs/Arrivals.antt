@@ -1,5 +1,6 @@
 -- Where an act, or acts in a row, lead: what the program answers, as an effect or an outcome.
 use Rattle.std.specs.Prelude.{◌∷◌, [], ℕ, List, Option, Some, None, drop}
+use Rattle.trace_pages.specs.FlatMemory.{FlatMemory}
 use Rattle.trace_record.specs.declared.death.Death.{Death}
 use Rattle.trace_record.specs.declared.resume.Resume.{Resume}
 use Rattle.trace_record.specs.declared.stop.Stop.{Stop}
@@ -38,8 +39,8 @@ next_outcome s how None acts steps stop x = advance s how steps x
 next_outcome s how (Some effect) acts steps stop x = act_outcome s how effect acts stop x
 
 -- steps in a row
-abbrev pub reached : {Z : Type 0} → Setting → Resume → Reached → (filled : List ℕ) → List (KeptStep Z) → Stop
-    → Context → Outcome
+abbrev pub reached : Setting → Resume → Reached → (filled : List ℕ) → List (KeptStep FlatMemory) → Stop → Context
+    → Outcome
 reached s how (reached_at.Stopped index place) filled steps stop x =
     Stopped (left_in s filled (drop index steps) place) stop x
 reached s how (reached_at.AtExit death) filled steps stop x = exit_outcome s how death x

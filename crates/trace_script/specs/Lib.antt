@@ -14,6 +14,7 @@ pub mod KeptActs
 pub mod Left
 pub mod LookAhead
 pub mod Machine
+pub mod MemoryParts
 pub mod OpenBlock
 pub mod RawLine
 pub mod Reading

@@ -1,29 +1,19 @@
--- The block that is open while a file is read, as the program keeps it: what it has counted, so that neither an exec
--- nor a birth is looked for among the steps, and that each of its fills has all its bytes.
-use Rattle.std.specs.Prelude.{◌≡◌, ◌<◌, ◌∷◌, ◌++◌, [], ℕ, suc, List, length, Option, Some, None}
+-- The block that is open while a file is read, as the program keeps it: the pages of the image in force, on which lines
+-- are tested, how many births it has counted, and that each of its fills has all its bytes.
+use Rattle.std.specs.Prelude.{◌≡◌, ◌<◌, ◌++◌, [], ℕ, List, length, Option, Some, None}
+use Rattle.trace_pages.specs.FlatMemory.{FlatMemory}
 use Rattle.trace_script.specs.declared.case.block.Block.{Block}
 use Rattle.trace_script.specs.declared.case.raw_line.RawStep.{RawStep}
 use Rattle.trace_script.specs.declared.case.raw_line.RawStep.TheVariants as raw_step
-use Rattle.trace_script.specs.CaseFile.{born_by}
+use Rattle.trace_script.specs.declared.script.Step.{Step as KeptStep}
+use Rattle.trace_script.specs.declared.script.Step.TheVariants as kept
+use Rattle.trace_script.specs.CaseFile.{born_by, in_force}
 use Rattle.trace_script.specs.Kept.{script_of, steps_of}
 use Rattle.trace_script.specs.Script.{Fill, Step}
 use Rattle.trace_script.specs.Script as step
 
--- the place of the last exec among steps
-abbrev pub or_first : Option ℕ → Option ℕ → Option ℕ
-or_first None first = first
-or_first (Some place) first = Some (suc place)
-
-abbrev pub first_exec : Step → Option ℕ
-first_exec (step.Exec path image) = Some 0
-first_exec other = None
-
-abbrev pub last_exec : List Step → Option ℕ
-last_exec [] = None
-last_exec (step ∷ steps) = or_first (last_exec steps) (first_exec step)
-
 pub record IsCounted {Z : Type 0} (block : Block Z) : Type 0 where
-  pub exec : block.exec ≡ last_exec (script_of block.script).steps
+  pub memory : block.memory ≡ (in_force (script_of block.script).image (script_of block.script).steps).memory
   pub births : block.births ≡ length (born_by (script_of block.script).steps)
   -- the fills that are kept have all their bytes, so that bytes that are added later are none of theirs
   pub whole : (more : List ℕ) → steps_of (block.script.filled.items ++ more) block.script.steps.items
@@ -34,10 +24,10 @@ abbrev pub IsSmallStep : RawStep → Type 0
 IsSmallStep (raw_step.Signal signal deadly) = signal < 256
 IsSmallStep other = Unit {0}
 
--- the place of the last exec after a step at this place
-abbrev pub exec_after : Option ℕ → (place : ℕ) → Step → Option ℕ
-exec_after exec place (step.Exec path image) = Some place
-exec_after exec place other = exec
+-- the memory in force after a step that is kept: that of an exec's image, or else the one before
+abbrev pub kept_after : FlatMemory → KeptStep FlatMemory → FlatMemory
+kept_after memory (kept.Exec path image) = image.memory
+kept_after memory other = memory
 
 -- the bytes that a step writes
 abbrev pub fill_bytes : Option Fill → List ℕ

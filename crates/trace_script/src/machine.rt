@@ -1,7 +1,7 @@
 //! The machine of a scripted tracee.
 //!
-//! A machine has a copy of its tracee's script, since it changes its images. Contracts see it as its position: who is
-//! traced and how, the number of the last stop, and what is left of the script from there on.
+//! A machine has a copy of its tracee's script, since it changes its images, whose pages it has made. Contracts see it as
+//! its position: who is traced and how, the number of the last stop, and what is left of the script from there on.
 //!
 //! What is left is kept so: before the first stop, the program and all steps; after it, the steps from the one underway
 //! on, and the place in that one; from the exit on, the death. That no number of a stop that is left passes the
@@ -16,6 +16,7 @@ use crate::script::{Image, Step};
 use crate::setting::Setting;
 use std::alloc::{Allocator, Global};
 use std::marker::Model;
+use trace_pages::Memory;
 
 /// Runs one tracee's script from stop to stop.
 #[derive(Drop)]
@@ -25,10 +26,12 @@ pub struct Machine<A: Allocator = Global> {
     number: u32,
     progress: Progress,
     /// The first program, until it is loaded.
-    image: Image<A>,
-    steps: Vec<Step<A>, A>,
+    image: Image<Memory<A>>,
+    steps: Vec<Step<Memory<A>>, A>,
     /// The bytes of all fills.
     filled: Vec<u8, A>,
+    /// Memory with no page, once for each program: where a program is put in, it takes the place of the pages before.
+    empties: Vec<Memory<A>, A>,
 }
 
 impl<A: Allocator> Model for Machine<A> {

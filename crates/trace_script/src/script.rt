@@ -1,15 +1,18 @@
 //! The script of a tracee: the program that it loads, and what it does, step by step.
 
 pub(crate) mod copies;
+pub(crate) mod counts;
 mod fill_bytes;
+pub(crate) mod memory_parts;
 
+use crate::script::memory_parts::MemoryParts;
 use std::alloc::{Allocator, Global};
-use trace_pages::Memory;
 
-/// A program as execve(2) loads it: its memory, and the two registers that it starts with.
+/// A program as execve(2) loads it: its memory, and the two registers that it starts with. The memory is in parts where
+/// a case has the program, and in pages where a machine has it.
 #[derive(Drop)]
-pub struct Image<A: Allocator = Global> {
-    pub memory: Memory<A>,
+pub struct Image<M> {
+    pub memory: M,
     /// The instruction pointer.
     pub rip: u64,
     /// The stack pointer.
@@ -41,7 +44,7 @@ pub struct Call {
 
 /// One thing that a tracee does.
 #[derive(Drop)]
-pub enum Step<A: Allocator = Global> {
+pub enum Step<M> {
     /// Any system call except those below.
     Call(Call),
     /// A fork(2) that creates the process of this thread id.
@@ -49,7 +52,7 @@ pub enum Step<A: Allocator = Global> {
     /// A clone(2) that creates the thread of this id in the caller's group.
     Thread(u32),
     /// An execve(2) of the program whose path is at this address.
-    Exec { path: u64, image: Image<A> },
+    Exec { path: u64, image: Image<M> },
     /// A signal arrives, 1 to 31; whether it kills the tracee where the restart hands it over (signal(7)).
     Signal { signal: u8, deadly: bool },
     /// An exit(2) with this status.
@@ -59,8 +62,8 @@ pub enum Step<A: Allocator = Global> {
 /// What a tracee does, from its first stop on. Where the steps run out, it exits with code 0.
 #[derive(Drop)]
 pub struct Script<A: Allocator = Global> {
-    pub image: Image<A>,
-    pub steps: Vec<Step<A>, A>,
+    pub image: Image<MemoryParts<A>>,
+    pub steps: Vec<Step<MemoryParts<A>>, A>,
     /// The bytes of all fills, one after the other. They are in one block, so that neither reading a script nor copying
     /// it takes memory for each fill.
     pub filled: Vec<u8, A>,

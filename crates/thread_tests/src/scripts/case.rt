@@ -40,6 +40,7 @@ fn the_worked_case_is_read(rt: HostRuntime) -> Result<(), Fail> {
     );
     assert!(rt; matches!(root.steps.as_slice().get(1), Some(Step::Fork(101))));
     assert!(rt; matches!(root.steps.as_slice().get(2), Some(Step::Exit(3))));
+    let memory = root.image.memory.to_memory()?;
     for (addr, byte) in [
         (0x10000, Some(b'h')),
         (0x10001, Some(b'i')),
@@ -47,12 +48,12 @@ fn the_worked_case_is_read(rt: HostRuntime) -> Result<(), Fail> {
         (0x10003, Some(0)),
         (0x11000, None),
     ] {
-        same(&rt, &(addr, root.image.memory.byte(addr)), &(addr, byte));
+        same(&rt, &(addr, memory.byte(addr)), &(addr, byte));
     }
     let child = case.script(1);
     same(&rt, &child.steps.len(), &1);
     assert!(rt; matches!(child.steps.as_slice().get(0), Some(Step::Exit(0))));
-    same(&rt, &child.image.memory.byte(0x10000), &None);
+    same(&rt, &child.image.memory.to_memory()?.byte(0x10000), &None);
     Ok(())
 }
 
@@ -70,7 +71,8 @@ fn each_line_is_read_in_its_free_forms(rt: HostRuntime) -> Result<(), Fail> {
     assert!(rt; case.roster().len() == 1);
     let script = case.script(0);
     same(&rt, &(script.image.rip, script.image.rsp), &(0x30, 64));
-    same(&rt, &script.image.memory.byte(0x20fff), &Some(0xff));
+    let memory = script.image.memory.to_memory()?;
+    same(&rt, &memory.byte(0x20fff), &Some(0xff));
     same(
         &rt,
         &called(script, 0),
@@ -107,8 +109,9 @@ fn each_line_is_read_in_its_free_forms(rt: HostRuntime) -> Result<(), Fail> {
             _,
         ] => {
             same(&rt, &(image.rip, image.rsp), &(9, 10));
-            same(&rt, &image.memory.byte(0x40000), &Some(0x2f));
-            same(&rt, &image.memory.byte(0x20000), &None);
+            let memory = image.memory.to_memory()?;
+            same(&rt, &memory.byte(0x40000), &Some(0x2f));
+            same(&rt, &memory.byte(0x20000), &None);
         }
         _ => holds(&rt, false, "other steps"),
     }

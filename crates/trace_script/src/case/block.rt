@@ -1,12 +1,12 @@
 //! The block that is open while a case file is read: its script so far, and what the next step is tested against.
 
-ghost use Rattle.std.specs.Prelude.{◌≡◌, ◌<◌, ◌≤◌, ◌++◌, ◌^◌, ◌∷◌, [], ℕ, IfErr, IfOk, List, None, OnOk, length};
+ghost use Rattle.std.specs.Prelude.{◌≡◌, ◌<◌, ◌≤◌, ◌++◌, ◌∷◌, [], ℕ, IfOk, List, None, OnOk, length};
 ghost use Rattle.std.specs.Prelude.{option_to_list};
 ghost use Rattle.trace_script.specs.CaseFile.{children_of, fill_fault, late_of, next_step_fault, no_script};
 ghost use Rattle.trace_script.specs.CaseFile.{place_after, step_fault};
-ghost use Rattle.trace_script.specs.CaseFile as file;
+ghost use Rattle.trace_script.specs.Fills.{memory_after};
 ghost use Rattle.trace_script.specs.Kept.{fill_in, image_of, script_of, step_of};
-ghost use Rattle.trace_script.specs.OpenBlock.{IsCounted, IsSmallStep, exec_after, fill_bytes, filled_by};
+ghost use Rattle.trace_script.specs.OpenBlock.{IsCounted, IsSmallStep, fill_bytes, filled_by};
 ghost use Rattle.trace_script.specs.RawLine.{IsTestedCall, IsTestedFill, IsTestedStep, call_said, fill_said, step_said};
 
 use crate::case::digits::DigitValues;
@@ -17,16 +17,19 @@ use crate::case::raw_line::{RawCall, RawFill, RawStep};
 use crate::case::signals::can_arrive;
 use crate::cause::Cause;
 use crate::limits::MOST_STEPS;
-use crate::script::{Call, Fill, Image, Script, Step};
+use crate::script::counts::kept_count;
+use crate::script::memory_parts::MemoryParts;
+use crate::script::{Call, Fill, Script, Step};
 use std::alloc::Allocator;
 use trace_options::NoMemory;
+use trace_pages::Memory;
 
 /// A script so far.
 #[derive(Drop)]
 pub(crate) struct Block<A: Allocator> {
     pub(crate) script: Script<A>,
-    /// The place of the last exec among the steps.
-    pub(crate) exec: Option<usize>,
+    /// The memory of the image in force, that of the last exec, or else the first: lines are tested on its pages.
+    pub(crate) memory: Memory<A>,
     /// How many of the steps create a child.
     pub(crate) births: u32,
 }
@@ -42,7 +45,7 @@ pub(crate) fn new_block<A: Allocator + Copy>(alloc: A) -> Block<A>
             steps: Vec::new(alloc),
             filled: Vec::new(alloc),
         },
-        exec: None,
+        memory: Memory::new(alloc),
         births: 0,
     }
 }
@@ -57,39 +60,17 @@ pub(crate) fn next_step_fault<A: Allocator>(block: &Block<A>, step: RawStep) -> 
     if block.script.steps.len() >= MOST_STEPS {
         return Some(Cause::TooMany);
     }
-    step_fault(in_force(block), step)
+    step_fault(&block.memory, step)
 }
 
-/// The image in force: that of the last exec, or else the first.
-fn in_force<A: Allocator>(block: &Block<A>) -> &Image<A>
-    requires { IsCounted block.now }
-    ensures { image_of result.now
-        ≡ file.in_force (image_of block.now.script.image) (script_of block.now.script).steps }
-{
-    match block.exec {
-        None => &block.script.image,
-        Some(at) => image_in(&block.script.steps[at], &block.script.image),
-    }
-}
-
-/// The image of an exec, or else the other one.
-fn image_in<'a, A: Allocator>(step: &'a Step<A>, other: &'a Image<A>) -> &'a Image<A>
-    ensures { (filled : List ℕ) →
-        image_of result.now ≡ file.image_after (image_of other.now) (step_of filled step.now) }
-{
-    match step {
-        Step::Exec { image, .. } => image,
-        _ => other,
-    }
-}
-
-fn step_fault<A: Allocator>(image: &Image<A>, step: RawStep) -> Option<Cause>
+/// Why a step cannot follow where this memory is in force.
+fn step_fault<A: Allocator>(memory: &Memory<A>, step: RawStep) -> Option<Cause>
     requires { IsTestedStep step }
-    ensures fault { result ≡ step_fault (image_of image.now).memory (step_said step.entry) }
+    ensures fault { result ≡ step_fault memory.now (step_said step.entry) }
     ensures small { result ≡ None → IsSmallStep step.entry }
 {
     match step {
-        RawStep::Call(call) => fill_fault(image, call.fill),
+        RawStep::Call(call) => fill_fault(memory, call.fill),
         RawStep::Signal(signal, _) => {
             if can_arrive(signal) {
                 None
@@ -101,13 +82,13 @@ fn step_fault<A: Allocator>(image: &Image<A>, step: RawStep) -> Option<Cause>
     }
 }
 
-fn fill_fault<A: Allocator>(image: &Image<A>, fill: Option<RawFill>) -> Option<Cause>
+fn fill_fault<A: Allocator>(memory: &Memory<A>, fill: Option<RawFill>) -> Option<Cause>
     requires { IsTestedFill fill }
-    ensures { result ≡ fill_fault (image_of image.now).memory (fill_said fill.entry) }
+    ensures { result ≡ fill_fault memory.now (fill_said fill.entry) }
 {
     match fill {
         None => None,
-        Some(fill) => match image.memory.check_run(fill.addr, fill.bytes.len() / 2) {
+        Some(fill) => match memory.check_run(fill.addr, fill.bytes.len() / 2) {
             Ok(()) => None,
             Err(_) => Some(Cause::Unmapped),
         },
@@ -133,20 +114,19 @@ pub(crate) fn add_step<A: Allocator + Copy>(
     ensures counted { OnOk result (IsCounted block.new) }
 {
     let kept = keep_step(alloc, digits, &mut block.script.filled, step)?;
-    let at = block.script.steps.len();
     block.script.steps.push(kept)?;
-    block.exec = exec_after(block.exec, at, step);
+    put_in_force(alloc, &mut block.memory, step);
     block.births += births_of(step);
     Ok(())
 }
 
-/// The place of the last exec after a step at this place.
-fn exec_after(exec: Option<usize>, at: usize, step: RawStep) -> Option<usize>
-    ensures { result ≡ exec_after exec at (step_said step.entry) }
+/// Puts the image of a step in force, if it is an exec: its lines follow.
+fn put_in_force<A: Allocator + Copy>(alloc: A, memory: &mut Memory<A>, step: RawStep)
+    ensures { memory.new ≡ memory_after memory.old (step_said step.entry) }
 {
     match step {
-        RawStep::Exec(_) => Some(at),
-        _ => exec,
+        RawStep::Exec(_) => *memory = Memory::new(alloc),
+        _ => {}
     }
 }
 
@@ -196,7 +176,7 @@ fn keep_step<A: Allocator + Copy>(
     digits: &DigitValues,
     filled: &mut Vec<u8, A>,
     step: RawStep,
-) -> Result<Step<A>, NoMemory>
+) -> Result<Step<MemoryParts<A>>, NoMemory>
     requires tested { IsTestedStep step }
     requires small { IsSmallStep step }
     ensures filled { OnOk result (filled.new.items ≡ filled.old.items ++ filled_by (step_said step.entry)) }
@@ -223,7 +203,7 @@ fn keep_call<A: Allocator>(
     digits: &DigitValues,
     filled: &mut Vec<u8, A>,
     call: RawCall,
-) -> Result<Step<A>, NoMemory>
+) -> Result<Step<MemoryParts<A>>, NoMemory>
     requires { IsTestedCall call }
     ensures filled { OnOk result (filled.new.items ≡ filled.old.items ++ filled_by (call_said call.entry)) }
     ensures step { (more : List ℕ) →
@@ -259,16 +239,4 @@ fn keep_fill<A: Allocator>(
         start,
         len,
     }))
-}
-
-/// A count of bytes as it is kept. No file is long enough for a count that 32 bits do not hold; it would be refused as want
-/// of memory.
-fn kept_count(count: usize) -> Result<u32, NoMemory>
-    ensures kept { IfOk result (λ kept. kept ≡ count) }
-    ensures refused { IfErr result (λ e. 2 ^ 32 ≤ count) }
-{
-    match u32::try_from(count) {
-        Ok(kept) => Ok(kept),
-        Err(_) => Err(NoMemory),
-    }
 }

@@ -115,7 +115,13 @@ fn load_in_block<A: Allocator + Copy>(
         (with_line 0 (reading_of draft.old) (line.Loads (part_said part.entry))) }
     ensures counted { OnOk result (IsCounted draft.new.block) }
 {
-    load_part(alloc, &draft.digits, &mut draft.block.script, part)
+    load_part(
+        alloc,
+        &draft.digits,
+        &mut draft.block.script,
+        &mut draft.block.memory,
+        part,
+    )
 }
 
 /// Takes one more step.

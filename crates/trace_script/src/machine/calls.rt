@@ -25,15 +25,16 @@ use crate::setting::{Setting, has_option};
 use crate::step::effect::Reached;
 use crate::step::look_ahead::fault_ahead;
 use crate::step::registers::first_regs;
-use crate::step::steps_run::run_steps;
+use crate::step::steps_run::{put_memory_in, run_steps};
 use crate::step::walk::Walk;
 use std::alloc::Allocator;
 use trace_options::{Filter, NoMemory, Options};
+use trace_pages::Memory;
 use trace_record::{Resume, Stop, StopRecord};
 
 impl<A: Allocator + Copy> Machine<A> {
     /// The machine of a row of a case, before its first stop. The options are ones that a tracer takes (`check`). It
-    /// copies the row's script.
+    /// copies the row's script, and makes the pages of all its programs: as much memory as they have.
     pub fn new(
         alloc: A,
         case: &Case<A>,
@@ -63,6 +64,7 @@ impl<A: Allocator + Copy> Machine<A> {
         let image = copy_image(&script.image)?;
         let steps = copy_steps(alloc, script.steps.as_slice())?;
         let filled = Vec::from_slice(alloc, script.filled.as_slice())?;
+        let empties = empties_for(alloc, steps.as_slice())?;
         Ok(Machine {
             setting,
             number: 0,
@@ -70,22 +72,39 @@ impl<A: Allocator + Copy> Machine<A> {
             image,
             steps,
             filled,
+            empties,
         })
     }
+}
+
+/// Memory with no page, once for the first program and once for that of each exec.
+fn empties_for<A: Allocator + Copy>(
+    alloc: A,
+    steps: &[Step<Memory<A>>],
+) -> Result<Vec<Memory<A>, A>, NoMemory> {
+    let mut empties = Vec::new(alloc);
+    empties.push(Memory::new(alloc))?;
+    for step in steps {
+        if let Step::Exec { .. } = step {
+            empties.push(Memory::new(alloc))?;
+        }
+    }
+    Ok(empties)
 }
 
 impl<A: Allocator> Machine<A> {
     /// Runs the tracee on, to its next stop or its death. The first call ignores the restart and what the record
     /// holds: it loads the program. Where TRACEEXIT is set, a stop (`Stop::Ending`) comes before the death, with the
     /// registers and the memory as they were (ptrace(2), `PTRACE_EVENT_EXIT`); after it the death comes whatever the
-    /// restart is. It takes no memory, and at the exit it gives back that of the steps and of the bytes of fills.
+    /// restart is. It takes no memory. Where it puts a program in, it gives back the pages of the one before, and at the
+    /// exit the memory of the steps and of the bytes of fills.
     pub fn next(&mut self, how: Resume, held: &mut StopRecord<A>) -> Next
         ensures element { IsAnswer (next_element self.old how (context_of held.old)) result held.old held.new }
         ensures position { self.new ≡ next_position self.old how (context_of held.old) }
     {
         match self.progress {
             Progress::New => {
-                load(&mut self.image, held);
+                load(&mut self.image, held, &mut self.empties);
                 self.progress = Progress::Going { index: 0, place: 0 };
                 self.number += 1;
                 sign(self.setting.tid, self.number, held);
@@ -97,7 +116,14 @@ impl<A: Allocator> Machine<A> {
                     how,
                     filled: self.filled.as_slice(),
                 };
-                match go_on(&walk, self.steps.as_mut_slice(), index, place, held) {
+                match go_on(
+                    &walk,
+                    self.steps.as_mut_slice(),
+                    index,
+                    place,
+                    held,
+                    &mut self.empties,
+                ) {
                     Reached::Stopped(index, place) => {
                         self.progress = Progress::Going { index, place };
                         self.number += 1;
@@ -108,6 +134,7 @@ impl<A: Allocator> Machine<A> {
                         self.progress = Progress::Ended(death);
                         let_go(&mut self.steps);
                         let_go(&mut self.filled);
+                        let_go(&mut self.empties);
                         if !has_option(&self.setting, Options::TRACEEXIT) {
                             return Next::Death(death);
                         }
@@ -124,7 +151,7 @@ impl<A: Allocator> Machine<A> {
     }
 }
 
-/// Lets steps or bytes go, of which none is left after the exit, and their memory with them.
+/// Lets steps, bytes or memories go, of which none is left after the exit, and what they take with them.
 fn let_go<T: Drop, A: Allocator>(items: &mut Vec<T, A>)
     ensures { items.new.items ≡ [] }
 {
@@ -133,12 +160,16 @@ fn let_go<T: Drop, A: Allocator>(items: &mut Vec<T, A>)
 }
 
 /// Loads the program, for the first stop.
-fn load<A: Allocator>(image: &mut Image<A>, held: &mut StopRecord<A>)
+fn load<A: Allocator>(
+    image: &mut Image<Memory<A>>,
+    held: &mut StopRecord<A>,
+    empties: &mut Vec<Memory<A>, A>,
+)
     ensures stop { held.new.stop ≡ stop.Start }
     ensures regs { held.new.regs ≡ first_regs image.old.rip image.old.rsp }
     ensures memory { held.new.memory ≡ image.old.memory }
 {
-    std::mem::swap(&mut held.memory, &mut image.memory);
+    put_memory_in(image, held, empties);
     held.regs = first_regs(image.rip, image.rsp);
     held.stop = Stop::Start;
 }
@@ -155,10 +186,11 @@ fn sign<A: Allocator>(tid: u32, number: u32, held: &mut StopRecord<A>)
 /// is done.
 fn go_on<A: Allocator>(
     walk: &Walk<'_>,
-    steps: &mut [Step<A>],
+    steps: &mut [Step<Memory<A>>],
     index: usize,
     place: u32,
     held: &mut StopRecord<A>,
+    empties: &mut Vec<Memory<A>, A>,
 ) -> Reached
     ensures outcome { advance walk.now.setting.now walk.now.how
         (left_in walk.now.setting.now walk.now.filled.now (drop index steps.old) place) (context_of held.old)
@@ -171,5 +203,5 @@ fn go_on<A: Allocator>(
     if let Some(addr) = fault_ahead(walk, steps, index, place, &held.memory) {
         return Reached::Faulted(addr);
     }
-    run_steps(walk, steps, index, place, held)
+    run_steps(walk, steps, index, place, held, empties)
 }

@@ -12,10 +12,11 @@ use crate::step::step_acts::nr_of;
 use crate::step::walk::Walk;
 use std::alloc::Allocator;
 use trace_options::Options;
+use trace_pages::Memory;
 use trace_record::Kind;
 
 /// Whether the tracee of a walk stops at a place of a step.
-pub(crate) fn halts<A: Allocator>(walk: &Walk<'_>, when: When, step: &Step<A>) -> bool
+pub(crate) fn halts<A: Allocator>(walk: &Walk<'_>, when: When, step: &Step<Memory<A>>) -> bool
     ensures { (filled : List ℕ) →
         result ≡ halts walk.now.setting.now walk.now.how (when_in (step_of filled step.now) when) }
 {
@@ -38,7 +39,7 @@ fn is_traced(kind: Kind) -> bool
 }
 
 /// Whether the filter stops a step's call.
-fn is_filtered<A: Allocator>(step: &Step<A>, setting: &Setting) -> bool
+fn is_filtered<A: Allocator>(step: &Step<Memory<A>>, setting: &Setting) -> bool
     ensures { (filled : List ℕ) → result ≡ is_filtered setting.now (nr_of (step_of filled step.now)) }
 {
     has_option(setting, Options::TRACESECCOMP) && setting.filter.calls.contains(nr_of(step))

@@ -23,7 +23,7 @@ use trace_pages::Memory;
 /// of them on.
 pub(crate) fn fault_ahead<A: Allocator>(
     walk: &Walk<'_>,
-    steps: &[Step<A>],
+    steps: &[Step<Memory<A>>],
     from: usize,
     place: u32,
     memory: &Memory<A>,
@@ -42,7 +42,7 @@ pub(crate) fn fault_ahead<A: Allocator>(
 /// the exit that comes where the steps run out.
 fn look_ahead<'a, A: Allocator>(
     walk: &Walk<'_>,
-    steps: &'a [Step<A>],
+    steps: &'a [Step<Memory<A>>],
     from: usize,
     place: u32,
     memory: &'a Memory<A>,
@@ -72,7 +72,7 @@ fn look_ahead<'a, A: Allocator>(
 /// Looks at an act of a step.
 fn look_at<'a, A: Allocator>(
     walk: &Walk<'_>,
-    step: &'a Step<A>,
+    step: &'a Step<Memory<A>>,
     act: Act,
     memory: &'a Memory<A>,
 ) -> Result<&'a Memory<A>, Found>
@@ -104,7 +104,7 @@ fn go_on_unless<A: Allocator>(halts: bool, memory: &Memory<A>) -> Result<&Memory
 }
 
 /// The memory after a step that is an exec: its program's.
-fn memory_after<'a, A: Allocator>(step: &'a Step<A>, memory: &'a Memory<A>) -> &'a Memory<A>
+fn memory_after<'a, A: Allocator>(step: &'a Step<Memory<A>>, memory: &'a Memory<A>) -> &'a Memory<A>
     ensures { (filled : List ℕ) → result.now ≡ memory_after memory.now (step_of filled step.now) }
 {
     match step {

@@ -15,11 +15,12 @@ use crate::setting::Setting;
 use crate::step::act::{Act, When};
 use std::alloc::Allocator;
 use trace_options::Options;
+use trace_pages::Memory;
 use trace_record::{Death, Stop};
 
 /// The act of a step at a place, or None at its end.
 #[inline(always)]
-pub(crate) fn act_at<A: Allocator>(step: &Step<A>, setting: &Setting, place: u32) -> Option<Act>
+pub(crate) fn act_at<A: Allocator>(step: &Step<Memory<A>>, setting: &Setting, place: u32) -> Option<Act>
     ensures { (filled : List ℕ) → option_map (act_in filled (step_of filled step.now)) result
         ≡ option_map Some (slice_get (acts_of setting.now (step_of filled step.now)) place) }
 {
@@ -44,7 +45,7 @@ fn act_at_signal(signal: u8, deadly: bool, place: u32) -> Option<Act>
 
 /// The act at a place of a step that is a system call.
 #[inline(always)]
-fn act_in_call<A: Allocator>(step: &Step<A>, setting: &Setting, place: u32) -> Option<Act>
+fn act_in_call<A: Allocator>(step: &Step<Memory<A>>, setting: &Setting, place: u32) -> Option<Act>
     ensures { (filled : List ℕ) → option_map (act_in filled (step_of filled step.now)) result
         ≡ option_map Some (slice_get (call_acts setting.now (step_of filled step.now)) place) }
 {
@@ -58,7 +59,7 @@ fn act_in_call<A: Allocator>(step: &Step<A>, setting: &Setting, place: u32) -> O
 
 /// The act at a place after the seccomp stop.
 #[inline(always)]
-fn act_after_filter<A: Allocator>(step: &Step<A>, setting: &Setting, place: u32) -> Option<Act>
+fn act_after_filter<A: Allocator>(step: &Step<Memory<A>>, setting: &Setting, place: u32) -> Option<Act>
     ensures { (filled : List ℕ) → option_map (act_in filled (step_of filled step.now)) result
         ≡ option_map Some (slice_get (after_filter setting.now (step_of filled step.now)) place) }
 {
@@ -120,7 +121,7 @@ fn act_of_answer(answer: u64, place: u32) -> Option<Act>
 }
 
 /// The number of a step's system call; a signal is none.
-pub(crate) fn nr_of<A: Allocator>(step: &Step<A>) -> u64
+pub(crate) fn nr_of<A: Allocator>(step: &Step<Memory<A>>) -> u64
     ensures { (filled : List ℕ) → result ≡ nr_of (step_of filled step.now) }
 {
     match step {
@@ -134,7 +135,7 @@ pub(crate) fn nr_of<A: Allocator>(step: &Step<A>) -> u64
 }
 
 /// The arguments of a step's system call.
-pub(crate) fn arguments_of<A: Allocator>(step: &Step<A>) -> [u64; 6]
+pub(crate) fn arguments_of<A: Allocator>(step: &Step<Memory<A>>) -> [u64; 6]
     ensures { (filled : List ℕ) → result ≡ step_arguments (step_of filled step.now) }
 {
     match step {

@@ -25,15 +25,17 @@ use crate::step::registers::{with_answer, with_call, with_start};
 use crate::step::step_acts::{act_at, arguments_of, nr_of};
 use crate::step::walk::Walk;
 use std::alloc::Allocator;
+use trace_pages::Memory;
 use trace_record::{Death, Stop, StopRecord};
 
 /// Does the acts that are left of steps from a place in one of them on.
 pub(crate) fn run_steps<A: Allocator>(
     walk: &Walk<'_>,
-    steps: &mut [Step<A>],
+    steps: &mut [Step<Memory<A>>],
     from: usize,
     place: u32,
     held: &mut StopRecord<A>,
+    empties: &mut Vec<Memory<A>, A>,
 ) -> Reached
     ensures reached { advance walk.now.setting.now walk.now.how
         (left_in walk.now.setting.now walk.now.filled.now (drop from steps.old) place) (context_of held.old)
@@ -44,7 +46,7 @@ pub(crate) fn run_steps<A: Allocator>(
     let mut index = from;
     let mut at = place;
     while index < steps.len() {
-        match run_here(walk, steps, index, at, held) {
+        match run_here(walk, steps, index, at, held, empties) {
             Some(Effect::Stops) => return Reached::Stopped(index, at + 1),
             Some(Effect::GoesOn) => at += 1,
             Some(Effect::Exits(death)) => return Reached::AtExit(death),
@@ -61,10 +63,11 @@ pub(crate) fn run_steps<A: Allocator>(
 /// Does the act at a place of the step at an index, if the step has one there.
 fn run_here<A: Allocator>(
     walk: &Walk<'_>,
-    steps: &mut [Step<A>],
+    steps: &mut [Step<Memory<A>>],
     index: usize,
     place: u32,
     held: &mut StopRecord<A>,
+    empties: &mut Vec<Memory<A>, A>,
 ) -> Option<Effect>
     requires { index < length steps.old }
     ensures outcome { advance walk.now.setting.now walk.now.how
@@ -78,7 +81,7 @@ fn run_here<A: Allocator>(
 {
     let step = &mut steps[index];
     match act_at(step, walk.setting, place) {
-        Some(act) => Some(run_act(walk, step, act, held)),
+        Some(act) => Some(run_act(walk, step, act, held, empties)),
         None => None,
     }
 }
@@ -86,9 +89,10 @@ fn run_here<A: Allocator>(
 /// Does an act of a step. What comes after it in the step stays the same.
 fn run_act<A: Allocator>(
     walk: &Walk<'_>,
-    step: &mut Step<A>,
+    step: &mut Step<Memory<A>>,
     act: Act,
     held: &mut StopRecord<A>,
+    empties: &mut Vec<Memory<A>, A>,
 ) -> Effect
     ensures effect { IfSome (act_in walk.now.filled.now (step_of walk.now.filled.now step.old) act)
         (λ act. effect_of walk.now.setting.now walk.now.how act (context_of held.old)
@@ -107,7 +111,7 @@ fn run_act<A: Allocator>(
             Effect::GoesOn
         }
         Act::Becomes => {
-            start(step, held);
+            start(step, held, empties);
             Effect::GoesOn
         }
         Act::Stores(fill) => store(walk, fill, held),
@@ -125,7 +129,7 @@ fn halt<A: Allocator>(
     walk: &Walk<'_>,
     when: When,
     stop: Stop,
-    step: &Step<A>,
+    step: &Step<Memory<A>>,
     held: &mut StopRecord<A>,
 ) -> Effect
     ensures effect { (filled : List ℕ) →
@@ -142,7 +146,11 @@ fn halt<A: Allocator>(
 }
 
 /// Starts the program of a step that is an exec.
-fn start<A: Allocator>(step: &mut Step<A>, held: &mut StopRecord<A>)
+fn start<A: Allocator>(
+    step: &mut Step<Memory<A>>,
+    held: &mut StopRecord<A>,
+    empties: &mut Vec<Memory<A>, A>,
+)
     ensures context { (filled : List ℕ) → IfSome (program_of (step_of filled step.old))
         (λ image. context_of held.new
         ≡ context (with_start image.rip image.rsp held.old.regs) image.memory) }
@@ -152,7 +160,7 @@ fn start<A: Allocator>(step: &mut Step<A>, held: &mut StopRecord<A>)
         acts_at s (step_of filled step.new) (place + 1) ≡ acts_at s (step_of filled step.old) (place + 1) }
 {
     match step {
-        Step::Exec { image, .. } => put_in(image, held),
+        Step::Exec { image, .. } => put_in(image, held, empties),
         Step::Call(_) => {}
         Step::Fork(_) => {}
         Step::Thread(_) => {}
@@ -161,13 +169,35 @@ fn start<A: Allocator>(step: &mut Step<A>, held: &mut StopRecord<A>)
     }
 }
 
-/// Puts the program of an exec in. The image takes the old memory, which no one reads again.
-fn put_in<A: Allocator>(image: &mut Image<A>, held: &mut StopRecord<A>)
+/// Puts the program of an exec in.
+fn put_in<A: Allocator>(
+    image: &mut Image<Memory<A>>,
+    held: &mut StopRecord<A>,
+    empties: &mut Vec<Memory<A>, A>,
+)
     ensures memory { held.new.memory ≡ image.old.memory }
     ensures regs { held.new.regs ≡ with_start image.old.rip image.old.rsp held.old.regs }
 {
-    std::mem::swap(&mut held.memory, &mut image.memory);
+    put_memory_in(image, held, empties);
     held.regs = with_start(image.rip, image.rsp, &held.regs);
+}
+
+/// Puts the memory of a program in, and gives the pages of the old memory back. No allocator is at hand, so the image,
+/// which no one reads again, is left with memory of no page that was made before.
+pub(crate) fn put_memory_in<A: Allocator>(
+    image: &mut Image<Memory<A>>,
+    held: &mut StopRecord<A>,
+    empties: &mut Vec<Memory<A>, A>,
+)
+    ensures memory { held.new.memory ≡ image.old.memory }
+    ensures regs { held.new.regs ≡ held.old.regs }
+    ensures rip { image.new.rip ≡ image.old.rip }
+    ensures rsp { image.new.rsp ≡ image.old.rsp }
+{
+    std::mem::swap(&mut held.memory, &mut image.memory);
+    if let Some(empty) = empties.pop() {
+        image.memory = empty;
+    }
 }
 
 /// Writes what a call writes, or finds the address at which it faults.

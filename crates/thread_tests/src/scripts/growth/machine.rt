@@ -11,9 +11,9 @@ use trace_script::{Case, Machine};
 const EXEC: &[u8] =
     b"tracee 1 1 1 0\npage 0\ndata 0 00\ncall read 0 0 1 = 1 fill 0 61\nexec 0\npage 0\nexit 0\nend\n";
 
-/// Files, the row whose machine is made, and how often that grows: for an image of one page the lists of addresses and
-/// of pages and the page, then the steps, with the images of execs, and the bytes of fills.
-const MACHINES: [(&[u8], u32, u32); 3] = [(FORK, 0, 4), (FORK, 1, 1), (EXEC, 0, 8)];
+/// Files, the row whose machine is made, and how often that grows: for an image of one page the page and the lists of
+/// addresses and of pages, then the steps, with the images of execs, the bytes of fills, and the memories of no page.
+const MACHINES: [(&[u8], u32, u32); 3] = [(FORK, 0, 5), (FORK, 1, 2), (EXEC, 0, 9)];
 
 /// Whether a machine makes the first stop, which needs no memory.
 fn starts<A: Allocator + Copy>(alloc: A, machine: Machine<A>) -> bool {

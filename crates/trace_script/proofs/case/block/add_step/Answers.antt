@@ -1,11 +1,11 @@
 -- One more step is counted, and its bytes are added to those of the steps before it.
-use Rattle.std.proofs.Common.{◌≡◌, ◌∙◌, ◌+◌, ◌++◌, ◌∷◌, [], List, ap, arith, length}
+use Rattle.std.proofs.Common.{◌≡◌, ◌∙◌, ◌+◌, ◌++◌, ◌∷◌, [], List, ap, arith}
 use Rattle.std.proofs.lemmas.List.{length-map}
 use Rattle.trace_script.specs.Kept.{image_of, step_of, steps_of}
 use Rattle.trace_script.specs.OpenBlock.{filled_by}
 use Rattle.trace_script.specs.RawLine.{step_said}
 use Rattle.trace_script.specs.Script.{Script, Step}
-use Rattle.trace_script.proofs.OpenBlocks.{counted_births, counted_exec, few_births, kept_more, still_whole}
+use Rattle.trace_script.proofs.OpenBlocks.{counted_births, few_births, kept_more, memory_more, still_whole}
 use Rattle.trace_script.proofs.case.block.add_step.Goals as goal
 
 pub overflow_add-block : goal.overflow_add-block
@@ -38,12 +38,9 @@ returns-clause-counted g c =
     let after : steps_of all new ≡ before ++ said ∷ [] =
     kept_more filled (filled_by said) all old.steps.items new c.in_ok-kept.kept said c.in_ok-kept.ensures.filled
     c.in_ok-push.ensures.items c.requires.counted.whole c.in_ok-kept.ensures.step in
-    let at : c.len-at.result ≡ length before =
-    omega (arith, c.len-at.ensures, old.steps.ok.0, length-map old.steps.items (step_of filled)) in
     record {
-      exec = c.exec_after-block.ensures
-          ∙ counted_exec c.args.block.now.exec c.len-at.result before (steps_of all new) said c.requires.counted.exec at
-          after;
+      memory = memory_more (image_of old.image) c.args.block.now.memory c.put_in_force.new.memory before
+          (steps_of all new) said c.requires.counted.memory c.put_in_force.ensures after;
       births = ap (λ n. c.args.block.now.births + n) c.births_of.ensures.births
           ∙ counted_births c.args.block.now.births before (steps_of all new) said c.requires.counted.births after;
       whole = still_whole filled (filled_by said) all old.steps.items new c.in_ok-kept.kept said

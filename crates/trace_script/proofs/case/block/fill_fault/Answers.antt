@@ -8,7 +8,7 @@ use Rattle.trace_script.proofs.case.block.fill_fault.Goals as goal
 pub returns-in-Ok : goal.returns-in-Ok
 returns-in-Ok g c =
     let fill = c.in-Some.fill in
-    let memory = c.args.image.now.memory in
+    let memory = c.args.memory.now in
     let tested = rw c.in-Some.is at c.requires in
     rw c.in-Some.is (
     ap (λ b. unless b Unmapped)
@@ -17,7 +17,7 @@ returns-in-Ok g c =
 pub returns-in-Err : goal.returns-in-Err
 returns-in-Err g c =
     let fill = c.in-Some.fill in
-    let memory = c.args.image.now.memory in
+    let memory = c.args.memory.now in
     let tested = rw c.in-Some.is at c.requires in
     rw c.in-Some.is (
     ap (λ b. unless b Unmapped)

@@ -20,5 +20,6 @@ returns-clause-line g c =
 
 pub returns-clause-counted : goal.returns-clause-counted
 returns-clause-counted g c =
-    still_counted c.load_part.result c.args.draft.now.block c.load_part.new.script (part_said c.args.part)
-    c.requires.counted c.load_part.ensures.script c.load_part.ensures.filled
+    still_counted c.load_part.result c.args.draft.now.block c.load_part.new.script c.load_part.new.memory
+    (part_said c.args.part) c.requires.counted c.load_part.ensures.script c.load_part.ensures.filled
+    c.load_part.ensures.in_force

@@ -5,11 +5,11 @@ use Rattle.std.proofs.lemmas.Bool.Decides.{nat_tests}
 use Rattle.text_lines.specs.Ranges.{◌>>=◌}
 use Rattle.trace_pages.specs.declared.fault.Fault.{Fault}
 use Rattle.trace_pages.specs.declared.map_error.MapError.{MapError}
-use Rattle.trace_pages.specs.FlatMemory.{FlatMemory, Full, Absent, Top, RunEnd, mapped, run_end, stored}
+use Rattle.trace_pages.specs.FlatMemory.{FlatMemory, Full, Absent, Top, RunEnd, run_end, stored}
 use Rattle.trace_pages.specs.Memory.{map_refusal, store_answer}
 use Rattle.trace_script.specs.declared.cause.Cause.{Cause}
 use Rattle.trace_script.specs.declared.cause.Cause.TheVariants.{NoMemory, Unmapped}
-use Rattle.trace_script.specs.CaseFile.{is_full, is_mapped, page_loaded, part_loaded, part_of_last, part_of_script}
+use Rattle.trace_script.specs.CaseFile.{is_full, is_mapped, part_loaded, part_of_last, part_of_script}
 use Rattle.trace_script.specs.CaseFile.{part_of_step}
 use Rattle.trace_script.specs.CaseLine.{Part, bytes_written, is_byte_word}
 use Rattle.trace_script.specs.CaseLine as line
@@ -39,18 +39,6 @@ pub can_map : (memory : FlatMemory) (image : Image) (page : ℕ) (done : Unit {0
 can_map memory image page done same free =
     ap (λ (m : FlatMemory). map_refusal m page) (sym same) ∙ none_refused done (map_refusal memory page) free
 
-pub page_is : (image : Image) (page : ℕ) (new : FlatMemory) → map_refusal image.memory page ≡ None
-    → new ≡ mapped image.memory page
-    → page_loaded image page (map_refusal image.memory page)
-    ≡ Ok (record { memory = new; rip = image.rip; rsp = image.rsp })
-page_is image page new free maps =
-    ap (page_loaded image page) free
-    ∙ ap (λ (m : FlatMemory). Ok (record { memory = m; rip = image.rip; rsp = image.rsp })) (sym maps)
-
-pub page_is_ok : (image : Image) (page : ℕ) → map_refusal image.memory page ≡ None
-    → IsOk (page_loaded image page (map_refusal image.memory page))
-page_is_ok image page free = rw free refl
-
 -- ---- bytes
 
 full_is : (end : RunEnd) → is_full end ≡ is_ok (store_answer end)
@@ -75,7 +63,7 @@ data_refused image address word is refused =
     ap (λ b. cond b (Ok (with_memory image (stored image.memory address (bytes_written word)))) (Err Unmapped))
     (mapped_as_tested image.memory address word is ∙ refused)
 
-pub data_loaded : (image : Image) (address : ℕ) (word : List ℕ) → is_byte_word word ≡ true
+data_loaded : (image : Image) (address : ℕ) (word : List ℕ) → is_byte_word word ≡ true
     → is_ok (store_answer (run_end image.memory address (length word / 2))) ≡ true
     → part_loaded image (line.Data address (bytes_written word))
     ≡ Ok (record { memory = stored image.memory address (bytes_written word); rip = image.rip; rsp = image.rsp })
@@ -87,16 +75,6 @@ pub data_is_ok : (image : Image) (address : ℕ) (word : List ℕ) → is_byte_w
     → is_ok (store_answer (run_end image.memory address (length word / 2))) ≡ true
     → IsOk (part_loaded image (line.Data address (bytes_written word)))
 data_is_ok image address word is taken = rw (data_loaded image address word is taken) refl
-
-pub data_is : (image : Image) (address : ℕ) (word bytes : List ℕ) (new : FlatMemory) → is_byte_word word ≡ true
-    → is_ok (store_answer (run_end image.memory address (length word / 2))) ≡ true
-    → bytes ≡ bytes_written word → new ≡ stored image.memory address bytes
-    → part_loaded image (line.Data address (bytes_written word))
-    ≡ Ok (record { memory = new; rip = image.rip; rsp = image.rsp })
-data_is image address word bytes new is taken same stores =
-    data_loaded image address word is taken
-    ∙ ap (λ (m : FlatMemory). Ok (record { memory = m; rip = image.rip; rsp = image.rsp }))
-    (ap (stored image.memory address) (sym same) ∙ sym stores)
 
 -- what is tested on a memory is known of an image that has the same
 pub as_tested : (memory : FlatMemory) (image : Image) (address count : ℕ) (taken : Bool) → memory ≡ image.memory

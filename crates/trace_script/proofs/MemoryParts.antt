@@ -1,5 +1,5 @@
 -- Memory as parts, with one part more: its bytes come after those of all parts before it.
-use Rattle.std.proofs.Common.{refl, ◌≡◌, ◌+◌, ◌-◌, ◌≤◌, ◌++◌, ◌∷◌, [], ℕ, List, length, take, drop, ap, sym, subst}
+use Rattle.std.proofs.Common.{refl, ◌≡◌, ◌+◌, ◌++◌, ◌∷◌, [], ℕ, List, length, take, drop, ap, sym, subst}
 use Rattle.std.proofs.Common.{◌∙◌, arith}
 use Rattle.std.specs.FinMap as finite
 use Rattle.std.proofs.lemmas.List.{drop-append-le, length-append, length-drop, take-append-le, take_all}
@@ -44,9 +44,11 @@ can_follow : (m : FlatMemory) (parts : List MemoryPart) (bytes more : List ℕ) 
 can_follow m [] [] more part sized each new = (new, tt)
 can_follow m [] (byte ∷ bytes) more part sized each new = absurd (omega (arith, sized))
 can_follow m (first ∷ parts) bytes more part sized each new =
-    rw (first_bytes first parts bytes more sized, other_bytes first parts bytes more sized)
-    (each.0, can_follow (first_added m first bytes) parts (drop first.len bytes) more part
-    (others_sized first parts bytes sized) each.1 new)
+    rw (first_bytes first parts bytes more sized, other_bytes first parts bytes more sized) (
+      each.0,
+      can_follow (first_added m first bytes) parts (drop first.len bytes) more part
+          (others_sized first parts bytes sized) each.1 new,
+    )
 
 sized_more : (parts : List MemoryPart) (part : MemoryPart)
     → bytes_in_parts (parts ++ part ∷ []) ≡ bytes_in_parts parts + part.len

@@ -95,13 +95,7 @@ pub(crate) fn load_part<A: Allocator + Copy>(
     if count == 0 {
         return load_in_image(alloc, digits, &mut script.image, memory, part);
     }
-    load_in_step(
-        alloc,
-        digits,
-        &mut script.steps[count - 1],
-        memory,
-        part,
-    )
+    load_in_step(alloc, digits, &mut script.steps[count - 1], memory, part)
 }
 
 /// Loads one more part of an exec's image, whose memory this is.

@@ -39,9 +39,7 @@ pub(crate) fn copy_image<A: Allocator + Copy>(
     })
 }
 
-fn copy_step<A: Allocator + Copy>(
-    step: &Step<MemoryParts<A>>,
-) -> Result<Step<Memory<A>>, NoMemory>
+fn copy_step<A: Allocator + Copy>(step: &Step<MemoryParts<A>>) -> Result<Step<Memory<A>>, NoMemory>
     ensures { (filled : List ℕ) → IfOk result (λ copy. step_of filled copy ≡ step_of filled step.now) }
 {
     match step {

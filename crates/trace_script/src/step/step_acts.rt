@@ -20,7 +20,11 @@ use trace_record::{Death, Stop};
 
 /// The act of a step at a place, or None at its end.
 #[inline(always)]
-pub(crate) fn act_at<A: Allocator>(step: &Step<Memory<A>>, setting: &Setting, place: u32) -> Option<Act>
+pub(crate) fn act_at<A: Allocator>(
+    step: &Step<Memory<A>>,
+    setting: &Setting,
+    place: u32,
+) -> Option<Act>
     ensures { (filled : List ℕ) → option_map (act_in filled (step_of filled step.now)) result
         ≡ option_map Some (slice_get (acts_of setting.now (step_of filled step.now)) place) }
 {
@@ -59,7 +63,11 @@ fn act_in_call<A: Allocator>(step: &Step<Memory<A>>, setting: &Setting, place: u
 
 /// The act at a place after the seccomp stop.
 #[inline(always)]
-fn act_after_filter<A: Allocator>(step: &Step<Memory<A>>, setting: &Setting, place: u32) -> Option<Act>
+fn act_after_filter<A: Allocator>(
+    step: &Step<Memory<A>>,
+    setting: &Setting,
+    place: u32,
+) -> Option<Act>
     ensures { (filled : List ℕ) → option_map (act_in filled (step_of filled step.now)) result
         ≡ option_map Some (slice_get (after_filter setting.now (step_of filled step.now)) place) }
 {

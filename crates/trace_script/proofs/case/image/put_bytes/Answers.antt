@@ -1,9 +1,9 @@
 -- The addresses are tested before the bytes are decoded, and then the store is done.
-use Rattle.std.proofs.Common.{◌≡◌, ◌/◌, ◌∙◌, Bool, ap, is_ok, length, not, sym}
+use Rattle.std.proofs.Common.{◌/◌, ◌∙◌, ap, is_ok, length, not, sym}
 use Rattle.trace_pages.specs.FlatMemory.{FlatMemory, stored}
 use Rattle.trace_pages.proofs.Memories.{stored_is}
 use Rattle.trace_script.specs.Kept.{image_of}
-use Rattle.trace_script.proofs.Images.{as_tested, can_store, data_is, data_is_ok, data_refused, tested_store}
+use Rattle.trace_script.proofs.Images.{as_tested, can_store, data_is_ok, data_refused, tested_store}
 use Rattle.trace_script.proofs.case.image.put_bytes.Goals as goal
 
 pub returns-then-is_err-clause-image : goal.returns-then-is_err-clause-image

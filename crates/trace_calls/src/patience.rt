@@ -22,23 +22,24 @@ pub struct Patience {
 }
 
 impl Patience {
-    /// Before the first look of a thread that will be answered soon: it sleeps where 256 looks in a row have found nothing.
+    /// Before the first look of a thread that will soon have an answer: it sleeps after 256 looks in a row that found
+    /// nothing.
     pub fn new() -> Patience
         ensures { (result.most ≡ 256) × (result.looks ≡ 1) }
     {
         Patience::with_looks(LOOKS)
     }
 
-    /// Before the first look of a thread that sleeps where so many looks in a row have found nothing: with 1, or 0, after
-    /// each. It is for one that may be answered late or never, and whose looks would take the processors from others.
+    /// Before the first look of a thread that sleeps after `most` looks in a row that found nothing; with 1 or 0, after each
+    /// look. A small number is for a thread that may wait for long, so that its looks leave the processors to others.
     pub fn with_looks(most: u32) -> Patience
         ensures { (result.most ≡ most) × (result.looks ≡ 1) }
     {
         Patience { most, looks: 1 }
     }
 
-    /// Waits after a look that found nothing: it lets other threads run, or sleeps a millisecond where as many looks as it
-    /// has have found nothing since the last sleep. It takes no memory.
+    /// Waits after a look that found nothing: it lets other threads run, or sleeps a millisecond if this was the last of
+    /// the looks before a sleep. It takes no memory.
     pub fn wait<R: Clock>(&mut self, rt: &R)
         ensures most { self.new.most ≡ self.old.most }
         ensures looks { self.old.looks < self.old.most → self.new.looks ≡ self.old.looks + 1 }

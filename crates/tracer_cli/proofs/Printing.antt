@@ -61,7 +61,7 @@ at_last a b old all new rest so_far none = (
   ap (λ t. so_far.0 ++ t) (sym (append-nil new) ∙ ap (λ t. new ++ t) (sym none)) ∙ so_far.2,
 )
 
--- what is cut off behind a text that was collected, where nothing was collected before it
+-- a first text is written or still in the buffer, and a second one is cut off: then the two together are cut off
 pub cut_behind : {T E : Type 0} (result : Result T E) (a b c : Option (List ℕ)) (old first mid second : List ℕ)
     → old ≡ [] → IsCollected a b old first mid → IfErr result (λ _. IsCutOff b c (mid ++ second))
     → IfErr result (λ _. IsCutOff a c (first ++ second))

@@ -56,7 +56,7 @@ fn write_enough<A: Allocator, W: Write>(out: &mut String<A>, output: &mut W) -> 
     Ok(())
 }
 
-/// Prints an outcome. Where there is no room for its text, which there is, nothing is written.
+/// Prints an outcome. Its text fits the buffer (`room`); if memory were refused all the same, nothing would be written.
 fn print_outcome<A: Allocator, W: Write>(
     out: &mut String<A>,
     output: &mut W,

@@ -160,9 +160,9 @@ fn print_all<A: Allocator, W: Write>(
     print_end(out, output, count, explored.places, required)
 }
 
-/// Prints what was explored: the outcomes that have each reply, and in which each condition holds, and how many they and
-/// the places are. `required`: the file has replies or conditions. Each thread has a name, or none. The room for the
-/// text is made before the first byte is written.
+/// Prints what was explored: the outcomes that have each reply, and in which each condition holds, and how many they
+/// and the places are. `required`: the file has replies or conditions. Each thread has a name, or none. The room for
+/// the text is made before the first byte is written.
 pub(crate) fn print_outcomes<A: Allocator, W: Write>(
     alloc: A,
     program: &ToldProgram<'_, '_, A>,

@@ -1,8 +1,8 @@
 -- What is known of an open block: the memory that is in force, its births, and the bytes of its fills.
 use Rattle.std.proofs.Common.{refl, ◌≡◌, ◌+◌, ◌≤◌, ◌++◌, ◌∷◌, [], ℕ, zero, suc, List, length, ap}
-use Rattle.std.proofs.Common.{sym, ◌∙◌, arith, drop, set, take, append_assoc, length-append}
+use Rattle.std.proofs.Common.{sym, ◌∙◌, arith, drop, get_or, set, take, append_assoc, length-append}
 use Rattle.std.proofs.Math.Seq.{drop-append_seam, take-append_seam}
-use Rattle.std.proofs.lemmas.List.{append-nil, map-append}
+use Rattle.std.proofs.lemmas.List.{append-nil, map-append, set-get_or}
 use Rattle.trace_pages.specs.FlatMemory.{FlatMemory}
 use Rattle.trace_script.specs.declared.script.Step.{Step as KeptStep}
 use Rattle.trace_script.specs.declared.script.Step.TheVariants as kept
@@ -57,6 +57,16 @@ memory_at_last image filled (s ∷ []) (suc i) last end = absurd (omega arith)
 memory_at_last image filled (s ∷ next ∷ steps) zero last end = absurd (omega arith)
 memory_at_last image filled (s ∷ next ∷ steps) (suc i) last end =
     memory_at_last (image_after image (step_of filled s)) filled (next ∷ steps) i last (omega arith)
+
+-- the same of steps as they are
+pub memory_by_last : (image : Image) (filled : List ℕ) (steps : List (KeptStep FlatMemory)) (i : ℕ)
+    (last : KeptStep FlatMemory) (memory : FlatMemory) → i + 1 ≡ length steps → last ≡ get_or steps i last
+    → memory ≡ (in_force image (steps_of filled steps)).memory
+    → memory ≡ kept_after (in_force image (steps_of filled (take i steps))).memory last
+memory_by_last image filled steps i last memory end is_last is =
+    is ∙ ap (λ ss. (in_force image (steps_of filled ss)).memory) (sym (set-get_or steps i last))
+    ∙ memory_at_last image filled steps i (get_or steps i last) end
+    ∙ ap (kept_after (in_force image (steps_of filled (take i steps))).memory) (sym is_last)
 
 -- the memory in force is that of the last step, if it is an exec
 pub kept_twice : (memory : FlatMemory) (s : KeptStep FlatMemory)

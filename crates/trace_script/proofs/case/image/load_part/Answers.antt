@@ -1,6 +1,6 @@
 -- The last step's image gets the part, and the memory stays the one in force.
 use Rattle.std.proofs.Common.{◌≡◌, ◌∙◌, ◌+◌, ◌-◌, List, OnOk, ap, arith, get_or, length, set, subst, sym, take}
-use Rattle.std.proofs.lemmas.List.{length-map, map-set, set-get_or}
+use Rattle.std.proofs.lemmas.List.{length-map, map-set}
 use Rattle.std.proofs.Math.ListN.{get_or-map}
 use Rattle.trace_pages.specs.FlatMemory.{FlatMemory}
 use Rattle.trace_script.specs.CaseFile.{in_force, part_of_script, part_of_step}
@@ -10,7 +10,7 @@ use Rattle.trace_script.specs.RawLine.{part_said}
 use Rattle.trace_script.specs.Reading.{TakesLine}
 use Rattle.trace_script.specs.Script.{Script, Step}
 use Rattle.trace_script.proofs.Images.{part_at_last, script_with, takes_part}
-use Rattle.trace_script.proofs.OpenBlocks.{kept_twice, memory_at_last, no_step_yet}
+use Rattle.trace_script.proofs.OpenBlocks.{kept_twice, memory_at_last, memory_by_last, no_step_yet}
 use Rattle.trace_script.proofs.case.image.load_part.Goals as goal
 
 pub returns-clause-script : goal.returns-clause-script
@@ -64,11 +64,7 @@ load_in_step-requires-clause-in_force g c =
     let last = c.index_mut.result.now in
     let before = (in_force image (steps_of filled (take i items))).memory in
     let end : i + 1 ≡ length items = omega (arith, c.len-count.ensures, c.if-count-eq0.false, script.steps.ok.0) in
-    let is : c.args.memory.now ≡ kept_after before last =
-    c.requires.in_force
-    ∙ ap (λ steps. (in_force image (steps_of filled steps)).memory) (sym (set-get_or items i last))
-    ∙ memory_at_last image filled items i (get_or items i last) end
-    ∙ ap (kept_after before) (sym c.index_mut.ensures.value) in
+    let is = memory_by_last image filled items i last c.args.memory.now end c.index_mut.ensures.value c.requires.in_force in
     is ∙ kept_twice before last ∙ ap (λ (m : FlatMemory). kept_after m last) (sym is)
 
 pub returns-clause-in_force : goal.returns-clause-in_force
@@ -78,14 +74,10 @@ returns-clause-in_force g c =
     let filled = script.filled.items in
     let items = script.steps.items in
     let i = c.len-count.result - 1 in
-    let last = c.index_mut.result.now in
     let before = (in_force image (steps_of filled (take i items))).memory in
     let end : i + 1 ≡ length items = omega (arith, c.len-count.ensures, c.if-count-eq0.false, script.steps.ok.0) in
-    let is : c.args.memory.now ≡ kept_after before last =
-    c.requires.in_force
-    ∙ ap (λ steps. (in_force image (steps_of filled steps)).memory) (sym (set-get_or items i last))
-    ∙ memory_at_last image filled items i (get_or items i last) end
-    ∙ ap (kept_after before) (sym c.index_mut.ensures.value) in
     let now : FlatMemory → Type 0 = λ m. OnOk c.load_in_step.result (c.load_in_step.new.memory ≡ m) in
     subst now (sym (memory_at_last image filled items i c.load_in_step.new.step end))
-    (c.load_in_step.ensures.in_force before is)
+    (c.load_in_step.ensures.in_force before
+    (memory_by_last image filled items i c.index_mut.result.now c.args.memory.now end c.index_mut.ensures.value
+    c.requires.in_force))

@@ -180,36 +180,6 @@ fn a_command_that_is_not_there_is_named(rt: HostRuntime) -> Result<(), Fail> {
     Ok(())
 }
 
-#[test]
-fn what_cannot_be_written_is_reported(rt: HostRuntime) -> Result<(), Fail> {
-    for (words, room, status) in [
-        (["replay"].as_slice(), 0, 3),
-        (&["replay"], 1, 3),
-        (&["replay"], 7, 3),
-        (&["replay"], 8, 0),
-        (&["help"], 0, 3),
-        (&["replay", "--help"], 20, 3),
-    ] {
-        let line = command_line(&rt, words)?;
-        let mut output = narrow(&rt, room);
-        let mut errors = Vec::new(rt.alloc());
-        let ended = program(&rt, line.as_slice(), &mut FILE, &mut output, &mut errors);
-        same(&rt, &(words, room, ended), &(words, room, status));
-        same(&rt, &(words, output.taken.len()), &(words, room));
-        let expected = if status == 0 {
-            b"".as_slice()
-        } else {
-            CANNOT_WRITE
-        };
-        same(
-            &rt,
-            &(words, room, errors.as_slice()),
-            &(words, room, expected),
-        );
-    }
-    Ok(())
-}
-
 /// Two tracers got one stop, which is forbidden at line 7.
 const TWICE: &[u8] = b"row 100 100 77 0
 thread tracee
@@ -220,30 +190,48 @@ thread two
 wait 100 1 = stop 1 0x80057f
 ";
 
-/// The text of a file without a line has 51 bytes, and `forbidden: line 7` with its line feed 18.
+/// The outcome of a litmus file without a line has 51 bytes, and `forbidden: line 7` with its line feed 18.
 #[test]
-fn outcomes_that_cannot_be_written_are_reported(rt: HostRuntime) -> Result<(), Fail> {
-    for (file, room, status) in [
-        (b"".as_slice(), 0, 3),
-        (b"", 50, 3),
-        (b"", 51, 0),
-        (TWICE, 0, 3),
-        (TWICE, 17, 3),
-        (TWICE, 18, 4),
+fn what_cannot_be_written_is_reported(rt: HostRuntime) -> Result<(), Fail> {
+    for (words, file, room, status) in [
+        (["replay"].as_slice(), FILE, 0, 3),
+        (&["replay"], FILE, 1, 3),
+        (&["replay"], FILE, 7, 3),
+        (&["replay"], FILE, 8, 0),
+        (&["help"], FILE, 0, 3),
+        (&["replay", "--help"], FILE, 20, 3),
+        (&["explore"], b"", 0, 3),
+        (&["explore"], b"", 50, 3),
+        (&["explore"], b"", 51, 0),
+        (&["explore"], TWICE, 0, 3),
+        (&["explore"], TWICE, 17, 3),
+        (&["explore"], TWICE, 18, 4),
     ] {
-        let line = command_line(&rt, &["explore"])?;
+        let line = command_line(&rt, words)?;
         let mut input = file;
         let mut output = narrow(&rt, room);
         let mut errors = Vec::new(rt.alloc());
         let ended = program(&rt, line.as_slice(), &mut input, &mut output, &mut errors);
-        same(&rt, &(file, room, ended), &(file, room, status));
-        same(&rt, &(file, output.taken.len()), &(file, room));
+        same(
+            &rt,
+            &(words, file, room, ended),
+            &(words, file, room, status),
+        );
+        same(
+            &rt,
+            &(words, file, output.taken.len()),
+            &(words, file, room),
+        );
         let expected = if status == 3 {
             CANNOT_WRITE
         } else {
             b"".as_slice()
         };
-        same(&rt, &(file, errors.as_slice()), &(file, expected));
+        same(
+            &rt,
+            &(words, room, errors.as_slice()),
+            &(words, room, expected),
+        );
     }
     Ok(())
 }

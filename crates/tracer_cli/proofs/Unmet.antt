@@ -23,12 +23,13 @@ use Rattle.tracer_cli.specs.declared.litmus.required.NumberedLine.{NumberedLine}
 use Rattle.tracer_cli.specs.declared.litmus.required.Condition.{Condition}
 use Rattle.tracer_cli.specs.declared.litmus.required.Condition.TheVariants as condition
 use Rattle.tracer_cli.specs.Chosen.{have_come_true, is_chosen}
-use Rattle.tracer_cli.specs.Conditions.{agrees, condition_holds, conditions_hold, has_name}
+use Rattle.tracer_cli.specs.Conditions.{agrees, condition_holds, conditions_hold}
 use Rattle.tracer_cli.specs.Explored.{AreOutcomes, CanMeet, IsFirstUnmet, all_required, chosen_with, commands_with}
 use Rattle.tracer_cli.specs.Explored.{forbids, have_numbers_to, is_chosen_with}
 use Rattle.tracer_cli.specs.LitmusFile.{LitmusContent, plain_lines}
 use Rattle.tracer_cli.specs.LitmusGrammar.{IsLitmusCall}
 use Rattle.tracer_cli.specs.Required.{conditions_with, program_with, required_line}
+use Rattle.tracer_cli.specs.StateName.{has_name}
 use Rattle.tracer_cli.specs.Waiting.{state_at}
 use Rattle.tracer_cli.proofs.CameTrue.{came_true, true_came}
 use Rattle.tracer_cli.proofs.LitmusForward.{forward_with}

@@ -1,28 +1,15 @@
 -- When a condition holds where an outcome ends: of the last states of its tracees, and of the threads that wait.
 use Rattle.std.specs.Prelude.{ℕ, Bool, true, false, not, List, is_some}
 use Rattle.std.specs.List.{list_all, list_any}
-use Rattle.stop_history.specs.declared.state.State.{State}
-use Rattle.stop_history.specs.declared.state.State.TheVariants as state
 use Rattle.stop_explorer.specs.declared.command.ThreadCommand.{ThreadCommand}
 use Rattle.stop_explorer.specs.Program.{Log, command_after, own_turns}
 use Rattle.stop_explorer.specs.Run.{EndedRun}
 use Rattle.tracer_cli.specs.declared.litmus.condition.Sense.{Sense}
 use Rattle.tracer_cli.specs.declared.litmus.condition.Sense.TheVariants.{Is, IsNot}
-use Rattle.tracer_cli.specs.declared.litmus.condition.StateName.{StateName}
-use Rattle.tracer_cli.specs.declared.litmus.condition.StateName.TheVariants as name
 use Rattle.tracer_cli.specs.declared.litmus.required.Condition.{Condition}
 use Rattle.tracer_cli.specs.declared.litmus.required.Condition.TheVariants as condition
+use Rattle.tracer_cli.specs.StateName.{has_name}
 use Rattle.tracer_cli.specs.Waiting.{state_at}
-
--- a state by its name, whatever its numbers
-abbrev pub has_name : StateName → State → Bool
-has_name name.Unborn state.Unborn = true
-has_name name.Running state.Running = true
-has_name name.Stopped (state.Stopped number status) = true
-has_name name.Claimed (state.Claimed number tracer) = true
-has_name name.Dead (state.Dead number status) = true
-has_name name.Reaped state.Reaped = true
-has_name named at = false
 
 abbrev pub agrees : Sense → (is : Bool) → Bool
 agrees Is is = is

@@ -25,4 +25,5 @@ pub mod Required
 pub mod Run
 pub mod Shown
 pub mod Spelling
+pub mod StateName
 pub mod Waiting

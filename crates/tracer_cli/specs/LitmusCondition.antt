@@ -1,6 +1,6 @@
 -- The line of a condition, by the words after `only`: what has to hold where an outcome ends, or the first fault in the
 -- order of causes. All words are tested (UnknownWord) before any number (BadNumber).
-use Rattle.std.specs.Prelude.{◌==◌, ◌&&◌, ◌∷◌, [], ℕ, Bool, List, length, codes, bytes_eq, Result, Ok, Err}
+use Rattle.std.specs.Prelude.{◌==◌, ◌&&◌, ℕ, Bool, List, length, codes, bytes_eq, Result, Ok, Err}
 use Rattle.std.specs.Prelude.{if◌then◌else◌}
 use Rattle.text_lines.specs.declared.fault.LineFault.{LineFault}
 use Rattle.text_lines.specs.declared.fault.LineFault.TheVariants.{UnknownWord}
@@ -12,9 +12,9 @@ use Rattle.tracer_cli.specs.declared.litmus.condition.LitmusCondition.{LitmusCon
 use Rattle.tracer_cli.specs.declared.litmus.condition.LitmusCondition.TheVariants as line
 use Rattle.tracer_cli.specs.declared.litmus.condition.Sense.{Sense}
 use Rattle.tracer_cli.specs.declared.litmus.condition.Sense.TheVariants.{Is, IsNot}
-use Rattle.tracer_cli.specs.declared.litmus.condition.StateName.{StateName}
-use Rattle.tracer_cli.specs.declared.litmus.condition.StateName.TheVariants as name
+use Rattle.tracer_cli.specs.declared.state_name.StateName.{StateName}
 use Rattle.tracer_cli.specs.LitmusReply.{is_any_word}
+use Rattle.tracer_cli.specs.StateName.{state_names}
 
 -- ---- words
 
@@ -26,11 +26,6 @@ is_not_word word = bytes_eq word (codes "not")
 
 abbrev pub is_waits_word : List ℕ → Bool
 is_waits_word word = bytes_eq word (codes "waits")
-
-abbrev pub state_names : List (List ℕ × StateName)
-state_names =
-    (codes "unborn", name.Unborn) ∷ (codes "running", name.Running) ∷ (codes "stopped", name.Stopped)
-    ∷ (codes "claimed", name.Claimed) ∷ (codes "dead", name.Dead) ∷ (codes "reaped", name.Reaped) ∷ []
 
 -- ---- conditions
 

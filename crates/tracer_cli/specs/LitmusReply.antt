@@ -22,9 +22,10 @@ use Rattle.tracer_cli.specs.declared.litmus.keyword.CommandKeyword.TheVariants a
 use Rattle.tracer_cli.specs.declared.litmus.line.LitmusReply.{LitmusReply}
 use Rattle.tracer_cli.specs.declared.litmus.reply.GotWord.{GotWord}
 use Rattle.tracer_cli.specs.declared.litmus.reply.GotWord.TheVariants as got_word
-use Rattle.tracer_cli.specs.declared.litmus.reply.StateWord.{StateWord}
-use Rattle.tracer_cli.specs.declared.litmus.reply.StateWord.TheVariants as state_word
+use Rattle.tracer_cli.specs.declared.state_name.StateName.{StateName}
+use Rattle.tracer_cli.specs.declared.state_name.StateName.TheVariants as name
 use Rattle.tracer_cli.specs.Grammar.{tracer_number}
+use Rattle.tracer_cli.specs.StateName.{state_names}
 
 -- ---- words
 
@@ -53,15 +54,6 @@ names_several other named = false
 -- what a claim can get
 abbrev pub got_words : List (List ℕ × GotWord)
 got_words = (codes "stop", got_word.Stop) ∷ (codes "ended", got_word.Ended) ∷ []
-
--- the states that are one word
-abbrev pub plain_states : List (List ℕ × WantedState)
-plain_states = (codes "unborn", state.Unborn) ∷ (codes "running", state.Running) ∷ (codes "reaped", state.Reaped) ∷ []
-
--- the states that are a word and two numbers
-abbrev pub numbered_states : List (List ℕ × StateWord)
-numbered_states =
-    (codes "stopped", state_word.Stopped) ∷ (codes "claimed", state_word.Claimed) ∷ (codes "dead", state_word.Dead) ∷ []
 
 -- the refusals that a publish does not wait out
 abbrev pub publish_refusals : List (List ℕ × Refused)
@@ -120,23 +112,30 @@ got_told keyword.Look got = answer.Saw got
 got_told keyword.Peek got = answer.Saw got
 got_told other got = answer.Got got
 
-abbrev pub state_with_number : StateWord → (number : Option ℕ) → (last : List ℕ) → Result WantedState LineFault
-state_with_number state_word.Stopped number status = wanted_status status >>= λ s. Ok (state.Stopped number s)
-state_with_number state_word.Claimed number tracer = wanted_tracer tracer >>= λ c. Ok (state.Claimed number c)
-state_with_number state_word.Dead number status = wanted_status status >>= λ s. Ok (state.Dead number s)
+-- a state that is one word
+abbrev pub plain_state : StateName → Result WantedState LineFault
+plain_state name.Unborn = Ok state.Unborn
+plain_state name.Running = Ok state.Running
+plain_state name.Reaped = Ok state.Reaped
+plain_state other = Err UnknownWord
 
 -- stopped N STATUS, claimed N TRACER, dead N STATUS
-abbrev pub numbered_state : (name number last : List ℕ) → Result WantedState LineFault
-numbered_state name number last = do
-  w ← value_beside numbered_states name
-  n ← wanted_stop number
-  state_with_number w n last
+abbrev pub numbered_state : StateName → (number last : List ℕ) → Result WantedState LineFault
+numbered_state name.Stopped number status =
+    wanted_stop number >>= λ n. wanted_status status >>= λ s. Ok (state.Stopped n s)
+numbered_state name.Claimed number tracer =
+    wanted_stop number >>= λ n. wanted_tracer tracer >>= λ c. Ok (state.Claimed n c)
+numbered_state name.Dead number status =
+    wanted_stop number >>= λ n. wanted_status status >>= λ s. Ok (state.Dead n s)
+numbered_state other number last = Err UnknownWord
 
 -- the states of a replay
 abbrev pub state_of_words : List (List ℕ) → Result WantedState LineFault
 state_of_words words =
-    if length words == 1 then value_beside plain_states (nth_word words 0)
-    else if length words == 3 then numbered_state (nth_word words 0) (nth_word words 1) (nth_word words 2)
+    if length words == 1 then (value_beside state_names (nth_word words 0) >>= plain_state)
+    else if length words == 3
+    then (value_beside state_names (nth_word words 0) >>= λ named.
+    numbered_state named (nth_word words 1) (nth_word words 2))
     else Err UnknownWord
 
 -- ---- what a command may be answered about a tracee

@@ -5,24 +5,15 @@ use Rattle.std.specs.Prelude.{Option, None, codes, decimal, bytes_eq, slice_inde
 use Rattle.std.specs.List.{list_any, range_with_len}
 use Rattle.stop_history.specs.declared.roster.Row.{Row}
 use Rattle.stop_history.specs.declared.state.State.{State}
-use Rattle.stop_history.specs.declared.state.State.TheVariants as state
 use Rattle.stop_explorer.specs.declared.command.ThreadCommand.{ThreadCommand}
 use Rattle.stop_explorer.specs.Program.{Log}
 use Rattle.stop_explorer.specs.Run.{EndedRun}
 use Rattle.tracer_cli.specs.declared.outcomes.ends.Tally.{Tally}
 use Rattle.tracer_cli.specs.Conditions.{waits_at_end}
 use Rattle.tracer_cli.specs.OutcomeText.{allowed_line, counts_line, name_at, thread_word}
+use Rattle.tracer_cli.specs.StateName.{state_word}
 
 -- ---- one end
-
-abbrev pub state_word : State → List ℕ
-state_word state.Absent = codes "absent"
-state_word state.Unborn = codes "unborn"
-state_word state.Running = codes "running"
-state_word (state.Stopped number status) = codes "stopped"
-state_word (state.Claimed number tracer) = codes "claimed"
-state_word (state.Dead number status) = codes "dead"
-state_word state.Reaped = codes "reaped"
 
 -- words with a comma between them
 abbrev pub more_listed : List (List ℕ) → List ℕ

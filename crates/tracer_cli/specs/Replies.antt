@@ -16,6 +16,7 @@ use Rattle.stop_history.specs.State.{last_number, state_after}
 use Rattle.tracer_cli.specs.declared.command.Command.{Command}
 use Rattle.tracer_cli.specs.declared.command.Command.TheVariants as command
 use Rattle.tracer_cli.specs.declared.order.Order.{Order}
+use Rattle.tracer_cli.specs.StateName.{state_word}
 
 -- six hexadecimal digits in lower case, zeros in front
 abbrev pub six_hex : ℕ → List ℕ
@@ -55,15 +56,15 @@ abbrev pub done_text : List ℕ → List Row → Result (Unit {0}) Refused → L
 done_text word rows (Ok done) = word
 done_text word rows (Err refusal) = refusal_text rows refusal
 
--- no command of a file is to an absent row
+-- what follows a state's word: its numbers
+abbrev pub state_details : State → List ℕ
+state_details (state.Stopped number status) = codes " " ++ at_status number status
+state_details (state.Claimed number tracer) = codes " " ++ (decimal number ++ (codes " " ++ decimal tracer))
+state_details (state.Dead number status) = codes " " ++ at_status number status
+state_details other = []
+
 abbrev pub state_text : State → List ℕ
-state_text state.Absent = codes "absent"
-state_text state.Unborn = codes "unborn"
-state_text state.Running = codes "running"
-state_text (state.Stopped number status) = codes "stopped " ++ at_status number status
-state_text (state.Claimed number tracer) = codes "claimed " ++ (decimal number ++ (codes " " ++ decimal tracer))
-state_text (state.Dead number status) = codes "dead " ++ at_status number status
-state_text state.Reaped = codes "reaped"
+state_text at = state_word at ++ state_details at
 
 -- what a command to a row is answered at a history
 abbrev pub reply_text : List Row → History → (row : ℕ) → Command → List ℕ

@@ -19,6 +19,7 @@ mod reading;
 mod replay;
 mod replies;
 mod shown;
+mod state_name;
 
 pub use entry::{process, program};
 pub use failure::Failure;

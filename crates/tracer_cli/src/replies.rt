@@ -3,7 +3,9 @@
 ghost use Rattle.std.specs.Prelude.{◌≡◌, ◌++◌, ◌≤◌, ◌∷◌, [], length, All, OnOk, codes, decimal, string_bytes};
 ghost use Rattle.tracer_cli.specs.Command.{IsOrder};
 ghost use Rattle.tracer_cli.specs.Replies.{at_status, done_text, got_text, history_after_command};
-ghost use Rattle.tracer_cli.specs.Replies.{published_text, refusal_name, refusal_text, replies, reply_text, state_text};
+ghost use Rattle.tracer_cli.specs.Replies.{published_text, refusal_name, refusal_text, replies, reply_text, state_details};
+ghost use Rattle.tracer_cli.specs.Replies.{state_text};
+ghost use Rattle.tracer_cli.specs.StateName.{state_word};
 ghost use Rattle.stop_history.specs.Roster.{row_at};
 ghost use Rattle.stop_history.specs.declared.limits.TheConstants.{MOST_ROWS, TRACERS};
 ghost use Rattle.stop_board.specs.World.{Moment, StandsAt};
@@ -11,6 +13,7 @@ ghost use Rattle.stop_board.specs.OneThread.{HasHistory};
 
 use crate::command::Command;
 use crate::order::Order;
+use crate::state_name::state_word;
 use itoa::Buffer;
 use std::alloc::Allocator;
 use stop_board::{Got, NoMemory, Refused, Row, State, World};
@@ -143,19 +146,32 @@ pub(crate) fn write_done<A: Allocator>(
     }
 }
 
+/// Writes a state, as a line.
+#[tactic(auto, using(crate::proofs::Written::in_two))]
 pub(crate) fn write_state<A: Allocator>(out: &mut String<A>, state: State) -> Result<(), NoMemory>
     ensures { OnOk result (string_bytes out.new ≡ string_bytes out.old ++ (state_text state ++ 10 ∷ [])) }
 {
+    out.push_str(state_word(state))?;
+    write_state_details(out, state)
+}
+
+/// Writes the numbers that follow a state's word, and ends the line.
+fn write_state_details<A: Allocator>(out: &mut String<A>, state: State) -> Result<(), NoMemory>
+    ensures { OnOk result (string_bytes out.new ≡ string_bytes out.old ++ (state_details state ++ 10 ∷ [])) }
+{
     match state {
-        State::Absent => out.push_str("absent\n")?,
-        State::Unborn => out.push_str("unborn\n")?,
-        State::Running => out.push_str("running\n")?,
-        State::Stopped(number, status) => write_at_status(out, "stopped ", number, status)?,
-        State::Claimed(number, tracer) => write!(out, "claimed {number} {tracer}\n")?,
-        State::Dead(number, status) => write_at_status(out, "dead ", number, status)?,
-        State::Reaped => out.push_str("reaped\n")?,
+        State::Stopped(number, status) | State::Dead(number, status) => {
+            write_at_status(out, " ", number, status)
+        }
+        State::Claimed(number, tracer) => {
+            write!(out, " {number} {tracer}\n")?;
+            Ok(())
+        }
+        State::Absent | State::Unborn | State::Running | State::Reaped => {
+            out.push_str("\n")?;
+            Ok(())
+        }
     }
-    Ok(())
 }
 
 /// Does what a command asks of the World, and writes the answer as a line.

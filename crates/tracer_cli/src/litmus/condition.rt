@@ -6,6 +6,7 @@ ghost use Rattle.tracer_cli.specs.LitmusCondition.{condition_of_words, is_not_wo
 ghost use Rattle.tracer_cli.specs.LitmusCondition.{thread_condition, tracee_aim, tracee_condition, tracee_in_state};
 
 use crate::litmus::keyword::is_any_word;
+use crate::state_name::{STATE_NAMES, StateName};
 use text_lines::{LineFault, first_words, keyword};
 use trace_script::id;
 
@@ -14,17 +15,6 @@ use trace_script::id;
 pub(crate) enum Sense {
     Is,
     IsNot,
-}
-
-/// A state of a tracee, without its number, status or tracer.
-#[derive(Clone, Copy, Debug, PartialEq, Eq)]
-pub(crate) enum StateName {
-    Unborn,
-    Running,
-    Stopped,
-    Claimed,
-    Dead,
-    Reaped,
 }
 
 /// A condition, as its line says it.
@@ -37,16 +27,6 @@ pub(crate) enum LitmusCondition {
     /// The thread that the third word of the line names waits at the end, or does not.
     Thread(Sense),
 }
-
-/// The names of states.
-const STATE_NAMES: [(&str, StateName); 6] = [
-    ("unborn", StateName::Unborn),
-    ("running", StateName::Running),
-    ("stopped", StateName::Stopped),
-    ("claimed", StateName::Claimed),
-    ("dead", StateName::Dead),
-    ("reaped", StateName::Reaped),
-];
 
 /// A condition, by the words after `only`. All words are looked at before any number.
 pub(crate) fn condition_of(words: &[&[u8]]) -> Result<LitmusCondition, LineFault>

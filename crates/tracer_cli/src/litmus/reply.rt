@@ -3,15 +3,17 @@
 ghost use Rattle.std.specs.Prelude.{◌≡◌, map};
 ghost use Rattle.tracer_cli.specs.LitmusReply.{bare_reply, claim_row_reply, exit_reply, got_of_words, got_reply};
 ghost use Rattle.tracer_cli.specs.LitmusReply.{got_told, got_with_numbers, is_star, names_several, no_child_reply};
-ghost use Rattle.tracer_cli.specs.LitmusReply.{none_reply, nothing_reply, numbered_state, or_else, publish_reply};
+ghost use Rattle.tracer_cli.specs.LitmusReply.{none_reply, nothing_reply, numbered_state, or_else, plain_state};
+ghost use Rattle.tracer_cli.specs.LitmusReply.{publish_reply};
 ghost use Rattle.tracer_cli.specs.LitmusReply.{refused_reply, reply_of_words, resume_reply, row_reply, scan_reply};
-ghost use Rattle.tracer_cli.specs.LitmusReply.{state_of_words, state_reply, state_with_number, status_number};
+ghost use Rattle.tracer_cli.specs.LitmusReply.{state_of_words, state_reply, status_number};
 ghost use Rattle.tracer_cli.specs.LitmusReply.{stop_number, tid_reply, wanted_status, wanted_stop, wanted_tracer};
 ghost use Rattle.tracer_cli.specs.LitmusReply.{tid_before, without_tid};
 
 use crate::grammar::tracer_of;
 use crate::litmus::keyword::{CommandKeyword, is_any_word, is_group_word, is_it_word};
 use crate::litmus::line::LitmusReply;
+use crate::state_name::{STATE_NAMES, StateName};
 use stop_board::{LAST_NUMBER, Refused};
 use stop_explorer::{WantedAnswer, WantedGot, WantedState};
 use text_lines::{LineFault, keyword, number_between};
@@ -24,30 +26,8 @@ pub(crate) enum GotWord {
     Ended,
 }
 
-/// The word of a state that two numbers follow.
-#[derive(Clone, Copy, Debug, PartialEq, Eq)]
-pub(crate) enum StateWord {
-    Stopped,
-    Claimed,
-    Dead,
-}
-
 /// What a claim can get.
 const GOT_WORDS: [(&str, GotWord); 2] = [("stop", GotWord::Stop), ("ended", GotWord::Ended)];
-
-/// The states that are one word.
-const PLAIN_STATES: [(&str, WantedState); 3] = [
-    ("unborn", WantedState::Unborn),
-    ("running", WantedState::Running),
-    ("reaped", WantedState::Reaped),
-];
-
-/// The states that are a word and two numbers.
-const NUMBERED_STATES: [(&str, StateWord); 3] = [
-    ("stopped", StateWord::Stopped),
-    ("claimed", StateWord::Claimed),
-    ("dead", StateWord::Dead),
-];
 
 /// The refusals that a publish does not wait out.
 const PUBLISH_REFUSALS: [(&str, Refused); 2] = [
@@ -351,32 +331,33 @@ fn state_of(words: &[&[u8]]) -> Result<WantedState, LineFault>
     ensures { result ≡ state_of_words (map (λ w. w.now) words.now) }
 {
     match words {
-        [name] => keyword(&PLAIN_STATES, name),
-        [name, number, last] => numbered_state(name, number, last),
+        [name] => plain_state(keyword(&STATE_NAMES, name)?),
+        [name, number, last] => numbered_state(keyword(&STATE_NAMES, name)?, number, last),
         _ => Err(LineFault::UnknownWord),
     }
 }
 
-fn numbered_state(name: &[u8], number: &[u8], last: &[u8]) -> Result<WantedState, LineFault>
-    ensures { result ≡ numbered_state name.now number.now last.now }
+/// A state that is one word.
+fn plain_state(name: StateName) -> Result<WantedState, LineFault>
+    ensures { result ≡ plain_state name }
 {
-    let word = keyword(&NUMBERED_STATES, name)?;
-    let number = wanted_stop(number)?;
-    state_with_number(word, number, last)
+    match name {
+        StateName::Unborn => Ok(WantedState::Unborn),
+        StateName::Running => Ok(WantedState::Running),
+        StateName::Reaped => Ok(WantedState::Reaped),
+        StateName::Stopped | StateName::Claimed | StateName::Dead => Err(LineFault::UnknownWord),
+    }
 }
 
-/// The state of this word and this number, by the number after it.
-fn state_with_number(
-    word: StateWord,
-    number: Option<u32>,
-    last: &[u8],
-) -> Result<WantedState, LineFault>
-    ensures { result ≡ state_with_number word number last.now }
+/// A state that is a word and two numbers.
+fn numbered_state(name: StateName, number: &[u8], last: &[u8]) -> Result<WantedState, LineFault>
+    ensures { result ≡ numbered_state name number.now last.now }
 {
-    match word {
-        StateWord::Stopped => Ok(WantedState::Stopped(number, wanted_status(last)?)),
-        StateWord::Claimed => Ok(WantedState::Claimed(number, wanted_tracer(last)?)),
-        StateWord::Dead => Ok(WantedState::Dead(number, wanted_status(last)?)),
+    match name {
+        StateName::Stopped => Ok(WantedState::Stopped(wanted_stop(number)?, wanted_status(last)?)),
+        StateName::Claimed => Ok(WantedState::Claimed(wanted_stop(number)?, wanted_tracer(last)?)),
+        StateName::Dead => Ok(WantedState::Dead(wanted_stop(number)?, wanted_status(last)?)),
+        StateName::Unborn | StateName::Running | StateName::Reaped => Err(LineFault::UnknownWord),
     }
 }
 

@@ -5,7 +5,8 @@
 ghost use Rattle.std.specs.Prelude.{◌≡◌, IfOk};
 ghost use Rattle.tracer_cli.specs.Required.{conditions_with, required_line, program_with};
 
-use crate::litmus::condition::{Sense, StateName};
+use crate::litmus::condition::Sense;
+use crate::state_name::StateName;
 use std::alloc::Allocator;
 use stop_board::NoMemory;
 use stop_explorer::{ProgramLine, ThreadCommand};

@@ -3,12 +3,14 @@
 ghost use Rattle.std.specs.Prelude.{◌≡◌, ◌<◌, ◌^◌, is_some};
 ghost use Rattle.std.specs.List.{list_all, list_any};
 ghost use Rattle.stop_explorer.specs.Search.{commands_in};
-ghost use Rattle.tracer_cli.specs.Conditions.{agrees, condition_holds, conditions_hold, has_name, waits_at_end};
+ghost use Rattle.tracer_cli.specs.Conditions.{agrees, condition_holds, conditions_hold, waits_at_end};
+ghost use Rattle.tracer_cli.specs.StateName.{has_name};
 
 use super::chosen::thread_commands;
 use super::waiting::state_at;
-use crate::litmus::condition::{Sense, StateName};
+use crate::litmus::condition::Sense;
 use crate::litmus::required::Condition;
+use crate::state_name::{StateName, has_name};
 use std::alloc::Allocator;
 use stop_board::State;
 use stop_explorer::{FoundRun, ThreadCommand, Turn, command_after};
@@ -61,20 +63,6 @@ fn agrees(sense: Sense, is: bool) -> bool
     match sense {
         Sense::Is => is,
         Sense::IsNot => !is,
-    }
-}
-
-/// Whether a state is of this name.
-fn has_name(name: StateName, state: State) -> bool
-    ensures { result ≡ has_name name state }
-{
-    match name {
-        StateName::Unborn => matches!(state, State::Unborn),
-        StateName::Running => matches!(state, State::Running),
-        StateName::Stopped => matches!(state, State::Stopped(..)),
-        StateName::Claimed => matches!(state, State::Claimed(..)),
-        StateName::Dead => matches!(state, State::Dead(..)),
-        StateName::Reaped => matches!(state, State::Reaped),
     }
 }
 

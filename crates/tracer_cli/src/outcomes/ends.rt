@@ -8,8 +8,7 @@ ghost use Rattle.tracer_cli.specs.Chosen.{chosen_of};
 ghost use Rattle.tracer_cli.specs.LitmusDraft.{AreTexts, names_kept};
 ghost use Rattle.tracer_cli.specs.OutcomeEnds.{count_like, end_at, end_head, ends_lines, ends_text, first_ends};
 ghost use Rattle.tracer_cli.specs.OutcomeEnds.{is_first_end, last_state, last_states, listed, more_listed, outcome_end};
-ghost use Rattle.tracer_cli.specs.OutcomeEnds.{state_word, tallies_of, tally_line, tally_lines, tally_of, waiting_words};
-ghost use Rattle.tracer_cli.specs.OutcomeEnds.{who_waits};
+ghost use Rattle.tracer_cli.specs.OutcomeEnds.{tallies_of, tally_line, tally_lines, tally_of, waiting_words, who_waits};
 ghost use Rattle.tracer_cli.specs.OutcomeText.{name_at, thread_word};
 
 use super::chosen::is_chosen;
@@ -17,26 +16,12 @@ use super::condition::waits_at_end;
 use super::text::{ToldProgram, name_at, write_end, write_thread_word};
 use crate::litmus::required::Condition;
 use crate::replies::write_number;
+use crate::state_name::state_word;
 use std::alloc::Allocator;
 use stop_board::{NoMemory, Row, State};
 use stop_explorer::{Explored, FoundRun, ThreadCommand, Turn};
 
 // ---- one end
-
-/// The name of a state.
-fn state_word(state: State) -> &'static str
-    ensures { result.now ≡ state_word state }
-{
-    match state {
-        State::Absent => "absent",
-        State::Unborn => "unborn",
-        State::Running => "running",
-        State::Stopped(..) => "stopped",
-        State::Claimed(..) => "claimed",
-        State::Dead(..) => "dead",
-        State::Reaped => "reaped",
-    }
-}
 
 /// A tracee and the name of its state.
 #[tactic(auto, using(crate::proofs::Written::in_two))]

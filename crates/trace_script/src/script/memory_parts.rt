@@ -8,7 +8,7 @@ ghost use Rattle.std.specs.FinMap as finite;
 ghost use Rattle.trace_pages.specs.FlatMemory as flat;
 ghost use Rattle.trace_pages.specs.FlatMemory.{mapped, run_end, stored};
 ghost use Rattle.trace_pages.specs.Memory.{map_refusal};
-ghost use Rattle.trace_script.specs.MemoryParts.{CanAllFollow, CanFollow, part_added, with_parts};
+ghost use Rattle.trace_script.specs.MemoryParts.{CanAllFollow, CanFollow, content_size, part_added, with_parts};
 
 use crate::script::counts::kept_count;
 use std::alloc::{Allocator, Global};
@@ -16,13 +16,19 @@ use std::marker::Model;
 use trace_options::NoMemory;
 use trace_pages::{MapError, Memory, PAGE_SIZE};
 
-/// A page of zeros, or bytes from an address on.
+/// What a file says of a memory at an address: 16 bytes, where an enum with the address in it has 24.
 #[derive(Clone, Copy, Debug, PartialEq, Eq)]
 pub(crate) struct MemoryPart {
     pub(crate) addr: u64,
-    /// How many bytes it has; a page has none.
-    pub(crate) len: u32,
-    pub(crate) is_page: bool,
+    pub(crate) content: PartContent,
+}
+
+#[derive(Clone, Copy, Debug, PartialEq, Eq)]
+pub(crate) enum PartContent {
+    /// A page of zeros.
+    Page,
+    /// So many bytes.
+    Bytes(u32),
 }
 
 /// The memory of a program: its pages and the bytes that are stored there, in the order in which a file says them.
@@ -76,8 +82,7 @@ impl<A: Allocator> MemoryParts<A> {
     {
         let part = MemoryPart {
             addr: page,
-            len: 0,
-            is_page: true,
+            content: PartContent::Page,
         };
         append(&mut self.parts, &mut self.bytes, part, &[])?;
         Ok(())
@@ -91,8 +96,7 @@ impl<A: Allocator> MemoryParts<A> {
         let len = kept_count(bytes.len())?;
         let part = MemoryPart {
             addr,
-            len,
-            is_page: false,
+            content: PartContent::Bytes(len),
         };
         append(&mut self.parts, &mut self.bytes, part, bytes)?;
         Ok(())
@@ -132,11 +136,21 @@ fn memory_of<A: Allocator + Copy>(
     let mut memory = Memory::new(alloc);
     let mut rest = bytes;
     for part in parts {
-        let (own, after) = cut(rest, part.len);
+        let (own, after) = cut(rest, content_size(part.content));
         add_part(&mut memory, *part, own)?;
         rest = after;
     }
     Ok(memory)
+}
+
+/// How many bytes a part has. A page has none.
+fn content_size(content: PartContent) -> u32
+    ensures { result ≡ content_size content }
+{
+    match content {
+        PartContent::Page => 0,
+        PartContent::Bytes(len) => len,
+    }
 }
 
 /// The first bytes, at most this many, and the others.
@@ -153,14 +167,16 @@ fn add_part<A: Allocator + Copy>(
     part: MemoryPart,
     bytes: &[u8],
 ) -> Result<(), NoMemory>
-    requires { CanFollow part.is_page memory.old part.addr bytes.now }
-    ensures { OnOk result (memory.new ≡ part_added part.is_page memory.old part.addr bytes.now) }
+    requires { CanFollow part.content memory.old part.addr bytes.now }
+    ensures { OnOk result (memory.new ≡ part_added part.content memory.old part.addr bytes.now) }
 {
-    if part.is_page {
-        return map_page(memory, part.addr);
+    match part.content {
+        PartContent::Page => map_page(memory, part.addr),
+        PartContent::Bytes(_) => {
+            store_bytes(memory, part.addr, bytes);
+            Ok(())
+        }
     }
-    store_bytes(memory, part.addr, bytes);
-    Ok(())
 }
 
 /// Maps a page that can be mapped.

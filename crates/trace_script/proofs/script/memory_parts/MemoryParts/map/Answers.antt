@@ -1,11 +1,12 @@
 -- A page more is the last part.
-use Rattle.std.proofs.Common.{[], refl, true, ℕ}
+use Rattle.std.proofs.Common.{[], refl, ℕ}
 use Rattle.trace_script.specs.declared.script.memory_parts.MemoryPart.{MemoryPart}
+use Rattle.trace_script.specs.declared.script.memory_parts.PartContent.TheVariants as content
 use Rattle.trace_script.proofs.MemoryParts.{part_kept, part_seen}
 use Rattle.trace_script.proofs.script.memory_parts.MemoryParts.map.Goals as goal
 
 abbrev page_part : ℕ → MemoryPart
-page_part page = record { addr = page; len = 0; is_page = true }
+page_part page = record { addr = page; content = content.Page }
 
 pub invariant_of-self-2 : goal.invariant_of-self-2
 invariant_of-self-2 g c =

@@ -1,11 +1,12 @@
 -- The bytes come after those of all parts, and the part is the last one.
-use Rattle.std.proofs.Common.{false, ℕ}
+use Rattle.std.proofs.Common.{ℕ}
 use Rattle.trace_script.specs.declared.script.memory_parts.MemoryPart.{MemoryPart}
+use Rattle.trace_script.specs.declared.script.memory_parts.PartContent.TheVariants as content
 use Rattle.trace_script.proofs.MemoryParts.{part_kept, part_seen}
 use Rattle.trace_script.proofs.script.memory_parts.MemoryParts.store.Goals as goal
 
 abbrev bytes_part : (address len : ℕ) → MemoryPart
-bytes_part address len = record { addr = address; len = len; is_page = false }
+bytes_part address len = record { addr = address; content = content.Bytes len }
 
 pub invariant_of-self-2 : goal.invariant_of-self-2
 invariant_of-self-2 g c =

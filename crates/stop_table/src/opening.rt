@@ -10,7 +10,7 @@ ghost use Rattle.stop_table.specs.Opening.{AreTracees, AreTracers, DealsRows, De
 
 use crate::boxed::BoxedRecord;
 use crate::cells::{Cells, PLACES, Seat};
-use crate::order::Held;
+use crate::held::Held;
 use crate::rule::{OneRow, OneTracer};
 use crate::tracee::Tracee;
 use crate::tracer::Tracer;

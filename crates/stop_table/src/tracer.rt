@@ -16,7 +16,7 @@ ghost use Rattle.stop_table.specs.View.{an_exchange};
 
 use crate::cells::{Cells, Seat};
 use crate::claim::{Claim, Taken};
-use crate::order::Held;
+use crate::held::Held;
 use crate::shown::{Shown, is_claimable, show};
 use crate::steps::SeenWord;
 use crate::tracee::Tracee;

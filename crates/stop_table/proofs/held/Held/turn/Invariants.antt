@@ -1,7 +1,7 @@
 -- While the slots are turned, they are those of the rows of which as many have been turned.
 use Rattle.std.proofs.Common.{◌≡◌, ◌++◌, drop, take}
 use Rattle.stop_table.specs.Tracer.{emptied}
-use Rattle.stop_table.proofs.order.Held.turn.Given as goal
+use Rattle.stop_table.proofs.held.Held.turn.Given as goal
 
 abbrev pub invariant-loop : goal.invariant-loop
 invariant-loop g l = record {

@@ -3,7 +3,7 @@ use Rattle.std.proofs.Common.{◌≡◌, ◌<◌, ◌-◌, ◌∙◌, ◌++◌, 
 use Rattle.std.proofs.lemmas.List.{append-nil, length-reverse}
 use Rattle.stop_table.specs.Tracer.{emptied}
 use Rattle.stop_table.proofs.Turning.{one_turn, turned_behind}
-use Rattle.stop_table.proofs.order.Held.turn.Goals as goal
+use Rattle.stop_table.proofs.held.Held.turn.Goals as goal
 
 pub loop-init : goal.loop-init
 loop-init g c = record {

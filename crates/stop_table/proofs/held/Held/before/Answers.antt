@@ -5,7 +5,7 @@ use Rattle.std.proofs.lemmas.Iterator.Search.{position_from_yields_List}
 use Rattle.std.specs.List.{position}
 use Rattle.stop_table.specs.View.{is_among}
 use Rattle.stop_table.proofs.Turning.{among_reversed, has_place, placed}
-use Rattle.stop_table.proofs.order.Held.before.Goals as goal
+use Rattle.stop_table.proofs.held.Held.before.Goals as goal
 
 -- the row is among those held, so it has a place
 pub unreachable-requires : goal.unreachable-requires

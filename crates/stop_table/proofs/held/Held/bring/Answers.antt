@@ -3,7 +3,7 @@ use Rattle.std.proofs.Common.{◌∙◌, ap, subst, sym}
 use Rattle.stop_table.specs.Tracer.{AreApart}
 use Rattle.stop_table.specs.View.{is_among}
 use Rattle.stop_table.proofs.Turning.{among_turned, apart_turned, turned_to}
-use Rattle.stop_table.proofs.order.Held.bring.Goals as goal
+use Rattle.stop_table.proofs.held.Held.bring.Goals as goal
 
 pub returns-2-clause-front : goal.returns-2-clause-front
 returns-2-clause-front g c =

@@ -25,43 +25,29 @@ pub(crate) fn settle<A: Allocator>(
     requires counts { length counts.old.items ≡ length roster.now }
     ensures { Settles roster.now held.old.items held.new.items counts.old.items counts.new.items found result }
 {
-    match found {
+    let (row, number, raw) = match found {
         Finding::Stop(claim) => {
             let (row, number) = (claim.row(), claim.record().number);
-            let status = report(roster, row, claim.record().status());
-            counts[row as usize] = number;
+            let raw = claim.record().status();
             put(held, claim);
-            Ok(Some(RowStatus {
-                row,
-                number,
-                status,
-            }))
+            (row, number, raw)
         }
-        Finding::Ended { row, death, number } => {
-            counts[row as usize] = number;
-            let status = report(roster, row, death.status());
-            Ok(Some(RowStatus {
-                row,
-                number,
-                status,
-            }))
-        }
+        Finding::Ended { row, death, number } => (row, number, death.status()),
         Finding::Shows {
             row,
             number,
             status,
-        } => {
-            counts[row as usize] = number;
-            let status = report(roster, row, status);
-            Ok(Some(RowStatus {
-                row,
-                number,
-                status,
-            }))
-        }
-        Finding::NothingYet => Ok(None),
-        Finding::NoChild => Err(Errno::ECHILD),
-    }
+        } => (row, number, status),
+        Finding::NothingYet => return Ok(None),
+        Finding::NoChild => return Err(Errno::ECHILD),
+    };
+    counts[row as usize] = number;
+    let status = report(roster, row, raw);
+    Ok(Some(RowStatus {
+        row,
+        number,
+        status,
+    }))
 }
 
 /// The wait status of a row with this raw status.

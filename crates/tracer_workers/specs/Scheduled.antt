@@ -21,6 +21,7 @@ use Rattle.trace_record.specs.declared.resume.Resume.{Resume as Restart}
 use Rattle.trace_script.specs.CaseFacts.{IsCase}
 use Rattle.trace_script.specs.CaseFile.{CaseContent}
 use Rattle.trace_script.specs.StopTrace.{Context, DeathIs, Position, first_restart, next_element}
+use Rattle.trace_script.specs.declared.limits.TheConstants.{MOST_STEPS}
 use Rattle.tracer_workers.specs.Config.{plan_of, show_of}
 use Rattle.tracer_workers.specs.Driven.{AreDriven, element_after, position_at}
 use Rattle.tracer_workers.specs.HistoryPieces.{pieces_of}
@@ -116,7 +117,7 @@ Stands content run h = HasMade content run h × AreFree h
 
 -- no script has more stops
 abbrev pub most_stops : ℕ
-most_stops = 2 + 4 * 65536
+most_stops = 2 + 4 * MOST_STEPS
 
 -- of a phase: the events up to the next stop or the last claim
 abbrev pub steps_left : Phase → ℕ

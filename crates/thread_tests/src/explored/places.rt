@@ -20,7 +20,7 @@ fn each_thread_has_its_own_commands_in_their_order(rt: HostRuntime) -> Result<()
     let program = of_three();
     let lists = commands_of(rt.alloc(), 3, &program)?;
     let mut place = 0usize;
-    for (thread, count) in [(0usize, 2usize), (1, 4), (2, 3)] {
+    for (thread, count) in [(0usize, 2usize), (1, 5), (2, 3)] {
         let own = lists.get(thread).map(|list| list.len());
         same(&rt, &(thread, own), &(thread, Some(count)));
         for at in 0..count {
@@ -38,8 +38,8 @@ fn each_thread_has_its_own_commands_in_their_order(rt: HostRuntime) -> Result<()
 fn a_thread_goes_on_by_its_own_turns(rt: HostRuntime) -> Result<(), Fail> {
     let lists = commands_of(rt.alloc(), 3, &of_three())?;
     let waiter = lists.get(1).map(|list| list.as_slice()).unwrap_or(&[]);
-    let done = [claims(1), claims(1), claims(1), claims(1)];
-    for (count, place) in [(0usize, 0usize), (1, 1), (3, 3), (4, 4)] {
+    let done = [claims(1); 5];
+    for (count, place) in [(0usize, 0usize), (1, 1), (4, 4), (5, 5)] {
         let next = command_after(waiter, &done[..count], 1);
         same(&rt, &(count, next), &(count, waiter.get(place).copied()));
     }

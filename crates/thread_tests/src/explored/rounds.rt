@@ -5,9 +5,10 @@ use crate::cells::cast::{Cast, open_for};
 use crate::cells::runner::AtRest;
 use crate::compare::{holds, same};
 use crate::explored::programs::{NO_LOOKER, Round, of_three, of_two, outcomes};
-use crate::explored::threads::{Line, look_and_claim, run_tracees, wait_twice};
+use crate::explored::threads::{Line, claim_and_wait, look_and_claim, run_tracees};
 use crate::rows::roots;
 use std::alloc::Global;
+use std::process::Abort;
 use std::sync::Wait;
 use std::test::Fail;
 use std::thread;
@@ -60,6 +61,22 @@ impl Tally {
     fn kinds(&self) -> usize {
         self.seen.iter().filter(|count| **count > 0).count()
     }
+
+    /// Prints how often each outcome was seen.
+    fn print(&self, rt: &HostRuntime, threads: u32) -> Result<(), Fail> {
+        let (kinds, all, rounds) = (self.kinds(), self.outcomes.len(), self.rounds());
+        let seen = self.seen.as_slice();
+        println!(rt;
+            "of {all} outcomes {kinds} were seen in {rounds} rounds of {threads} threads: {seen:?}"
+        )?;
+        Ok(())
+    }
+
+    /// Tests that each round had an outcome.
+    fn test<R: Abort>(&self, rt: &R) {
+        same(rt, &self.strange, &0);
+        holds(rt, self.rounds() >= ROWS, "a round for each row, at least");
+    }
 }
 
 /// The tracees of new cells, the last one first.
@@ -85,7 +102,7 @@ fn race_two<R: Threads + Wait + Sync>(
     let (lived, waited) = thread::join(
         rt,
         || run_tracees(rt, alloc, &line, tracees),
-        || wait_twice(rt, alloc, &line, desk, ROWS),
+        || claim_and_wait(rt, alloc, &line, desk, ROWS),
     );
     let (lived, waited) = (lived?, waited?);
     for (tracee, waiter) in lived.iter().zip(waited.iter()) {
@@ -115,7 +132,7 @@ fn race_three<R: Threads + Wait + Sync>(
         || {
             thread::join(
                 rt,
-                || wait_twice(rt, alloc, &line, first, ROWS),
+                || claim_and_wait(rt, alloc, &line, first, ROWS),
                 || look_and_claim(rt, alloc, &line, second, ROWS),
             )
         },
@@ -143,13 +160,9 @@ fn rounds_of_two_threads_have_an_outcome(rt: HostRuntime) -> Result<(), Fail> {
             race_two(&rt, alloc, &mut tally)?;
         }
     }
-    same(&rt, &tally.outcomes.len(), &1);
-    same(&rt, &(tally.strange, tally.kinds()), &(0, 1));
-    holds(
-        &rt,
-        tally.rounds() >= ROWS,
-        "a round for each row, at least",
-    );
+    same(&rt, &tally.outcomes.len(), &2);
+    tally.print(&rt, 2)?;
+    tally.test(&rt);
     Ok(())
 }
 
@@ -164,12 +177,7 @@ fn rounds_of_three_threads_have_an_outcome(rt: HostRuntime) -> Result<(), Fail> 
             race_three(&rt, alloc, &mut tally)?;
         }
     }
-    let (kinds, all, rounds) = (tally.kinds(), tally.outcomes.len(), tally.rounds());
-    let seen = tally.seen.as_slice();
-    println!(rt;
-        "of {all} outcomes {kinds} were seen in {rounds} rounds of three threads: {seen:?}"
-    )?;
-    same(&rt, &tally.strange, &0);
-    holds(&rt, rounds >= ROWS, "a round for each row, at least");
+    tally.print(&rt, 3)?;
+    tally.test(&rt);
     Ok(())
 }

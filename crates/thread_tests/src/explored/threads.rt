@@ -85,6 +85,9 @@ pub(crate) fn run_tracees<R: Wait>(
     Ok(rounds)
 }
 
+/// What a claim that gets nothing and the resume after it are answered.
+const TOO_EARLY: [Answer; 2] = [Answer::Refused(Refused::NotWaitable), Answer::Nothing];
+
 /// What a claim and the resume after it are answered; None where the claim gets nothing.
 fn told_of(claimed: Claimed) -> Option<[Answer; 2]> {
     match claimed {
@@ -116,8 +119,8 @@ fn wait_for<R: Wait>(rt: &R, desk: &mut Desk, row: u32) -> [Answer; 2] {
     unreachable!()
 }
 
-/// The tracer that waits for each of some rows twice.
-pub(crate) fn wait_twice<R: Wait>(
+/// The tracer that claims each of some rows at once, and then waits for it twice.
+pub(crate) fn claim_and_wait<R: Wait>(
     rt: &R,
     alloc: Global,
     line: &Line,
@@ -128,9 +131,10 @@ pub(crate) fn wait_twice<R: Wait>(
     for done in 0..rows {
         line.wait(rt, done.wrapping_add(1));
         let row = rows - 1 - done;
-        let [first, then] = wait_for(rt, &mut desk, row);
-        let [second, last] = wait_for(rt, &mut desk, row);
-        rounds.push([first, then, second, last])?;
+        let [early, then] = told_of(desk.try_claim(row)).unwrap_or(TOO_EARLY);
+        let [first, next] = wait_for(rt, &mut desk, row);
+        let [second, _] = wait_for(rt, &mut desk, row);
+        rounds.push([early, then, first, next, second])?;
     }
     Ok(rounds)
 }
@@ -161,8 +165,7 @@ pub(crate) fn look_and_claim<R: Wait>(
         line.wait(rt, done.wrapping_add(1));
         let row = rows - 1 - done;
         let seen = look_at(rt, &mut desk, row);
-        let refused = [Answer::Refused(Refused::NotWaitable), Answer::Nothing];
-        let [got, then] = told_of(desk.try_claim(row)).unwrap_or(refused);
+        let [got, then] = told_of(desk.try_claim(row)).unwrap_or(TOO_EARLY);
         rounds.push([seen, got, then])?;
     }
     Ok(rounds)

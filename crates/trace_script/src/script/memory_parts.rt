@@ -27,7 +27,7 @@ pub(crate) struct MemoryPart {
 pub(crate) enum PartContent {
     /// A page of zeros.
     Page,
-    /// So many bytes.
+    /// This many bytes.
     Bytes(u32),
 }
 

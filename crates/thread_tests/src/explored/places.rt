@@ -39,7 +39,7 @@ fn a_thread_goes_on_by_its_own_turns(rt: HostRuntime) -> Result<(), Fail> {
     let lists = commands_of(rt.alloc(), 3, &of_three())?;
     let waiter = lists.get(1).map(|list| list.as_slice()).unwrap_or(&[]);
     let done = [claims(1); 5];
-    for (count, place) in [(0usize, 0usize), (1, 1), (4, 4), (5, 5)] {
+    for (count, place) in [(0usize, 0usize), (1, 1), (3, 3), (4, 4), (5, 5)] {
         let next = command_after(waiter, &done[..count], 1);
         same(&rt, &(count, next), &(count, waiter.get(place).copied()));
     }

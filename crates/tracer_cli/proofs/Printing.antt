@@ -3,7 +3,7 @@ use Rattle.std.proofs.Common.{refl, ◌≡◌, ◌∙◌, ◌<◌, ◌++◌, [],
 use Rattle.std.proofs.Common.{append-nil, length, subst, sym}
 use Rattle.std.proofs.KnownBytes.{Appends-nil}
 use Rattle.std.specs.Io.KnownBytes.{Appends}
-use Rattle.std.specs.Prelude.{IfErr}
+use Rattle.std.specs.Prelude.{IfErr, OnOk}
 use Rattle.tracer_cli.specs.declared.failure.Failure.{Failure}
 use Rattle.tracer_cli.specs.declared.failure.Failure.TheVariants.{CannotWrite, Forbidden, NoMemory}
 use Rattle.tracer_cli.specs.declared.arguments.ExploreOptions.{ExploreOptions}
@@ -71,6 +71,16 @@ cut_behind {T} {E} (Err error) a b c old first mid second none so_far off =
     ap (λ t. so_far.0 ++ t) (append-nil (mid ++ second)) ∙ sym (append_assoc so_far.0 mid second)
     ∙ ap (λ t. t ++ second) (so_far.2 ∙ ap (λ o. o ++ first) none) in
     cut_in_part so_far.0 (mid ++ second) [] (first ++ second) a b c whole so_far.1 off
+
+-- and if it is written, the two are
+pub written_behind : {T E : Type 0} (result : Result T E) (a b c : Option (List ℕ)) (old first mid second : List ℕ)
+    → old ≡ [] → IsCollected a b old first mid → OnOk result (Appends b c (mid ++ second))
+    → OnOk result (Appends a c (first ++ second))
+written_behind {T} {E} (Ok done) a b c old first mid second none so_far added =
+    let whole : so_far.0 ++ (mid ++ second) ≡ first ++ second =
+    sym (append_assoc so_far.0 mid second) ∙ ap (λ t. t ++ second) (so_far.2 ∙ ap (λ o. o ++ first) none) in
+    subst (Appends a c) whole (appends_both a b c so_far.0 (mid ++ second) so_far.1 added)
+written_behind {T} {E} (Err error) a b c old first mid second none so_far added = tt
 
 -- ---- what is printed of a file
 

@@ -26,4 +26,5 @@ pub mod Run
 pub mod Shown
 pub mod Spelling
 pub mod StateName
+pub mod TurnLines
 pub mod Waiting

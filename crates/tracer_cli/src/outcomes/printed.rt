@@ -8,35 +8,46 @@ ghost use Rattle.tracer_cli.specs.CutOff.{IsCollected, IsCutOff};
 ghost use Rattle.tracer_cli.specs.LitmusDraft.{AreTexts, names_kept};
 ghost use Rattle.tracer_cli.specs.OutcomeText.{allowed_line, chosen_text, counts_line, outcome_text, outcome_texts};
 ghost use Rattle.tracer_cli.specs.Run.{IsUnwritten, WritesIfMemory};
+ghost use Rattle.tracer_cli.specs.TurnLines.{AreLines};
 
 use super::chosen::{count_chosen, is_chosen};
 use super::text::{ToldProgram, write_end, write_outcome};
+use super::turn_lines::{LINE, TurnLines};
 use crate::failure::Failure;
 use crate::litmus::required::Condition;
 use crate::parts::{CutOff, write_part};
 use std::alloc::Allocator;
 use std::io::Write;
+use stop_board::NoMemory;
 use stop_explorer::{Explored, FoundRun};
 
 /// From how many bytes on what is collected is written.
 const ENOUGH: usize = 65_536;
 
-/// At least the bytes of each line of an outcome: 32 of a name, 50 of a command and 35 of an answer.
-const LINE: usize = 128;
+/// What outcomes are printed by: the text that is collected, and the lines of the turns of the last outcome.
+#[derive(Drop)]
+struct Printer<A: Allocator> {
+    text: String<A>,
+    lines: TurnLines<A>,
+}
 
-/// Room for less than is written at once, and an outcome more, and the last two lines. A thread has no more turns than
-/// commands.
-fn room<A: Allocator>(program: &ToldProgram<'_, '_, A>) -> usize {
+/// How many turns an outcome may have: a thread has no more turns than commands.
+fn most_turns<A: Allocator>(program: &ToldProgram<'_, '_, A>) -> usize {
     let mut turns = 0usize;
     for own in program.commands {
         turns = turns.saturating_add(own.len());
     }
+    turns
+}
+
+/// Room for less than is written at once, and an outcome more, and the last two lines.
+fn room<A: Allocator>(program: &ToldProgram<'_, '_, A>) -> usize {
     let threads = program.names.len();
-    let lines = program
-        .rows
-        .len()
-        .saturating_add(turns.saturating_add(threads).saturating_mul(2));
+    let lines = most_turns(program)
+        .saturating_add(threads)
+        .saturating_mul(2);
     lines
+        .saturating_add(program.rows.len())
         .saturating_add(8)
         .saturating_mul(LINE)
         .saturating_add(ENOUGH)
@@ -56,9 +67,35 @@ fn write_enough<A: Allocator, W: Write>(out: &mut String<A>, output: &mut W) -> 
     Ok(())
 }
 
-/// Prints an outcome. Its text fits the buffer (`room`); if memory were refused all the same, nothing would be written.
-fn print_outcome<A: Allocator, W: Write>(
-    out: &mut String<A>,
+/// Adds the text of an outcome to what is collected.
+#[tactic(auto, using(crate::proofs::TurnLines::are_lines))]
+fn collect_outcome<A: Allocator + Copy>(
+    printer: &mut Printer<A>,
+    program: &ToldProgram<'_, '_, A>,
+    number: usize,
+    count: usize,
+    run: &FoundRun<A>,
+) -> Result<(), NoMemory>
+    requires names { AreTexts program.now.names.now }
+    requires few { length program.now.names.now < 2 ^ 32 }
+    requires lines { AreLines program.now.rows.now (commands_in program.now.commands.now) printer.old.lines }
+    ensures text { OnOk result (string_bytes printer.new.text ≡ string_bytes printer.old.text
+        ++ outcome_text program.now.rows.now (names_kept program.now.names.now) program.now.voices.now
+        (commands_in program.now.commands.now) number count run.now) }
+    ensures lines { OnOk result
+        (AreLines program.now.rows.now (commands_in program.now.commands.now) printer.new.lines) }
+{
+    printer
+        .lines
+        .tell(program.rows, program.commands, run.turns())?;
+    let lines = printer.lines.as_slice();
+    write_outcome(&mut printer.text, program, number, count, run, lines)
+}
+
+/// Prints an outcome. Its text fits what there is room for (`room`, `most_turns`); if memory were refused all the same,
+/// nothing would be written.
+fn print_outcome<A: Allocator + Copy, W: Write>(
+    printer: &mut Printer<A>,
     output: &mut W,
     program: &ToldProgram<'_, '_, A>,
     number: usize,
@@ -67,22 +104,27 @@ fn print_outcome<A: Allocator, W: Write>(
 ) -> Result<(), CutOff>
     requires names { AreTexts program.now.names.now }
     requires few { length program.now.names.now < 2 ^ 32 }
-    ensures ok { OnOk result (IsCollected (W.contents output.old) (W.contents output.new) (string_bytes out.old)
+    requires lines { AreLines program.now.rows.now (commands_in program.now.commands.now) printer.old.lines }
+    ensures ok { OnOk result (IsCollected (W.contents output.old) (W.contents output.new)
+        (string_bytes printer.old.text)
         (outcome_text program.now.rows.now (names_kept program.now.names.now) program.now.voices.now
-        (commands_in program.now.commands.now) number count run.now) (string_bytes out.new)) }
+        (commands_in program.now.commands.now) number count run.now) (string_bytes printer.new.text)) }
+    ensures lines { OnOk result
+        (AreLines program.now.rows.now (commands_in program.now.commands.now) printer.new.lines) }
     ensures cut_off { IfErr result (λ _. IsCutOff (W.contents output.old) (W.contents output.new)
-        (string_bytes out.old ++ outcome_text program.now.rows.now (names_kept program.now.names.now)
-        program.now.voices.now (commands_in program.now.commands.now) number count run.now)) }
+        (string_bytes printer.old.text
+        ++ outcome_text program.now.rows.now (names_kept program.now.names.now) program.now.voices.now
+        (commands_in program.now.commands.now) number count run.now)) }
 {
-    match write_outcome(out, program, number, count, run) {
-        Ok(()) => write_enough(out, output),
+    match collect_outcome(printer, program, number, count, run) {
+        Ok(()) => write_enough(&mut printer.text, output),
         Err(_) => Err(CutOff),
     }
 }
 
 /// Prints the outcomes that are chosen, numbered from 1.
-fn print_chosen<A: Allocator, W: Write>(
-    out: &mut String<A>,
+fn print_chosen<A: Allocator + Copy, W: Write>(
+    printer: &mut Printer<A>,
     output: &mut W,
     program: &ToldProgram<'_, '_, A>,
     conditions: &[Condition],
@@ -91,12 +133,14 @@ fn print_chosen<A: Allocator, W: Write>(
 ) -> Result<(), CutOff>
     requires names { AreTexts program.now.names.now }
     requires few { length program.now.names.now < 2 ^ 32 }
-    ensures ok { OnOk result (IsCollected (W.contents output.old) (W.contents output.new) (string_bytes out.old)
+    requires lines { AreLines program.now.rows.now (commands_in program.now.commands.now) printer.old.lines }
+    ensures ok { OnOk result (IsCollected (W.contents output.old) (W.contents output.new)
+        (string_bytes printer.old.text)
         (outcome_texts program.now.rows.now (names_kept program.now.names.now) program.now.voices.now
         (commands_in program.now.commands.now) 1 count (chosen_of (length program.now.commands.now)
-        (commands_in program.now.commands.now) conditions.now runs.now)) (string_bytes out.new)) }
+        (commands_in program.now.commands.now) conditions.now runs.now)) (string_bytes printer.new.text)) }
     ensures cut_off { IfErr result (λ _. IsCutOff (W.contents output.old) (W.contents output.new)
-        (string_bytes out.old ++ outcome_texts program.now.rows.now (names_kept program.now.names.now)
+        (string_bytes printer.old.text ++ outcome_texts program.now.rows.now (names_kept program.now.names.now)
         program.now.voices.now (commands_in program.now.commands.now) 1 count
         (chosen_of (length program.now.commands.now) (commands_in program.now.commands.now) conditions.now
         runs.now))) }
@@ -104,7 +148,7 @@ fn print_chosen<A: Allocator, W: Write>(
     let mut before = 0;
     for run in runs {
         if is_chosen(program.commands, conditions, run) {
-            print_outcome(out, output, program, before + 1, count, run)?;
+            print_outcome(printer, output, program, before + 1, count, run)?;
             before += 1;
         }
     }
@@ -132,8 +176,8 @@ fn print_end<A: Allocator, W: Write>(
 }
 
 /// Prints the outcomes that are chosen, and how many they and the places are.
-fn print_all<A: Allocator, W: Write>(
-    out: &mut String<A>,
+fn print_all<A: Allocator + Copy, W: Write>(
+    printer: &mut Printer<A>,
     output: &mut W,
     program: &ToldProgram<'_, '_, A>,
     conditions: &[Condition],
@@ -142,7 +186,8 @@ fn print_all<A: Allocator, W: Write>(
 ) -> Result<(), CutOff>
     requires names { AreTexts program.now.names.now }
     requires few { length program.now.names.now < 2 ^ 32 }
-    requires begin { string_bytes out.old ≡ [] }
+    requires lines { AreLines program.now.rows.now (commands_in program.now.commands.now) printer.old.lines }
+    requires begin { string_bytes printer.old.text ≡ [] }
     ensures ok { OnOk result (Appends (W.contents output.old) (W.contents output.new)
         (chosen_text program.now.rows.now (names_kept program.now.names.now) program.now.voices.now
         (commands_in program.now.commands.now) required explored.now.places
@@ -156,14 +201,15 @@ fn print_all<A: Allocator, W: Write>(
 {
     let runs = explored.runs.as_slice();
     let count = count_chosen(program.commands, conditions, runs);
-    print_chosen(out, output, program, conditions, count, runs)?;
-    print_end(out, output, count, explored.places, required)
+    print_chosen(printer, output, program, conditions, count, runs)?;
+    print_end(&mut printer.text, output, count, explored.places, required)
 }
 
 /// Prints what was explored: the outcomes that have each reply, and in which each condition holds, and how many they
 /// and the places are. `required`: the file has replies or conditions. Each thread has a name, or none. The room for
 /// the text is made before the first byte is written.
-pub(crate) fn print_outcomes<A: Allocator, W: Write>(
+#[tactic(auto, using(crate::proofs::TurnLines::no_lines))]
+pub(crate) fn print_outcomes<A: Allocator + Copy, W: Write>(
     alloc: A,
     program: &ToldProgram<'_, '_, A>,
     conditions: &[Condition],
@@ -179,8 +225,17 @@ pub(crate) fn print_outcomes<A: Allocator, W: Write>(
         explored.now.runs.items)) (W.contents output.old) (W.contents output.new) result }
     ensures unwritten { IsUnwritten output.old output.new result }
 {
-    let mut out = String::with_capacity(alloc, room(program))?;
-    match print_all(&mut out, output, program, conditions, required, explored) {
+    let text = String::with_capacity(alloc, room(program))?;
+    let lines = TurnLines::new(alloc, most_turns(program))?;
+    let mut printer = Printer { text, lines };
+    match print_all(
+        &mut printer,
+        output,
+        program,
+        conditions,
+        required,
+        explored,
+    ) {
         Ok(()) => Ok(()),
         Err(CutOff) => Err(Failure::CannotWrite),
     }

@@ -1,25 +1,25 @@
 //! The text of outcomes: what each thread was answered, the states of the tracees, and one order that leads there.
 
-ghost use Rattle.std.specs.Prelude.{◌≡◌, ◌++◌, ◌<◌, ◌^◌, length, IfOk, IfSome, IsUtf8, OnOk, decimal, option_map, slice_get};
-ghost use Rattle.std.specs.Prelude.{string_bytes};
-ghost use Rattle.stop_explorer.specs.Program.{command_after, own_turns};
+ghost use Rattle.std.specs.Prelude.{◌≡◌, ◌++◌, ◌<◌, ◌^◌, length, IfOk, IfSome, IsUtf8, OnOk, decimal, flat_map};
+ghost use Rattle.std.specs.Prelude.{option_map, string_bytes};
+ghost use Rattle.stop_explorer.specs.Program.{Log};
+ghost use Rattle.stop_explorer.specs.Progress.{is_quiet};
 ghost use Rattle.stop_explorer.specs.Search.{commands_in};
 ghost use Rattle.tracer_cli.specs.LitmusDraft.{AreTexts, names_kept};
-ghost use Rattle.tracer_cli.specs.OutcomeText.{allowed_line, counts_line, done_line, forbidden_line, name_at};
-ghost use Rattle.tracer_cli.specs.OutcomeText.{order_text};
-ghost use Rattle.tracer_cli.specs.OutcomeText.{outcome_line, outcome_text, quiet_line, thread_head};
-ghost use Rattle.tracer_cli.specs.OutcomeText.{thread_lines, thread_word, threads_text, told_lines, tracee_line, tracees_text};
-ghost use Rattle.tracer_cli.specs.OutcomeText.{turn_line, waiting_line};
+ghost use Rattle.tracer_cli.specs.OutcomeText.{allowed_line, counts_line, forbidden_line, name_at, order_text};
+ghost use Rattle.tracer_cli.specs.OutcomeText.{outcome_line, outcome_text, quiet_line, thread_head, thread_word};
+ghost use Rattle.tracer_cli.specs.OutcomeText.{threads_text, told_lines, tracee_line, tracees_text, waiting_line};
+ghost use Rattle.tracer_cli.specs.TurnLines.{lines_of_turns, named_text, own_text};
 
-use super::answer_text::{write_answer, write_waits};
+use super::answer_text::write_waits;
 use super::chosen::{is_quiet, thread_commands};
 use super::command_text::write_command;
-use super::replay_order::command_of_turn;
+use super::turn_lines::TurnLine;
 use crate::replies::write_state;
 use itoa::Buffer;
 use std::alloc::Allocator;
 use stop_board::{NoMemory, Row, State};
-use stop_explorer::{FoundRun, ThreadCommand, Turn, Voice, command_after, index_after};
+use stop_explorer::{FoundRun, ThreadCommand, Voice, command_after};
 
 /// A program, as the texts of its outcomes tell of it: the rows of its board, the names and the voices of its threads,
 /// and their commands.
@@ -32,22 +32,6 @@ pub(crate) struct ToldProgram<'a, 't, A: Allocator> {
 }
 
 // ---- commands
-
-/// Writes a command that was done, and its answer.
-#[tactic(auto, using(crate::proofs::Written::in_three))]
-fn write_done<A: Allocator>(
-    out: &mut String<A>,
-    rows: &[Row],
-    turn: &Turn,
-    command: &ThreadCommand,
-) -> Result<(), NoMemory>
-    ensures { OnOk result (string_bytes out.new
-        ≡ string_bytes out.old ++ done_line rows.now turn.now (Some command.now)) }
-{
-    write_command(out, rows, command)?;
-    out.push_str(": ")?;
-    write_answer(out, rows, command, turn)
-}
 
 /// Writes a command that a thread waits at.
 #[tactic(auto, using(crate::proofs::Written::in_three))]
@@ -63,40 +47,6 @@ fn write_waiting<A: Allocator>(
     write_command(out, rows, command)?;
     out.push_str(": ")?;
     write_waits(out, rows, states, command)
-}
-
-/// Writes the command at a place among a thread's commands, and its answer, if there is a command.
-fn write_done_at<A: Allocator>(
-    out: &mut String<A>,
-    rows: &[Row],
-    turn: &Turn,
-    commands: &[ThreadCommand],
-    at: usize,
-) -> Result<(), NoMemory>
-    ensures { OnOk result (string_bytes out.new
-        ≡ string_bytes out.old ++ done_line rows.now turn.now (slice_get commands.now at)) }
-{
-    match commands.get(at) {
-        None => Ok(()),
-        Some(command) => write_done(out, rows, turn, command),
-    }
-}
-
-/// Writes the command at a place among a thread's commands as one that it waits at, if there is a command.
-fn write_waiting_at<A: Allocator>(
-    out: &mut String<A>,
-    rows: &[Row],
-    states: &[State],
-    commands: &[ThreadCommand],
-    at: usize,
-) -> Result<(), NoMemory>
-    ensures { OnOk result (string_bytes out.new
-        ≡ string_bytes out.old ++ waiting_line rows.now states.now (slice_get commands.now at)) }
-{
-    match commands.get(at) {
-        None => Ok(()),
-        Some(command) => write_waiting(out, rows, states, command),
-    }
 }
 
 // ---- threads
@@ -152,26 +102,54 @@ fn write_name<A: Allocator>(out: &mut String<A>, name: &[u8]) -> Result<(), NoMe
     Ok(())
 }
 
-/// Writes what a thread's turns did, and then the command that it waits at.
+/// Writes the lines of a thread's turns.
+fn write_own_lines<A: Allocator>(
+    out: &mut String<A>,
+    thread: usize,
+    lines: &[TurnLine<A>],
+) -> Result<(), NoMemory>
+    ensures { OnOk result (string_bytes out.new ≡ string_bytes out.old ++ flat_map (own_text thread) lines.now) }
+{
+    for line in lines {
+        write_own_line(out, thread, line)?;
+    }
+    Ok(())
+}
+
+/// Writes the line of a turn, if it is one of a thread's.
+fn write_own_line<A: Allocator>(
+    out: &mut String<A>,
+    thread: usize,
+    line: &TurnLine<A>,
+) -> Result<(), NoMemory>
+    ensures { OnOk result (string_bytes out.new ≡ string_bytes out.old ++ own_text thread line.now) }
+{
+    if line.turn().thread as usize != thread {
+        return Ok(());
+    }
+    if let Some(text) = line.text() {
+        out.push_str(text)?;
+    }
+    Ok(())
+}
+
+/// Writes what a loud thread's turns did, and then the command that it waits at, if there is one.
 fn write_thread_lines<A: Allocator>(
     out: &mut String<A>,
     rows: &[Row],
     states: &[State],
-    commands: &[ThreadCommand],
     thread: usize,
-    turns: &[Turn],
+    lines: &[TurnLine<A>],
+    next: Option<ThreadCommand>,
 ) -> Result<(), NoMemory>
     ensures { OnOk result (string_bytes out.new ≡ string_bytes out.old
-        ++ thread_lines rows.now states.now commands.now 0 (own_turns thread turns.now)) }
+        ++ (flat_map (own_text thread) lines.now ++ waiting_line rows.now states.now next)) }
 {
-    let mut at = 0;
-    for turn in turns {
-        if turn.thread as usize == thread {
-            write_done_at(out, rows, turn, commands, at)?;
-            at = index_after(commands, at, &turn.answer);
-        }
+    write_own_lines(out, thread, lines)?;
+    if let Some(command) = next {
+        write_waiting(out, rows, states, &command)?;
     }
-    write_waiting_at(out, rows, states, commands, at)
+    Ok(())
 }
 
 /// Writes what of a quiet thread is told: that it is done, or the command that it waits at.
@@ -179,15 +157,12 @@ fn write_quiet_line<A: Allocator>(
     out: &mut String<A>,
     rows: &[Row],
     states: &[State],
-    commands: &[ThreadCommand],
-    thread: usize,
-    turns: &[Turn],
+    next: Option<ThreadCommand>,
 ) -> Result<(), NoMemory>
-    requires { thread < 2 ^ 32 }
-    ensures { OnOk result (string_bytes out.new ≡ string_bytes out.old
-        ++ quiet_line rows.now states.now (command_after commands.now (own_turns thread turns.now))) }
+    ensures { OnOk result (string_bytes out.new
+        ≡ string_bytes out.old ++ quiet_line rows.now states.now next) }
 {
-    match command_after(commands, turns, thread as u32) {
+    match next {
         None => {
             out.push_str("done\n")?;
             Ok(())
@@ -199,41 +174,47 @@ fn write_quiet_line<A: Allocator>(
 /// Writes what of a thread is told.
 fn write_told<A: Allocator>(
     out: &mut String<A>,
-    rows: &[Row],
-    quiet: bool,
-    commands: &[ThreadCommand],
+    program: &ToldProgram<'_, '_, A>,
     thread: usize,
     run: &FoundRun<A>,
+    lines: &[TurnLine<A>],
 ) -> Result<(), NoMemory>
-    requires { thread < 2 ^ 32 }
+    requires thread { thread < 2 ^ 32 }
+    requires lines { lines.now
+        ≡ lines_of_turns program.now.rows.now (commands_in program.now.commands.now) run.now.turns }
     ensures { OnOk result (string_bytes out.new ≡ string_bytes out.old
-        ++ told_lines rows.now quiet commands.now run.now thread) }
+        ++ told_lines program.now.rows.now (is_quiet program.now.voices.now thread)
+        (commands_in program.now.commands.now thread) run.now thread) }
 {
-    if quiet {
-        write_quiet_line(out, rows, run.states(), commands, thread, run.turns())
+    let rows = program.rows;
+    let own = thread_commands(program.commands, thread);
+    let next = command_after(own, run.turns(), thread as u32);
+    if is_quiet(program.voices, thread) {
+        write_quiet_line(out, rows, run.states(), next)
     } else {
-        write_thread_lines(out, rows, run.states(), commands, thread, run.turns())
+        write_thread_lines(out, rows, run.states(), thread, lines, next)
     }
 }
 
 /// Writes each thread.
 fn write_threads<A: Allocator>(
     out: &mut String<A>,
-    rows: &[Row],
-    names: &[Option<&[u8]>],
-    voices: &[Voice],
-    commands: &[Vec<ThreadCommand, A>],
+    program: &ToldProgram<'_, '_, A>,
     run: &FoundRun<A>,
+    lines: &[TurnLine<A>],
 ) -> Result<(), NoMemory>
-    requires names { AreTexts names.now }
-    requires few { length names.now < 2 ^ 32 }
+    requires names { AreTexts program.now.names.now }
+    requires few { length program.now.names.now < 2 ^ 32 }
+    requires lines { lines.now
+        ≡ lines_of_turns program.now.rows.now (commands_in program.now.commands.now) run.now.turns }
     ensures { OnOk result (string_bytes out.new ≡ string_bytes out.old
-        ++ threads_text rows.now voices.now (commands_in commands.now) run.now 0 (names_kept names.now)) }
+        ++ threads_text program.now.rows.now program.now.voices.now (commands_in program.now.commands.now) run.now 0
+        (names_kept program.now.names.now)) }
 {
+    let names = program.names;
     for (thread, name) in names.iter().enumerate() {
         write_thread_head(out, thread + 1, *name)?;
-        let own = thread_commands(commands, thread);
-        write_told(out, rows, is_quiet(voices, thread), own, thread, run)?;
+        write_told(out, program, thread, run, lines)?;
     }
     Ok(())
 }
@@ -279,45 +260,57 @@ pub(super) fn name_at<'t>(names: &[Option<&'t [u8]>], thread: u32) -> Option<&'t
     }
 }
 
-/// Writes a turn of a thread: its name or number, the command that it did, if there is one, and its answer.
+/// Writes a turn behind the name or the number of its thread.
 #[tactic(auto, using(crate::proofs::Written::in_three))]
 fn write_turn<A: Allocator>(
     out: &mut String<A>,
-    rows: &[Row],
-    name: Option<&[u8]>,
-    turn: &Turn,
-    command: Option<ThreadCommand>,
-) -> Result<(), NoMemory>
-    requires { IfSome name (λ bytes. IsUtf8 bytes.now) }
-    ensures { OnOk result (string_bytes out.new ≡ string_bytes out.old
-        ++ turn_line rows.now (option_map (λ bytes. bytes.now) name.entry) turn.now command) }
-{
-    let Some(command) = command else {
-        return Ok(());
-    };
-    write_thread_word(out, turn.thread as usize + 1, name)?;
-    out.push_str(" ")?;
-    write_done(out, rows, turn, &command)
-}
-
-/// Writes the turns in their order.
-fn write_turns<A: Allocator>(
-    out: &mut String<A>,
-    rows: &[Row],
     names: &[Option<&[u8]>],
-    commands: &[Vec<ThreadCommand, A>],
-    turns: &[Turn],
+    line: &TurnLine<A>,
 ) -> Result<(), NoMemory>
     requires { AreTexts names.now }
-    ensures { OnOk result (string_bytes out.new ≡ string_bytes out.old
-        ++ order_text rows.now (names_kept names.now) (commands_in commands.now) turns.now) }
+    ensures { OnOk result (string_bytes out.new
+        ≡ string_bytes out.old ++ named_text (names_kept names.now) line.now) }
 {
-    out.push_str("order\n")?;
-    for (i, turn) in turns.iter().enumerate() {
-        let command = command_of_turn(commands, &turns[..i], turn);
-        write_turn(out, rows, name_at(names, turn.thread), turn, command)?;
+    let Some(text) = line.text() else {
+        return Ok(());
+    };
+    let thread = line.turn().thread;
+    write_thread_word(out, thread as usize + 1, name_at(names, thread))?;
+    out.push_str(" ")?;
+    out.push_str(text)?;
+    Ok(())
+}
+
+/// Writes turns in their order.
+fn write_turns<A: Allocator>(
+    out: &mut String<A>,
+    names: &[Option<&[u8]>],
+    lines: &[TurnLine<A>],
+) -> Result<(), NoMemory>
+    requires { AreTexts names.now }
+    ensures { OnOk result (string_bytes out.new
+        ≡ string_bytes out.old ++ flat_map (named_text (names_kept names.now)) lines.now) }
+{
+    for line in lines {
+        write_turn(out, names, line)?;
     }
     Ok(())
+}
+
+/// Writes one order that leads to an outcome.
+fn write_order<A: Allocator>(
+    out: &mut String<A>,
+    program: &ToldProgram<'_, '_, A>,
+    lines: &[TurnLine<A>],
+) -> Result<(), NoMemory>
+    requires { AreTexts program.now.names.now }
+    ensures { (turns : Log) →
+        lines.now ≡ lines_of_turns program.now.rows.now (commands_in program.now.commands.now) turns →
+        OnOk result (string_bytes out.new ≡ string_bytes out.old ++ order_text program.now.rows.now
+        (names_kept program.now.names.now) (commands_in program.now.commands.now) turns) }
+{
+    out.push_str("order\n")?;
+    write_turns(out, program.names, lines)
 }
 
 // ---- outcomes
@@ -342,20 +335,20 @@ pub(crate) fn write_outcome<A: Allocator>(
     number: usize,
     count: usize,
     run: &FoundRun<A>,
+    lines: &[TurnLine<A>],
 ) -> Result<(), NoMemory>
     requires names { AreTexts program.now.names.now }
     requires few { length program.now.names.now < 2 ^ 32 }
+    requires lines { lines.now
+        ≡ lines_of_turns program.now.rows.now (commands_in program.now.commands.now) run.now.turns }
     ensures { OnOk result (string_bytes out.new ≡ string_bytes out.old
         ++ outcome_text program.now.rows.now (names_kept program.now.names.now) program.now.voices.now
         (commands_in program.now.commands.now) number count run.now) }
 {
-    let rows = program.rows;
-    let names = program.names;
-    let commands = program.commands;
     write_outcome_line(out, number, count)?;
-    write_threads(out, rows, names, program.voices, commands, run)?;
-    write_tracees(out, rows, run.states())?;
-    write_turns(out, rows, names, commands, run.turns())?;
+    write_threads(out, program, run, lines)?;
+    write_tracees(out, program.rows, run.states())?;
+    write_order(out, program, lines)?;
     out.push_str("\n")?;
     Ok(())
 }

@@ -1,13 +1,44 @@
 -- What is cut off at the end is cut off behind all outcomes.
-use Rattle.std.proofs.Common.{◌∙◌, ◌++◌, List, ap, length, string_bytes}
+use Rattle.std.proofs.Common.{◌≡◌, ◌∙◌, ◌++◌, List, OnOk, ap, length, string_bytes, subst}
+use Rattle.std.specs.Io.KnownBytes.{Appends}
 use Rattle.stop_explorer.specs.Search.{commands_in}
 use Rattle.stop_explorer.specs.Run.{EndedRun}
 use Rattle.tracer_cli.specs.Chosen.{chosen_of}
 use Rattle.tracer_cli.specs.LitmusDraft.{names_kept}
 use Rattle.tracer_cli.specs.OutcomeText.{allowed_line, chosen_text, counts_line, outcome_texts}
-use Rattle.tracer_cli.proofs.Printing.{cut_behind}
+use Rattle.tracer_cli.proofs.Printing.{cut_behind, written_behind}
 use Rattle.tracer_cli.proofs.TextOfParts.{cut_off_as}
 use Rattle.tracer_cli.proofs.outcomes.printed.print_all.Goals as goal
+
+pub returns-clause-ok : goal.returns-clause-ok
+returns-clause-ok g c =
+    let program = c.args.program.now in
+    let threads = length program.commands.now in
+    let commands = commands_in program.commands.now in
+    let conditions = c.args.conditions.now in
+    let rows = program.rows.now in
+    let names = names_kept program.names.now in
+    let voices = program.voices.now in
+    let places = c.args.explored.now.places in
+    let chosen : List EndedRun → List EndedRun = λ runs. chosen_of threads commands conditions runs in
+    let found = c.args.explored.now.runs.items in
+    let runs = c.as_slice-runs.result.now in
+    let count = c.count_chosen-count.result in
+    let start = g.W.Write.contents c.args.output.now in
+    let last = g.W.Write.contents c.print_end.new.output in
+    let said : outcome_texts rows names voices commands 1 count (chosen runs)
+    ++ (counts_line count places ++ allowed_line c.args.required)
+    ≡ chosen_text rows names voices commands c.args.required places (chosen found) =
+    ap (λ rs. outcome_texts rows names voices commands 1 count (chosen rs)
+    ++ (counts_line count places ++ allowed_line c.args.required)) c.as_slice-runs.ensures.value
+    ∙ ap (λ n. outcome_texts rows names voices commands 1 n (chosen found)
+    ++ (counts_line n places ++ allowed_line c.args.required))
+    (c.count_chosen-count.ensures ∙ ap (λ rs. length (chosen rs)) c.as_slice-runs.ensures.value) in
+    subst (λ t. OnOk c.print_end.result (Appends start last t)) said
+    (written_behind c.print_end.result start (g.W.Write.contents c.print_chosen.new.output) last
+    (string_bytes c.args.printer.now.text) (outcome_texts rows names voices commands 1 count (chosen runs))
+    (string_bytes c.print_chosen.new.printer.text) (counts_line count places ++ allowed_line c.args.required)
+    c.requires.begin c.in_ok-print_chosen.ensures.ok c.print_end.ensures.ok)
 
 pub returns-clause-cut_off : goal.returns-clause-cut_off
 returns-clause-cut_off g c =
@@ -35,6 +66,6 @@ returns-clause-cut_off g c =
     ++ (counts_line n places ++ allowed_line c.args.required))
     (c.count_chosen-count.ensures ∙ ap (λ rs. length (chosen rs)) c.as_slice-runs.ensures.value))
     (cut_behind c.print_end.result start (g.W.Write.contents c.print_chosen.new.output) last
-    (string_bytes c.args.out.now) (outcome_texts rows names voices commands 1 count (chosen runs))
-    (string_bytes c.print_chosen.new.out) (counts_line count places ++ allowed_line c.args.required) c.requires.begin
+    (string_bytes c.args.printer.now.text) (outcome_texts rows names voices commands 1 count (chosen runs))
+    (string_bytes c.print_chosen.new.printer.text) (counts_line count places ++ allowed_line c.args.required) c.requires.begin
     c.in_ok-print_chosen.ensures.ok c.print_end.ensures.cut_off)

@@ -1,9 +1,10 @@
 -- The next outcome is printed with the next number, or is left out.
-use Rattle.std.proofs.Common.{◌∙◌, ◌+◌, ap, arith, drop, length, string_bytes, sym}
+use Rattle.std.proofs.Common.{◌∙◌, ◌+◌, ap, arith, drop, length, string_bytes, subst, sym}
 use Rattle.stop_explorer.specs.Search.{commands_in}
 use Rattle.tracer_cli.specs.Chosen.{chosen_of}
 use Rattle.tracer_cli.specs.LitmusDraft.{names_kept}
 use Rattle.tracer_cli.specs.OutcomeText.{outcome_text, outcome_texts}
+use Rattle.tracer_cli.specs.TurnLines.{AreLines}
 use Rattle.tracer_cli.proofs.OutcomeLines.{chosen_here, chosen_not_here, chosen_over, outcomes_more, outcomes_over}
 use Rattle.tracer_cli.proofs.Printing.{at_last, cut_there, one_more, so_far_as}
 use Rattle.tracer_cli.proofs.TextOfParts.{of_error}
@@ -23,7 +24,7 @@ loop-run-preserved g c =
     let before = c.loop-run.before in
     let rest = chosen_of threads commands conditions (drop (c.loop-run.run-index + 1) c.args.runs.now) in
     let start = g.W.Write.contents c.args.output.now in
-    let old = string_bytes c.args.out.now in
+    let old = string_bytes c.args.printer.now.text in
     let all = outcome_texts rows names voices commands 1 c.args.count
     (chosen_of threads commands conditions c.args.runs.now) in
     let here = outcome_texts rows names voices commands (before + 1) c.args.count
@@ -33,27 +34,30 @@ loop-run-preserved g c =
     elim c.if-is_chosen.branch [
       | then-is_chosen+in_ok-print_outcome w ↦ record {
         few = omega (arith, w.before-is, c.loop-run.invariant.few);
+        lines = subst (λ printer. AreLines rows commands printer.lines) (sym w.printer-is)
+            w.in_ok-print_outcome.ensures.lines;
         so_far = so_far_as start (g.W.Write.contents w.print_outcome.new.output)
-            (g.W.Write.contents c.if-is_chosen.output) old all (string_bytes w.print_outcome.new.out)
-            (string_bytes c.if-is_chosen.out)
+            (g.W.Write.contents c.if-is_chosen.output) old all (string_bytes w.print_outcome.new.printer.text)
+            (string_bytes c.if-is_chosen.printer.text)
             (outcome_texts rows names voices commands (before + 1 + 1) c.args.count rest) after
-            (ap g.W.Write.contents w.output-is) (ap (λ out. string_bytes out) w.out-is)
+            (ap g.W.Write.contents w.output-is) (ap (λ printer. string_bytes printer.text) w.printer-is)
             (ap (λ n. outcome_texts rows names voices commands (n + 1) c.args.count rest) w.before-is)
             (one_more start (g.W.Write.contents c.loop-run.output) (g.W.Write.contents w.print_outcome.new.output)
-            old all (string_bytes c.loop-run.out) here
+            old all (string_bytes c.loop-run.printer.text) here
             (outcome_text rows names voices commands (before + 1) c.args.count run)
             (outcome_texts rows names voices commands (before + 1 + 1) c.args.count rest)
             c.loop-run.invariant.so_far
             (outcomes_more rows names voices commands (before + 1) c.args.count _ run rest
             (chosen_here threads commands conditions c.args.runs.now c.loop-run.run-index run c.loop-run-test.true
             c.run-item.is (told ∙ w.if-is_chosen.true)))
-            (string_bytes w.print_outcome.new.out) w.in_ok-print_outcome.ensures.ok);
+            (string_bytes w.print_outcome.new.printer.text) w.in_ok-print_outcome.ensures.ok);
       }
       | else-is_chosen w ↦ record {
         few = omega (arith, w.before-is, c.loop-run.invariant.few);
+        lines = subst (λ printer. AreLines rows commands printer.lines) (sym w.printer-is) c.loop-run.invariant.lines;
         so_far = so_far_as start (g.W.Write.contents c.loop-run.output) (g.W.Write.contents c.if-is_chosen.output)
-            old all (string_bytes c.loop-run.out) (string_bytes c.if-is_chosen.out) here after
-            (ap g.W.Write.contents w.output-is) (ap (λ out. string_bytes out) w.out-is)
+            old all (string_bytes c.loop-run.printer.text) (string_bytes c.if-is_chosen.printer.text) here after
+            (ap g.W.Write.contents w.output-is) (ap (λ printer. string_bytes printer.text) w.printer-is)
             (ap (λ n. outcome_texts rows names voices commands (n + 1) c.args.count rest) w.before-is
             ∙ ap (λ chosen. outcome_texts rows names voices commands (before + 1) c.args.count chosen)
             (sym (chosen_not_here threads commands conditions c.args.runs.now c.loop-run.run-index run
@@ -76,9 +80,9 @@ returns-in_err-print_outcome-clause-cut_off g c =
     let rest = chosen_of threads commands conditions (drop (c.loop-run.run-index + 1) c.args.runs.now) in
     of_error c.from_residual.result
     (cut_there (g.W.Write.contents c.args.output.now) (g.W.Write.contents c.loop-run.output)
-    (g.W.Write.contents c.print_outcome.new.output) (string_bytes c.args.out.now)
+    (g.W.Write.contents c.print_outcome.new.output) (string_bytes c.args.printer.now.text)
     (outcome_texts rows names voices commands 1 c.args.count
-    (chosen_of threads commands conditions c.args.runs.now)) (string_bytes c.loop-run.out)
+    (chosen_of threads commands conditions c.args.runs.now)) (string_bytes c.loop-run.printer.text)
     (outcome_texts rows names voices commands (before + 1) c.args.count
     (chosen_of threads commands conditions (drop c.loop-run.run-index c.args.runs.now)))
     (outcome_text rows names voices commands (before + 1) c.args.count run)
@@ -97,9 +101,9 @@ returns-clause-ok g c =
     let rows = program.rows.now in
     let names = names_kept program.names.now in
     let voices = program.voices.now in
-    at_last (g.W.Write.contents c.args.output.now) (g.W.Write.contents c.loop-run.output) (string_bytes c.args.out.now)
+    at_last (g.W.Write.contents c.args.output.now) (g.W.Write.contents c.loop-run.output) (string_bytes c.args.printer.now.text)
     (outcome_texts rows names voices commands 1 c.args.count
-    (chosen_of threads commands conditions c.args.runs.now)) (string_bytes c.loop-run.out)
+    (chosen_of threads commands conditions c.args.runs.now)) (string_bytes c.loop-run.printer.text)
     (outcome_texts rows names voices commands (c.loop-run.before + 1) c.args.count
     (chosen_of threads commands conditions (drop c.loop-run.run-index c.args.runs.now))) c.loop-run.invariant.so_far
     (outcomes_over rows names voices commands _ c.args.count _

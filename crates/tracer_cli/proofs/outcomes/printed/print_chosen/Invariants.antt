@@ -4,17 +4,19 @@ use Rattle.stop_explorer.specs.Search.{commands_in}
 use Rattle.tracer_cli.specs.Chosen.{chosen_of}
 use Rattle.tracer_cli.specs.LitmusDraft.{names_kept}
 use Rattle.tracer_cli.specs.OutcomeText.{outcome_texts}
+use Rattle.tracer_cli.specs.TurnLines.{AreLines}
 use Rattle.tracer_cli.proofs.Printing.{IsSoFar}
 use Rattle.tracer_cli.proofs.outcomes.printed.print_chosen.Given as goal
 
 abbrev pub invariant-loop-run : goal.invariant-loop-run
 invariant-loop-run g l = record {
   few : l.before ≤ l.run-index;
-  so_far : IsSoFar (g.W.Write.contents l.fn.output) (g.W.Write.contents l.output) (string_bytes l.fn.out)
+  lines : AreLines l.program.rows.now (commands_in l.program.commands.now) l.printer.lines;
+  so_far : IsSoFar (g.W.Write.contents l.fn.output) (g.W.Write.contents l.output) (string_bytes l.fn.printer.text)
       (outcome_texts l.program.rows.now (names_kept l.program.names.now) l.program.voices.now
       (commands_in l.program.commands.now) 1 l.count
       (chosen_of (length l.program.commands.now) (commands_in l.program.commands.now) l.conditions l.runs))
-      (string_bytes l.out)
+      (string_bytes l.printer.text)
       (outcome_texts l.program.rows.now (names_kept l.program.names.now) l.program.voices.now
       (commands_in l.program.commands.now) (l.before + 1) l.count
       (chosen_of (length l.program.commands.now) (commands_in l.program.commands.now) l.conditions

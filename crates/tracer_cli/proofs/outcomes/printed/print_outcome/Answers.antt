@@ -10,7 +10,7 @@ pub returns-in-Ok-clause-cut_off : goal.returns-in-Ok-clause-cut_off
 returns-in-Ok-clause-cut_off g c =
     let program = c.args.program.now in
     cut_off_as c.write_enough.result (g.W.Write.contents c.args.output.now)
-    (g.W.Write.contents c.write_enough.new.output) (string_bytes c.write_outcome.new.out)
-    (string_bytes c.args.out.now ++ outcome_text program.rows.now (names_kept program.names.now) program.voices.now
+    (g.W.Write.contents c.write_enough.new.output) (string_bytes c.collect_outcome.new.printer.text)
+    (string_bytes c.args.printer.now.text ++ outcome_text program.rows.now (names_kept program.names.now) program.voices.now
     (commands_in program.commands.now) c.args.number c.args.count c.args.run.now)
-    c.in-Ok.ensures c.write_enough.ensures.cut_off
+    c.in-Ok.ensures.text c.write_enough.ensures.cut_off

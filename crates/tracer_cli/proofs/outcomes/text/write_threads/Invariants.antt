@@ -7,5 +7,7 @@ use Rattle.tracer_cli.proofs.outcomes.text.write_threads.Given as goal
 
 abbrev pub invariant-loop-thread : goal.invariant-loop-thread
 invariant-loop-thread g l =
-    string_bytes l.out ++ threads_text l.rows l.voices (commands_in l.commands) l.run l.thread (names_kept (drop l.thread l.names))
-    ≡ string_bytes l.fn.out ++ threads_text l.rows l.voices (commands_in l.commands) l.run 0 (names_kept l.names)
+    string_bytes l.out ++ threads_text l.program.rows.now l.program.voices.now (commands_in l.program.commands.now)
+    l.run l.thread (names_kept (drop l.thread l.program.names.now))
+    ≡ string_bytes l.fn.out ++ threads_text l.program.rows.now l.program.voices.now
+    (commands_in l.program.commands.now) l.run 0 (names_kept l.program.names.now)

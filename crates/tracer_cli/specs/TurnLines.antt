@@ -1,5 +1,5 @@
--- The lines of an outcome's turns. The text of a thread has those of its own turns, the order has all, each behind the
--- name or the number of its thread.
+-- The lines of an outcome's turns. A thread's part of the text has the lines of its own turns; the order has all lines,
+-- each after the name or number of its thread.
 use Rattle.std.specs.Prelude.{◌≡◌, ◌+◌, ◌++◌, ◌∷◌, [], ℕ, List, map, if◌then◌else◌, codes}
 use Rattle.std.specs.Prelude.{Option, Some, None, option_map}
 use Rattle.stop_history.specs.declared.roster.Row.{Row}

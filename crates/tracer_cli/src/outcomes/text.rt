@@ -260,7 +260,7 @@ pub(super) fn name_at<'t>(names: &[Option<&'t [u8]>], thread: u32) -> Option<&'t
     }
 }
 
-/// Writes a turn behind the name or the number of its thread.
+/// Writes the name or number of a turn's thread, and then the line of the turn.
 #[tactic(auto, using(crate::proofs::Written::in_three))]
 fn write_turn<A: Allocator>(
     out: &mut String<A>,

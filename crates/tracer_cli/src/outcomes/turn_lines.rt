@@ -18,7 +18,7 @@ use stop_explorer::{ThreadCommand, Turn};
 /// At least the bytes of each line of an outcome: 32 of a name, 50 of a command and 35 of an answer.
 pub(super) const LINE: usize = 128;
 
-/// A turn, and its line: the command that it did, and what it was answered. There is none where it did no command.
+/// A turn, and its line: the command that it did, and the answer. It has no line if it did no command.
 #[derive(Drop)]
 pub(crate) struct TurnLine<A: Allocator> {
     turn: Turn,
@@ -42,7 +42,7 @@ impl<A: Allocator> TurnLine<A> {
         self.turn
     }
 
-    /// Its line, to the end of it.
+    /// Its line, with the line feed.
     pub(crate) fn text(&self) -> Option<&str>
         ensures { option_map (λ text. text.now) result ≡ self.now.text }
     {
@@ -53,9 +53,8 @@ impl<A: Allocator> TurnLine<A> {
     }
 }
 
-/// The lines of the turns of the outcome that was told last. Outcomes that follow one another begin alike, so the next
-/// one keeps the lines of the turns that they have in common. `spare` has the strings of lines that are no longer
-/// needed.
+/// The lines of the turns of the last outcome. Outcomes that follow one another begin with the same turns, so the next
+/// one keeps the lines of those. `spare` has strings that can be used again.
 #[derive(Drop)]
 pub(crate) struct TurnLines<A: Allocator> {
     lines: Vec<TurnLine<A>, A>,
@@ -72,7 +71,7 @@ impl<A: Allocator> Model for TurnLines<A> {
 }
 
 impl<A: Allocator + Copy> TurnLines<A> {
-    /// No line yet, with room for this many.
+    /// An empty list, with room for this many lines.
     pub(crate) fn new(alloc: A, room: usize) -> Result<TurnLines<A>, NoMemory>
         ensures { IfOk result (λ lines. lines ≡ []) }
     {
@@ -84,7 +83,7 @@ impl<A: Allocator + Copy> TurnLines<A> {
         Ok(TurnLines { lines, spare })
     }
 
-    /// Writes the lines of turns, but for those that it has.
+    /// Replaces the lines by those of these turns. The turns that both begin with keep their lines.
     pub(crate) fn tell(
         &mut self,
         rows: &[Row],
@@ -135,7 +134,7 @@ impl<A: Allocator + Copy> TurnLines<A> {
         Ok(text)
     }
 
-    /// A text of no bytes yet: one that is spare, if there is one.
+    /// An empty string: a saved one, if there is one.
     fn empty_text(&mut self) -> Result<String<A>, NoMemory>
         ensures same { self.new ≡ self.old }
         ensures empty { IfOk result (λ text. string_bytes text ≡ []) }
@@ -165,7 +164,7 @@ impl<A: Allocator> TurnLines<A> {
         self.lines.len()
     }
 
-    /// Keeps the first lines alone, this many of them.
+    /// Keeps only this many lines, the first ones.
     fn keep(&mut self, count: usize)
         requires { count ≤ length self.old }
         ensures { self.new ≡ take count self.old }
@@ -175,7 +174,7 @@ impl<A: Allocator> TurnLines<A> {
         }
     }
 
-    /// Gives up the last line, if there is one. Its string is kept.
+    /// Removes the last line, if there is one, and saves its string.
     fn give_up(&mut self)
         ensures { self.new ≡ take (length self.old - 1) self.old }
     {
@@ -184,7 +183,7 @@ impl<A: Allocator> TurnLines<A> {
         }
     }
 
-    /// Keeps a string for another line. Where there is no room for it, it is dropped.
+    /// Saves a string for another line. If there is no room to save it, it is dropped.
     fn set_aside(&mut self, text: Option<String<A>>)
         ensures { self.new ≡ self.old }
     {
@@ -217,7 +216,7 @@ fn is_of<A: Allocator>(line: &TurnLine<A>, turn: &Turn) -> bool
     line.turn == *turn
 }
 
-/// How many turns lines and a list of turns begin with alike.
+/// How many of the first turns are the same.
 fn count_same<A: Allocator>(lines: &[TurnLine<A>], turns: &[Turn]) -> usize
     ensures within { result ≤ length lines.now }
     ensures shorter { result ≤ length turns.now }

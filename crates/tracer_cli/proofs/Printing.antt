@@ -1,15 +1,20 @@
 -- Texts that are collected and written part after part, and what of them is printed where a write fails.
-use Rattle.std.proofs.Common.{refl, ◌≡◌, ◌∙◌, ◌<◌, ◌++◌, [], ℕ, true, false, List, Option, Result, Ok, Err, ap, append_assoc}
-use Rattle.std.proofs.Common.{append-nil, length, subst, sym}
+use Rattle.std.proofs.Common.{refl, ◌≡◌, ◌∙◌, ◌<◌, ◌++◌, [], ℕ, Bool, true, false, List, Option, Result, Ok, Err, ap}
+use Rattle.std.proofs.Common.{append_assoc, append-nil, length, subst, sym}
 use Rattle.std.proofs.KnownBytes.{Appends-nil}
 use Rattle.std.specs.Io.KnownBytes.{Appends}
 use Rattle.std.specs.Prelude.{IfErr, OnOk}
+use Rattle.stop_history.specs.declared.roster.Row.{Row}
+use Rattle.stop_explorer.specs.declared.command.ThreadCommand.{ThreadCommand}
+use Rattle.stop_explorer.specs.declared.voice.Voice.{Voice}
+use Rattle.stop_explorer.specs.Run.{EndedRun}
 use Rattle.tracer_cli.specs.declared.failure.Failure.{Failure}
 use Rattle.tracer_cli.specs.declared.failure.Failure.TheVariants.{CannotWrite, Forbidden, NoMemory}
 use Rattle.tracer_cli.specs.declared.arguments.ExploreOptions.{ExploreOptions}
 use Rattle.tracer_cli.specs.CutOff.{IsCollected, IsCutOff}
 use Rattle.tracer_cli.specs.Explored.{IsShown, PrintsOutcomes, WritesShown}
 use Rattle.tracer_cli.specs.LitmusFile.{LitmusContent}
+use Rattle.tracer_cli.specs.OutcomeText.{allowed_line, chosen_text, counts_line, outcome_texts}
 use Rattle.tracer_cli.specs.Run.{Writes, WritesIfMemory}
 use Rattle.tracer_cli.proofs.TextOfParts.{appends_both, cut_in_part}
 
@@ -19,7 +24,7 @@ nothing_of a text some = (0, some, Appends-nil a)
 
 -- ---- part after part
 
--- of a text behind one that was collected, some is written, some is collected, and the rest is left
+-- of a text after one that was collected, some is written, some is collected, and the rest is left
 abbrev pub IsSoFar : (before now : Option (List ℕ)) → (old all new rest : List ℕ) → Type 0
 IsSoFar before now old all new rest =
     (written : List ℕ) × Appends before now written × (written ++ (new ++ rest) ≡ old ++ all)
@@ -61,26 +66,42 @@ at_last a b old all new rest so_far none = (
   ap (λ t. so_far.0 ++ t) (sym (append-nil new) ∙ ap (λ t. new ++ t) (sym none)) ∙ so_far.2,
 )
 
--- a first text is written or still in the buffer, and a second one is cut off: then the two together are cut off
-pub cut_behind : {T E : Type 0} (result : Result T E) (a b c : Option (List ℕ)) (old first mid second : List ℕ)
+-- ---- a second text after it
+
+-- a first text is written or is still in the buffer
+whole_text : (a b : Option (List ℕ)) (old first mid second : List ℕ) → old ≡ []
+    → (so_far : IsCollected a b old first mid) → so_far.0 ++ (mid ++ second) ≡ first ++ second
+whole_text a b old first mid second none so_far =
+    sym (append_assoc so_far.0 mid second) ∙ ap (λ t. t ++ second) (so_far.2 ∙ ap (λ o. o ++ first) none)
+
+-- if the second one is cut off, the two together are
+pub cut_after : {T E : Type 0} (result : Result T E) (a b c : Option (List ℕ)) (old first mid second : List ℕ)
     → old ≡ [] → IsCollected a b old first mid → IfErr result (λ _. IsCutOff b c (mid ++ second))
     → IfErr result (λ _. IsCutOff a c (first ++ second))
-cut_behind {T} {E} (Ok done) a b c old first mid second none so_far off = tt
-cut_behind {T} {E} (Err error) a b c old first mid second none so_far off =
-    let whole : so_far.0 ++ ((mid ++ second) ++ []) ≡ first ++ second =
-    ap (λ t. so_far.0 ++ t) (append-nil (mid ++ second)) ∙ sym (append_assoc so_far.0 mid second)
-    ∙ ap (λ t. t ++ second) (so_far.2 ∙ ap (λ o. o ++ first) none) in
+cut_after {T} {E} (Ok done) a b c old first mid second none so_far off = tt
+cut_after {T} {E} (Err error) a b c old first mid second none so_far off =
+    let whole = ap (λ t. so_far.0 ++ t) (append-nil (mid ++ second)) ∙ whole_text a b old first mid second none so_far in
     cut_in_part so_far.0 (mid ++ second) [] (first ++ second) a b c whole so_far.1 off
 
 -- and if it is written, the two are
-pub written_behind : {T E : Type 0} (result : Result T E) (a b c : Option (List ℕ)) (old first mid second : List ℕ)
+pub written_after : {T E : Type 0} (result : Result T E) (a b c : Option (List ℕ)) (old first mid second : List ℕ)
     → old ≡ [] → IsCollected a b old first mid → OnOk result (Appends b c (mid ++ second))
     → OnOk result (Appends a c (first ++ second))
-written_behind {T} {E} (Ok done) a b c old first mid second none so_far added =
-    let whole : so_far.0 ++ (mid ++ second) ≡ first ++ second =
-    sym (append_assoc so_far.0 mid second) ∙ ap (λ t. t ++ second) (so_far.2 ∙ ap (λ o. o ++ first) none) in
-    subst (Appends a c) whole (appends_both a b c so_far.0 (mid ++ second) so_far.1 added)
-written_behind {T} {E} (Err error) a b c old first mid second none so_far added = tt
+written_after {T} {E} (Ok done) a b c old first mid second none so_far added =
+    subst (Appends a c) (whole_text a b old first mid second none so_far)
+    (appends_both a b c so_far.0 (mid ++ second) so_far.1 added)
+written_after {T} {E} (Err error) a b c old first mid second none so_far added = tt
+
+-- all outcomes that are chosen, and how many they and the places are
+pub whole_chosen : (rows : List Row) (names : List (Option (List ℕ))) (voices : List Voice)
+    (commands : ℕ → List ThreadCommand) (required : Bool) (places count : ℕ) (chosen found : List EndedRun)
+    → chosen ≡ found → count ≡ length chosen
+    → outcome_texts rows names voices commands 1 count chosen ++ (counts_line count places ++ allowed_line required)
+    ≡ chosen_text rows names voices commands required places found
+whole_chosen rows names voices commands required places count chosen found same counted =
+    (λ i. outcome_texts rows names voices commands 1 (counted i) chosen
+    ++ (counts_line (counted i) places ++ allowed_line required))
+    ∙ ap (chosen_text rows names voices commands required places) same
 
 -- ---- what is printed of a file
 

@@ -1,7 +1,8 @@
 -- The lines of an outcome's turns: of a first part of them, of one turn more, and as texts of threads and the order.
 use Rattle.std.proofs.Common.{refl, ◌≡◌, ◌++◌, ◌∷◌, [], ℕ, suc, zero, Bool, true, false, List, Option, Some, None}
 use Rattle.std.proofs.Common.{◌<◌, ◌+◌, length, get_or, take, slice_get, flat_map, codes, ◌∙◌, ap, sym, subst}
-use Rattle.std.proofs.Common.{append_assoc, append-nil, inl, inr}
+use Rattle.std.proofs.Common.{append_assoc, append-nil, arith, inl, inr}
+use Rattle.std.specs.Option.{unwrap_or}
 use Rattle.std.proofs.lemmas.List.{get_or-map, length-map, take_more_same}
 use Rattle.std.proofs.lemmas.Bool.Decides.{eqb_tells}
 use Rattle.stop_history.specs.declared.roster.Row.{Row}
@@ -11,10 +12,11 @@ use Rattle.stop_explorer.specs.declared.turn.Turn.{Turn}
 use Rattle.stop_explorer.specs.Program.{Log, command_after, index_from, own_turns}
 use Rattle.stop_explorer.specs.Run.{EndedRun}
 use Rattle.stop_explorer.proofs.Logs.{own_none, own_one, progress_one}
-use Rattle.tracer_cli.specs.OutcomeText.{command_of_turn, done_line, name_at, order_lines, order_text, quiet_line}
+use Rattle.stop_explorer.proofs.OwnTurns.{own_here, own_not_here}
+use Rattle.tracer_cli.specs.OutcomeText.{command_of_turn, done_line, name_at, order_lines, order_text}
 use Rattle.tracer_cli.specs.OutcomeText.{thread_lines, told_lines, turn_line, waiting_line}
 use Rattle.tracer_cli.specs.TurnLines.{AreLines, LineOfTurn, line_of_turn, lines_after, lines_of_turns, named_text}
-use Rattle.tracer_cli.specs.TurnLines.{own_text, text_if_some, turns_in}
+use Rattle.tracer_cli.specs.TurnLines.{own_text, turns_in}
 
 -- ---- parts of them
 
@@ -84,7 +86,7 @@ place_of commands thread log = index_from (commands thread) 0 (own_turns thread 
 
 -- what its own turn adds, and another's
 text_of_own : (rows : List Row) (turn : Turn) (did : Option ThreadCommand)
-    → text_if_some (line_of_turn rows turn did).text ≡ done_line rows turn did
+    → unwrap_or (line_of_turn rows turn did).text [] ≡ done_line rows turn did
 text_of_own rows turn None = refl
 text_of_own rows turn (Some command) = refl
 
@@ -103,22 +105,6 @@ own_line rows commands thread before turn own =
 other_line : (thread : ℕ) (line : LineOfTurn) → (line.turn.thread ≡ thread → ⊥) → own_text thread line ≡ []
 other_line thread line apart =
     elim (eqb_tells line.turn.thread thread) [
-      | inl same ↦ absurd (apart same.1)
-      | inr other ↦ rw other.0
-    ]
-
-own_first : (thread : ℕ) (turn : Turn) (turns : Log) → turn.thread ≡ thread
-    → own_turns thread (turn ∷ turns) ≡ turn ∷ own_turns thread turns
-own_first thread turn turns own =
-    elim (eqb_tells turn.thread thread) [
-      | inl same ↦ rw same.0
-      | inr other ↦ absurd (other.1 own)
-    ]
-
-other_first : (thread : ℕ) (turn : Turn) (turns : Log) → (turn.thread ≡ thread → ⊥)
-    → own_turns thread (turn ∷ turns) ≡ own_turns thread turns
-other_first thread turn turns apart =
-    elim (eqb_tells turn.thread thread) [
       | inl same ↦ absurd (apart same.1)
       | inr other ↦ rw other.0
     ]
@@ -152,16 +138,16 @@ thread_told rows states commands thread before (turn ∷ turns) =
           ∙ ap (λ at. done_line rows turn (slice_get own place) ++ thread_lines rows states own at (own_turns thread turns))
           (ap (index_from own 0) (own_one thread before turn same.1)
           ∙ ap (λ came. came.at) (progress_one false own (own_turns thread before) turn))
-          ∙ ap (thread_lines rows states own place) (sym (own_first thread turn turns same.1))
+          ∙ ap (thread_lines rows states own place) (sym (own_here thread (turn ∷ turns) 0 turn (omega arith) same.1))
       | inr other ↦
           ap (λ t. t ++ thread_lines rows states own (place_of commands thread after) (own_turns thread turns))
           (other_line thread line other.1)
           ∙ ap (λ log. thread_lines rows states own (index_from own 0 log) (own_turns thread turns))
           (own_none thread before turn other.1)
-          ∙ ap (thread_lines rows states own place) (sym (other_first thread turn turns other.1))
+          ∙ ap (thread_lines rows states own place) (sym (own_not_here thread (turn ∷ turns) 0 turn (omega arith) other.1))
     ]
 
--- of a loud thread and of a quiet one, where this is next
+-- of a loud thread, where this is next
 pub told_loud : (rows : List Row) (commands : ℕ → List ThreadCommand) (ending : EndedRun) (thread : ℕ) (quiet : Bool)
     (own : List ThreadCommand) (lines : List LineOfTurn) (next : Option ThreadCommand) → quiet ≡ false
     → own ≡ commands thread → lines ≡ lines_of_turns rows commands ending.turns
@@ -175,15 +161,6 @@ told_loud rows commands ending thread quiet own lines next loud own_is are next_
     ∙ ap (λ ls. flat_map (own_text thread) ls
     ++ waiting_line rows ending.states (command_after (commands thread) (own_turns thread ending.turns))) (sym are)
     ∙ ap (λ n. flat_map (own_text thread) lines ++ waiting_line rows ending.states n)
-    (sym (next_is ∙ ap (λ cs. command_after cs (own_turns thread ending.turns)) own_is))
-
-pub told_quiet : (rows : List Row) (commands : ℕ → List ThreadCommand) (ending : EndedRun) (thread : ℕ) (quiet : Bool)
-    (own : List ThreadCommand) (next : Option ThreadCommand) → quiet ≡ true → own ≡ commands thread
-    → next ≡ command_after own (own_turns thread ending.turns)
-    → told_lines rows quiet (commands thread) ending thread ≡ quiet_line rows ending.states next
-told_quiet rows commands ending thread quiet own next is own_is next_is =
-    ap (λ q. told_lines rows q (commands thread) ending thread) is
-    ∙ ap (quiet_line rows ending.states)
     (sym (next_is ∙ ap (λ cs. command_after cs (own_turns thread ending.turns)) own_is))
 
 -- ---- the order

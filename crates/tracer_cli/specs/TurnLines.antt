@@ -1,6 +1,7 @@
 -- The lines of an outcome's turns. A thread's part of the text has the lines of its own turns; the order has all lines,
 -- each after the name or number of its thread.
 use Rattle.std.specs.Prelude.{◌≡◌, ◌+◌, ◌++◌, ◌∷◌, [], ℕ, List, map, if◌then◌else◌, codes}
+use Rattle.std.specs.Option.{unwrap_or}
 use Rattle.std.specs.Prelude.{Option, Some, None, option_map}
 use Rattle.stop_history.specs.declared.roster.Row.{Row}
 use Rattle.stop_explorer.specs.declared.command.ThreadCommand.{ThreadCommand}
@@ -36,18 +37,14 @@ AreLines rows commands lines = lines ≡ lines_of_turns rows commands (turns_in 
 
 -- ---- what is written of a line
 
-abbrev pub text_if_some : Option (List ℕ) → List ℕ
-text_if_some None = []
-text_if_some (Some text) = text
-
 -- in the text of a thread: that of its own turns
 abbrev pub own_text : (thread : ℕ) → LineOfTurn → List ℕ
-own_text thread line = if is_turn_of thread line.turn then text_if_some line.text else []
+own_text thread line = if is_turn_of thread line.turn then unwrap_or line.text [] else []
 
-abbrev pub text_behind : (word : List ℕ) → Option (List ℕ) → List ℕ
-text_behind word None = []
-text_behind word (Some text) = word ++ codes " " ++ text
+abbrev pub text_after : (word : List ℕ) → Option (List ℕ) → List ℕ
+text_after word None = []
+text_after word (Some text) = word ++ codes " " ++ text
 
 -- in the order
 abbrev pub named_text : (names : List (Option (List ℕ))) → LineOfTurn → List ℕ
-named_text names line = text_behind (thread_word (line.turn.thread + 1) (name_at names line.turn.thread)) line.text
+named_text names line = text_after (thread_word (line.turn.thread + 1) (name_at names line.turn.thread)) line.text

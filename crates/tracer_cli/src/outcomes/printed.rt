@@ -40,12 +40,10 @@ fn most_turns<A: Allocator>(program: &ToldProgram<'_, '_, A>) -> usize {
     turns
 }
 
-/// Room for less than is written at once, and an outcome more, and the last two lines.
-fn room<A: Allocator>(program: &ToldProgram<'_, '_, A>) -> usize {
+/// Room for less than is written at once, and an outcome of this many turns more, and the last two lines.
+fn room<A: Allocator>(program: &ToldProgram<'_, '_, A>, turns: usize) -> usize {
     let threads = program.names.len();
-    let lines = most_turns(program)
-        .saturating_add(threads)
-        .saturating_mul(2);
+    let lines = turns.saturating_add(threads).saturating_mul(2);
     lines
         .saturating_add(program.rows.len())
         .saturating_add(8)
@@ -87,7 +85,7 @@ fn collect_outcome<A: Allocator + Copy>(
 {
     printer
         .lines
-        .tell(program.rows, program.commands, run.turns())?;
+        .set_turns(program.rows, program.commands, run.turns())?;
     let lines = printer.lines.as_slice();
     write_outcome(&mut printer.text, program, number, count, run, lines)
 }
@@ -225,8 +223,9 @@ pub(crate) fn print_outcomes<A: Allocator + Copy, W: Write>(
         explored.now.runs.items)) (W.contents output.old) (W.contents output.new) result }
     ensures unwritten { IsUnwritten output.old output.new result }
 {
-    let text = String::with_capacity(alloc, room(program))?;
-    let lines = TurnLines::new(alloc, most_turns(program))?;
+    let turns = most_turns(program);
+    let text = String::with_capacity(alloc, room(program, turns))?;
+    let lines = TurnLines::new(alloc, turns)?;
     let mut printer = Printer { text, lines };
     match print_all(
         &mut printer,

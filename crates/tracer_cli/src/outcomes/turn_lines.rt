@@ -84,7 +84,7 @@ impl<A: Allocator + Copy> TurnLines<A> {
     }
 
     /// Replaces the lines by those of these turns. The turns that both begin with keep their lines.
-    pub(crate) fn tell(
+    pub(crate) fn set_turns(
         &mut self,
         rows: &[Row],
         commands: &[Vec<ThreadCommand, A>],
@@ -170,12 +170,12 @@ impl<A: Allocator> TurnLines<A> {
         ensures { self.new ≡ take count self.old }
     {
         'lines: while self.len() > count {
-            self.give_up();
+            self.remove_last();
         }
     }
 
     /// Removes the last line, if there is one, and saves its string.
-    fn give_up(&mut self)
+    fn remove_last(&mut self)
         ensures { self.new ≡ take (length self.old - 1) self.old }
     {
         if let Some(last) = self.lines.pop() {

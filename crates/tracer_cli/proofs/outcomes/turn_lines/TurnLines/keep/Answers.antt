@@ -9,8 +9,8 @@ lines-preserved g c =
     let before = length lines - 1 in
     let longer : c.args.count < length lines = subst (λ n. c.args.count < n) c.len.ensures c.lines-test.true in
     record {
-      least = omega (arith, ap length c.give_up.ensures, length-take before lines, longer);
-      same = ap (take c.args.count) c.give_up.ensures ∙ take-take c.args.count before lines (omega (arith, longer))
+      least = omega (arith, ap length c.remove_last.ensures, length-take before lines, longer);
+      same = ap (take c.args.count) c.remove_last.ensures ∙ take-take c.args.count before lines (omega (arith, longer))
           ∙ c.lines.invariant.same;
     }
 
@@ -18,7 +18,7 @@ pub lines-smaller : goal.lines-smaller
 lines-smaller g c =
     let lines = c.lines.self in
     let longer : c.args.count < length lines = subst (λ n. c.args.count < n) c.len.ensures c.lines-test.true in
-    omega (arith, ap length c.give_up.ensures, length-take (length lines - 1) lines, longer)
+    omega (arith, ap length c.remove_last.ensures, length-take (length lines - 1) lines, longer)
 
 pub returns : goal.returns
 returns g c =

@@ -4,7 +4,7 @@ use Rattle.std.proofs.lemmas.List.{take_all, take_more}
 use Rattle.stop_explorer.specs.Search.{commands_in}
 use Rattle.tracer_cli.specs.TurnLines.{line_of_turn, lines_of_turns, turns_in}
 use Rattle.tracer_cli.proofs.TurnLines.{lines_kept, lines_one}
-use Rattle.tracer_cli.proofs.outcomes.turn_lines.TurnLines.tell.Goals as goal
+use Rattle.tracer_cli.proofs.outcomes.turn_lines.TurnLines.set_turns.Goals as goal
 
 pub loop-at-init : goal.loop-at-init
 loop-at-init g c =

@@ -183,7 +183,7 @@ impl<A: Allocator> TurnLines<A> {
         }
     }
 
-    /// Saves a string for another line. If there is no room to save it, it is dropped.
+    /// Saves a string for another line, or drops it if memory for the list is refused.
     fn set_aside(&mut self, text: Option<String<A>>)
         ensures { self.new ≡ self.old }
     {

@@ -1,9 +1,9 @@
 -- The test for replies that came true says that each command with a reply was done, and says it where it is so.
-use Rattle.std.proofs.Common.{refl, ◌≡◌, ◌<◌, ◌≤◌, ◌+◌, ◌||◌, ◌&&◌, ◌∷◌, ◌==◌, [], ℕ, Bool, true, false, not, List, Option, Some, None}
-use Rattle.std.proofs.Common.{IsSome, is_some, length, slice_get, arith, ◌∙◌, ap, sym, inl, inr, eqb}
-use Rattle.std.proofs.lemmas.Bool.{cases_Bool, cases_lt, eq-eqb, eqb-true, false≢true, not-true, not_from_false, or_cases}
+use Rattle.std.proofs.Common.{refl, ◌≡◌, ◌≤◌, ◌||◌, ◌&&◌, ◌∷◌, ◌==◌, [], ℕ, Bool, true, false, not, List, Option, Some, None}
+use Rattle.std.proofs.Common.{IsSome, is_some, length, slice_get, arith, ◌∙◌, ap, sym, inl, inr}
+use Rattle.std.proofs.lemmas.Bool.{cases_Bool, cases_lt, eq-eqb, eqb-true, false≢true, not_from_false, or_cases}
 use Rattle.std.proofs.lemmas.Bool.{or_left, or_right}
-use Rattle.std.proofs.lemmas.Option.{none-some, same_Some, slice_get_within}
+use Rattle.std.proofs.lemmas.Option.{none-some, slice_get_within}
 use Rattle.stop_explorer.specs.declared.command.ThreadCommand.{ThreadCommand}
 use Rattle.stop_explorer.specs.Program.{Log}
 use Rattle.stop_explorer.specs.Replies.{DoneCommand, HaveComeTrue, WasDone, done_by_thread}

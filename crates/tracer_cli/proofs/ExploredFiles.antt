@@ -1,11 +1,11 @@
 -- What is found of the program of a litmus file, by its own commands, as the lists of each thread have them.
-use Rattle.std.proofs.Common.{refl, ◌≡◌, ◌∙◌, ◌<◌, ◌≤◌, ◌-◌, ◌==◌, ◌⊎◌, ℕ, Bool, true, false, not, List, Option, Some, None}
-use Rattle.std.proofs.Common.{ap, arith, inl, inr, length, slice_get, subst, sym}
+use Rattle.std.proofs.Common.{refl, ◌≡◌, ◌∙◌, ◌<◌, ◌≤◌, ◌==◌, ℕ, Bool, true, false, not, List, Option, Some, None}
+use Rattle.std.proofs.Common.{ap, arith, length, subst, sym}
 use Rattle.std.proofs.Math.Path.{fun_ext}
 use Rattle.std.proofs.lemmas.Option.{same_Some}
 use Rattle.std.proofs.lemmas.List.Elements.{All-filter, All-map, All-same, All-weaker}
 use Rattle.std.specs.List.{All, list_any}
-use Rattle.std.specs.Prelude.{cond, filter, map}
+use Rattle.std.specs.Prelude.{cond, filter}
 use Rattle.std.specs.Prelude.{Ok, Result}
 use Rattle.stop_history.specs.Event.{History}
 use Rattle.stop_history.specs.declared.roster.Row.{Row}
@@ -19,7 +19,7 @@ use Rattle.stop_explorer.specs.Run.{AreDistinct, AreEndings, EndedRun, HasOutcom
 use Rattle.tracer_cli.specs.declared.litmus.required.Condition.{Condition}
 use Rattle.tracer_cli.specs.Chosen.{chosen_of, is_chosen}
 use Rattle.tracer_cli.specs.Explored.{AreOutcomes, HasMorePlacesWith, chosen_with, commands_with, have_numbers_to}
-use Rattle.tracer_cli.specs.Explored.{CanMeet, IsForbiddenText, IsListed, IsSearched, IsShown, IsUnshown, all_required, all_text}
+use Rattle.tracer_cli.specs.Explored.{CanMeet, IsForbiddenText, IsSearched, IsShown, IsUnshown, all_required, all_text}
 use Rattle.tracer_cli.specs.Explored.{asked_text, forbids, is_chosen_with, number_asked, shows_ends}
 use Rattle.tracer_cli.specs.declared.arguments.ExploreOptions.{ExploreOptions}
 use Rattle.tracer_cli.specs.declared.arguments.Listing.{Listing}

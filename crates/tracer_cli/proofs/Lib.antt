@@ -26,7 +26,7 @@ pub mod SixWords
 pub mod Tables
 pub mod Tallies
 pub mod TextOfParts
-pub mod TurnLines
+pub mod TurnTexts
 pub mod Unmet
 pub mod WaitingFor
 pub mod WordsWritten

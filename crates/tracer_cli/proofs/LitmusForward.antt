@@ -1,5 +1,5 @@
 -- After "no child" each thread of a litmus file goes on past the command that was so answered.
-use Rattle.std.proofs.Common.{refl, ◌≡◌, ◌∙◌, ◌<◌, ◌≤◌, ◌+◌, ◌-◌, ◌++◌, ◌∷◌, ◌==◌, ◌⊎◌, [], ℕ, suc, zero, Bool, true, false}
+use Rattle.std.proofs.Common.{refl, ◌≡◌, ◌∙◌, ◌<◌, ◌≤◌, ◌+◌, ◌++◌, ◌∷◌, ◌==◌, ◌⊎◌, [], ℕ, suc, zero, Bool, true, false}
 use Rattle.std.proofs.Common.{List, Option, Some, None, ap, append-nil, arith, cond, eqb, filter, inl, inr, length, length-append, map}
 use Rattle.std.proofs.Common.{nat_le, slice_get, subst, sym}
 use Rattle.std.specs.List.{All}

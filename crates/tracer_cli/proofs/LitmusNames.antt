@@ -1,5 +1,5 @@
 -- A line that begins a thread names it by letters, digits, `_` and `-`, which are text.
-use Rattle.std.proofs.Common.{refl, ◌≡◌, ◌∷◌, ◌<◌, ◌≤◌, ◌&&◌, [], ℕ, zero, suc, Bool, true, false, cond, List, Some, None}
+use Rattle.std.proofs.Common.{refl, ◌≡◌, ◌∷◌, ◌<◌, ◌≤◌, ◌&&◌, [], ℕ, zero, suc, Bool, true, false, cond, List}
 use Rattle.std.proofs.Common.{Result, Ok, Err, IfSome, arith, eqb, length, slice_get, slice_index}
 use Rattle.std.proofs.lemmas.Bool.Decides.{nat_tests}
 use Rattle.std.proofs.lemmas.Str.{IsUtf8-from_ascii}

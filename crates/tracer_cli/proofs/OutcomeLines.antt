@@ -1,19 +1,18 @@
 -- Texts of outcomes that are written piece by piece: the next piece, and the end.
-use Rattle.std.proofs.Common.{refl, ◌≡◌, ◌<◌, ◌≤◌, ◌+◌, ◌-◌, ◌++◌, ◌∷◌, [], ℕ, suc, zero, true, false, List, Option}
+use Rattle.std.proofs.Common.{refl, ◌≡◌, ◌<◌, ◌≤◌, ◌+◌, ◌-◌, ◌++◌, ◌∷◌, [], ℕ, suc, zero, true, false, List, None, Option}
 use Rattle.std.proofs.Common.{Bor, length, get_or, drop, option_map, arith, ◌∙◌, ap, sym, append_assoc}
 use Rattle.std.proofs.Common.{append-nil, flat_map, min, zip, OnOk, Result, subst}
-use Rattle.std.proofs.lemmas.List.{at_drop_all, drop_more}
+use Rattle.std.proofs.lemmas.List.{at_drop_all, drop_more, get_or-map}
 use Rattle.std.proofs.lemmas.Slice.Zip.{get_or-zip, length-zip}
 use Rattle.stop_history.specs.declared.roster.Row.{Row}
 use Rattle.stop_history.specs.declared.state.State.{State}
 use Rattle.stop_explorer.specs.declared.command.ThreadCommand.{ThreadCommand}
 use Rattle.stop_explorer.specs.declared.voice.Voice.{Voice}
-use Rattle.stop_explorer.specs.Progress.{is_quiet}
 use Rattle.stop_explorer.specs.Run.{EndedRun}
 use Rattle.tracer_cli.specs.declared.litmus.required.Condition.{Condition}
 use Rattle.tracer_cli.specs.Chosen.{chosen_of, ending_numbered, is_chosen}
 use Rattle.tracer_cli.specs.LitmusDraft.{names_kept}
-use Rattle.tracer_cli.specs.OutcomeText.{outcome_text, outcome_texts, thread_head, thread_text, threads_text, told_lines}
+use Rattle.tracer_cli.specs.OutcomeText.{name_at, outcome_text, outcome_texts, thread_text, threads_text}
 use Rattle.tracer_cli.specs.OutcomeText.{tracee_line}
 
 -- ---- pieces
@@ -45,24 +44,22 @@ pieces_over {T} piece all i past = at_drop_all (λ (left : List T). flat_map pie
 
 -- ---- threads
 
--- the line of a thread is written, and then what of it is told
+-- the next one is written
 pub threads_more : (rows : List Row) (voices : List Voice) (commands : ℕ → List ThreadCommand) (ending : EndedRun)
-    (names : List (Option (Bor (List ℕ)))) (i : ℕ) (d : Option (Bor (List ℕ))) (old between new : List ℕ)
-    → i < length names
-    → between ≡ old ++ thread_head (i + 1) (option_map (λ (name : Bor (List ℕ)). name.now) (get_or names i d))
-    → new ≡ between ++ told_lines rows (is_quiet voices i) (commands i) ending i
+    (names : List (Option (Bor (List ℕ)))) (i : ℕ) (old new : List ℕ) → i < length names
+    → new ≡ old ++ thread_text rows voices commands ending i (name_at (names_kept names) i)
     → new ++ threads_text rows voices commands ending (i + 1) (names_kept (drop (i + 1) names))
     ≡ old ++ threads_text rows voices commands ending i (names_kept (drop i names))
 unfolding threads_text
-threads_more rows voices commands ending names i d old between new within first second =
-    let name : Option (List ℕ) = option_map (λ (n : Bor (List ℕ)). n.now) (get_or names i d) in
-    let line : List ℕ = thread_head (i + 1) name in
-    let lines : List ℕ = told_lines rows (is_quiet voices i) (commands i) ending i in
-    let written : new ≡ old ++ (line ++ lines) = second ∙ ap (λ o. o ++ lines) first ∙ append_assoc old line lines in
+threads_more rows voices commands ending names i old new within written =
+    let name : Option (List ℕ) = option_map (λ (n : Bor (List ℕ)). n.now) (get_or names i None) in
+    let named : name_at (names_kept names) i ≡ name =
+    get_or-map (λ (n : Option (Bor (List ℕ))). option_map (λ (b : Bor (List ℕ)). b.now) n) names i None None within in
     one_piece old (thread_text rows voices commands ending i name) new
     (threads_text rows voices commands ending (i + 1) (names_kept (drop (i + 1) names)))
-    (threads_text rows voices commands ending i (names_kept (drop i names))) written
-    (ap (λ ns. threads_text rows voices commands ending i (names_kept ns)) (drop_more names i d within))
+    (threads_text rows voices commands ending i (names_kept (drop i names)))
+    (written ∙ ap (λ n. old ++ thread_text rows voices commands ending i n) named)
+    (ap (λ ns. threads_text rows voices commands ending i (names_kept ns)) (drop_more names i None within))
 
 pub threads_over : (rows : List Row) (voices : List Voice) (commands : ℕ → List ThreadCommand) (ending : EndedRun)
     (names : List (Option (Bor (List ℕ)))) (thread i : ℕ) → length names ≤ i

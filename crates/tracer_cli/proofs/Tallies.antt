@@ -1,7 +1,7 @@
 -- How outcomes end, counted: the next of a list, and what the first ones tell of all before them.
 use Rattle.std.proofs.Common.{refl, ◌≡◌, ◌∙◌, ◌<◌, ◌≤◌, ◌+◌, ◌-◌, ◌++◌, ◌∷◌, ◌||◌, [], ℕ, zero, suc, Bool, true, false, not}
 use Rattle.std.proofs.Common.{List, add-one, ap, append-nil, append_assoc, arith, codes, cond, drop, filter, get_or, length, map, sym, subst}
-use Rattle.std.specs.Prelude.{bytes_eq, flat_map, zip}
+use Rattle.std.specs.Prelude.{bytes_eq, zip}
 use Rattle.std.specs.List.{All, list_any, range_with_len}
 use Rattle.std.proofs.lemmas.Bool.{false≢true}
 use Rattle.std.proofs.lemmas.List.{drop_more, map-append}
@@ -9,7 +9,6 @@ use Rattle.std.proofs.lemmas.List.Elements.{All-cons, All-filter, All-map, All-n
 use Rattle.std.proofs.lemmas.List.Folds.{list_any-append}
 use Rattle.std.proofs.lemmas.Slice.Eq.{bytes_eq-Decides}
 use Rattle.std.proofs.lemmas.Slice.Zip.{get_or-zip, length-zip}
-use Rattle.clap.proofs.WalkLemmas.{list_any-map}
 use Rattle.stop_history.specs.declared.roster.Row.{Row}
 use Rattle.stop_history.specs.declared.state.State.{State}
 use Rattle.tracer_cli.specs.declared.outcomes.ends.Tally.{Tally}

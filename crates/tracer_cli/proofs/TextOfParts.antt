@@ -1,7 +1,7 @@
 -- A text of parts, part after part.
 use Rattle.std.proofs.Common.{refl, ◌≡◌, ◌∙◌, ◌<◌, ◌≤◌, ◌+◌, ◌++◌, ◌∷◌, [], ℕ, zero, suc, List, Option, Some, None, Bor}
 use Rattle.std.proofs.Common.{Result, Ok, Err, IfErr, OnOk, ap, append_assoc, arith, drop, length, length-append}
-use Rattle.std.proofs.Common.{slice_index_or, subst, sym, take}
+use Rattle.std.proofs.Common.{append-nil, slice_index_or, subst, sym, take}
 use Rattle.std.proofs.lemmas.List.{take-append-le}
 use Rattle.std.proofs.Math.Seq.{take-append-add, take-length}
 use native.Mathlib.Numerals.{unary_clauses}
@@ -59,6 +59,13 @@ pub cut_off_as : {T E : Type 0} (result : Result T E) (old new : Option (List �
     → IfErr result (λ _. IsCutOff old new said) → IfErr result (λ _. IsCutOff old new text)
 cut_off_as {T} {E} result old new said text same cut =
     let P : List ℕ → Type 0 = λ t. IfErr result (λ _. IsCutOff old new t) in subst P same cut
+
+-- nothing of it was written
+pub none_written : (contents : Option (List ℕ)) (old : List ℕ) (first : ℕ) (rest : List ℕ)
+    → IsCutOff contents contents (old ++ first ∷ rest)
+none_written None old first rest = (0, omega (arith, length-append old (first ∷ rest)), tt)
+none_written (Some bytes) old first rest =
+    (0, omega (arith, length-append old (first ∷ rest)), sym (append-nil bytes))
 
 -- ---- whole or cut off, a beginning of the text is written
 

@@ -1,18 +1,16 @@
 -- What a search with the first n requirements of a file tells: whether some run has them all.
-use Rattle.std.proofs.Common.{refl, ◌≡◌, ◌∙◌, ◌∷◌, ◌-◌, ◌<◌, ◌≤◌, ◌==◌, ◌+◌, ◌⊎◌, ◌&&◌, [], ℕ, suc, zero, Bool, true, false, not}
-use Rattle.std.proofs.Common.{List, Option, Some, None, ap, arith, cond, inl, inr, length, map, nat_le, subst, sym, eqb, is_some, slice_get}
+use Rattle.std.proofs.Common.{refl, ◌≡◌, ◌∙◌, ◌∷◌, ◌-◌, ◌<◌, ◌≤◌, ◌⊎◌, ◌&&◌, [], ℕ, Bool, true, false, not}
+use Rattle.std.proofs.Common.{List, ap, arith, cond, inl, inr, length, nat_le, subst, sym, eqb, is_some, slice_get}
 use Rattle.std.specs.Bool.{Decides}
-use Rattle.std.specs.List.{All, list_all, list_any}
+use Rattle.std.specs.List.{All, list_any}
 use Rattle.std.specs.Prelude.{filter}
 use Rattle.std.proofs.lemmas.Bool.Decides.{nat_tests}
 use Rattle.std.proofs.lemmas.Bool.{and_from, and_parts, cases_Bool, false≢true, or_cases, or_left, or_right}
-use Rattle.std.proofs.lemmas.List.Elements.{All-cons, All-head, All-map, All-nil, All-tail, All-weaker}
-use Rattle.stop_history.specs.Event.{History}
-use Rattle.stop_history.specs.declared.roster.Row.{Row}
+use Rattle.std.proofs.lemmas.List.Elements.{All-head, All-map, All-tail, All-weaker}
 use Rattle.stop_explorer.specs.BoardCall.{IsBoardCall}
 use Rattle.stop_explorer.specs.declared.command.ProgramLine.{ProgramLine}
 use Rattle.stop_explorer.specs.declared.command.ThreadCommand.{ThreadCommand}
-use Rattle.stop_explorer.specs.Program.{Log, Program, own_commands}
+use Rattle.stop_explorer.specs.Program.{own_commands}
 use Rattle.stop_explorer.specs.Progress.{Progress, is_quiet}
 use Rattle.stop_explorer.specs.Replies.{GoForward, without_reply}
 use Rattle.stop_explorer.specs.Run.{AreEndings, EndedRun, HasOutcome, HaveOneOutcome, IsEnding, ended_run}

@@ -1,5 +1,5 @@
 -- When a condition holds where an outcome ends: of the last states of its tracees, and of the threads that wait.
-use Rattle.std.specs.Prelude.{ℕ, Bool, true, false, not, List, is_some}
+use Rattle.std.specs.Prelude.{ℕ, Bool, not, List, is_some}
 use Rattle.std.specs.List.{list_all, list_any}
 use Rattle.stop_explorer.specs.declared.command.ThreadCommand.{ThreadCommand}
 use Rattle.stop_explorer.specs.Program.{Log, command_after, own_turns}

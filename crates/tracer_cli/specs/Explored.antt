@@ -1,6 +1,6 @@
 -- What `tracer explore` prints of a litmus file: the outcomes of its program, how they end, or the order of one of them.
-use Rattle.std.specs.Prelude.{◌≡◌, ◌≤◌, ◌+◌, ◌-◌, ◌/◌, ◌&&◌, ◌==◌, ◌⊎◌, [], ℕ, Bool, true, false, not, nat_le, List, length}
-use Rattle.std.specs.Prelude.{Option, Some, None, Result, Ok, Err, IsOkAnd, codes, slice_get, if◌then◌else◌}
+use Rattle.std.specs.Prelude.{◌≡◌, ◌≤◌, ◌+◌, ◌-◌, ◌/◌, ◌&&◌, ◌==◌, ◌⊎◌, ℕ, Bool, true, false, not, nat_le, List, length}
+use Rattle.std.specs.Prelude.{Option, Some, None, Result, Ok, Err, IsOkAnd, slice_get, if◌then◌else◌}
 use Rattle.std.specs.Io.KnownBytes.{Appends}
 use Rattle.std.specs.List.{list_all}
 use Rattle.stop_history.specs.Event.{History}

@@ -26,5 +26,5 @@ pub mod Run
 pub mod Shown
 pub mod Spelling
 pub mod StateName
-pub mod TurnLines
+pub mod TurnTexts
 pub mod Waiting

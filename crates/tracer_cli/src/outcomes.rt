@@ -9,5 +9,5 @@ pub(crate) mod printed;
 pub(crate) mod replay_order;
 mod replay_text;
 pub(crate) mod text;
-mod turn_lines;
+mod turn_texts;
 mod waiting;

@@ -60,7 +60,11 @@ fn waiting_word<A: Allocator>(
         ≡ thread_word (thread + 1) (name_at (names_kept names.now) thread)) }
 {
     let mut text = String::new(alloc);
-    write_thread_word(&mut text, thread as usize + 1, name_at(names, thread))?;
+    write_thread_word(
+        &mut text,
+        thread as usize + 1,
+        name_at(names, thread as usize),
+    )?;
     Ok(text)
 }
 

@@ -1,18 +1,18 @@
 //! Outcomes that are printed as their texts are made, through one buffer.
 
 ghost use Rattle.std.specs.Io.KnownBytes.{Appends};
-ghost use Rattle.std.specs.Prelude.{◌≡◌, ◌++◌, ◌<◌, ◌^◌, [], IfErr, OnOk, length, string_bytes};
+ghost use Rattle.std.specs.Prelude.{◌≡◌, ◌++◌, ◌<◌, ◌≤◌, ◌^◌, [], IfErr, OnOk, length, string_bytes};
 ghost use Rattle.stop_explorer.specs.Search.{commands_in};
 ghost use Rattle.tracer_cli.specs.Chosen.{chosen_of};
 ghost use Rattle.tracer_cli.specs.CutOff.{IsCollected, IsCutOff};
 ghost use Rattle.tracer_cli.specs.LitmusDraft.{AreTexts, names_kept};
 ghost use Rattle.tracer_cli.specs.OutcomeText.{allowed_line, chosen_text, counts_line, outcome_text, outcome_texts};
 ghost use Rattle.tracer_cli.specs.Run.{IsUnwritten, WritesIfMemory};
-ghost use Rattle.tracer_cli.specs.TurnLines.{AreLines};
+ghost use Rattle.tracer_cli.specs.TurnTexts.{AreTold, telling};
 
 use super::chosen::{count_chosen, is_chosen};
-use super::text::{ToldProgram, write_end, write_outcome};
-use super::turn_lines::{LINE, TurnLines};
+use super::text::{LINE, ToldProgram, write_end, write_outcome};
+use super::turn_texts::TurnTexts;
 use crate::failure::Failure;
 use crate::litmus::required::Condition;
 use crate::parts::{CutOff, write_part};
@@ -24,11 +24,11 @@ use stop_explorer::{Explored, FoundRun};
 /// From how many bytes on what is collected is written.
 const ENOUGH: usize = 65_536;
 
-/// What outcomes are printed by: the text that is collected, and the lines of the turns of the last outcome.
+/// What outcomes are printed by: the text that is collected, and the texts of the turns of the last outcome.
 #[derive(Drop)]
 struct Printer<A: Allocator> {
     text: String<A>,
-    lines: TurnLines<A>,
+    told: TurnTexts<A>,
 }
 
 /// How many turns an outcome may have: a thread has no more turns than commands.
@@ -66,7 +66,6 @@ fn write_enough<A: Allocator, W: Write>(out: &mut String<A>, output: &mut W) -> 
 }
 
 /// Adds the text of an outcome to what is collected.
-#[tactic(auto, using(crate::proofs::TurnLines::are_lines))]
 fn collect_outcome<A: Allocator + Copy>(
     printer: &mut Printer<A>,
     program: &ToldProgram<'_, '_, A>,
@@ -76,18 +75,23 @@ fn collect_outcome<A: Allocator + Copy>(
 ) -> Result<(), NoMemory>
     requires names { AreTexts program.now.names.now }
     requires few { length program.now.names.now < 2 ^ 32 }
-    requires lines { AreLines program.now.rows.now (commands_in program.now.commands.now) printer.old.lines }
+    requires told { AreTold (telling program.now) printer.old.told }
+    requires threads { length program.now.names.now ≤ length printer.old.told.threads }
     ensures text { OnOk result (string_bytes printer.new.text ≡ string_bytes printer.old.text
         ++ outcome_text program.now.rows.now (names_kept program.now.names.now) program.now.voices.now
         (commands_in program.now.commands.now) number count run.now) }
-    ensures lines { OnOk result
-        (AreLines program.now.rows.now (commands_in program.now.commands.now) printer.new.lines) }
+    ensures told { OnOk result (AreTold (telling program.now) printer.new.told) }
+    ensures threads { OnOk result (length printer.new.told.threads ≡ length printer.old.told.threads) }
 {
-    printer
-        .lines
-        .set_turns(program.rows, program.commands, run.turns())?;
-    let lines = printer.lines.as_slice();
-    write_outcome(&mut printer.text, program, number, count, run, lines)
+    printer.told.set_turns(program, run.turns())?;
+    write_outcome(
+        &mut printer.text,
+        program,
+        number,
+        count,
+        run,
+        &printer.told,
+    )
 }
 
 /// Prints an outcome. Its text fits what there is room for (`room`, `most_turns`); if memory were refused all the same,
@@ -102,13 +106,14 @@ fn print_outcome<A: Allocator + Copy, W: Write>(
 ) -> Result<(), CutOff>
     requires names { AreTexts program.now.names.now }
     requires few { length program.now.names.now < 2 ^ 32 }
-    requires lines { AreLines program.now.rows.now (commands_in program.now.commands.now) printer.old.lines }
+    requires told { AreTold (telling program.now) printer.old.told }
+    requires threads { length program.now.names.now ≤ length printer.old.told.threads }
     ensures ok { OnOk result (IsCollected (W.contents output.old) (W.contents output.new)
         (string_bytes printer.old.text)
         (outcome_text program.now.rows.now (names_kept program.now.names.now) program.now.voices.now
         (commands_in program.now.commands.now) number count run.now) (string_bytes printer.new.text)) }
-    ensures lines { OnOk result
-        (AreLines program.now.rows.now (commands_in program.now.commands.now) printer.new.lines) }
+    ensures told { OnOk result (AreTold (telling program.now) printer.new.told) }
+    ensures threads { OnOk result (length printer.new.told.threads ≡ length printer.old.told.threads) }
     ensures cut_off { IfErr result (λ _. IsCutOff (W.contents output.old) (W.contents output.new)
         (string_bytes printer.old.text
         ++ outcome_text program.now.rows.now (names_kept program.now.names.now) program.now.voices.now
@@ -131,7 +136,8 @@ fn print_chosen<A: Allocator + Copy, W: Write>(
 ) -> Result<(), CutOff>
     requires names { AreTexts program.now.names.now }
     requires few { length program.now.names.now < 2 ^ 32 }
-    requires lines { AreLines program.now.rows.now (commands_in program.now.commands.now) printer.old.lines }
+    requires told { AreTold (telling program.now) printer.old.told }
+    requires threads { length program.now.names.now ≤ length printer.old.told.threads }
     ensures ok { OnOk result (IsCollected (W.contents output.old) (W.contents output.new)
         (string_bytes printer.old.text)
         (outcome_texts program.now.rows.now (names_kept program.now.names.now) program.now.voices.now
@@ -184,7 +190,8 @@ fn print_all<A: Allocator + Copy, W: Write>(
 ) -> Result<(), CutOff>
     requires names { AreTexts program.now.names.now }
     requires few { length program.now.names.now < 2 ^ 32 }
-    requires lines { AreLines program.now.rows.now (commands_in program.now.commands.now) printer.old.lines }
+    requires told { AreTold (telling program.now) printer.old.told }
+    requires threads { length program.now.names.now ≤ length printer.old.told.threads }
     requires begin { string_bytes printer.old.text ≡ [] }
     ensures ok { OnOk result (Appends (W.contents output.old) (W.contents output.new)
         (chosen_text program.now.rows.now (names_kept program.now.names.now) program.now.voices.now
@@ -206,7 +213,6 @@ fn print_all<A: Allocator + Copy, W: Write>(
 /// Prints what was explored: the outcomes that have each reply, and in which each condition holds, and how many they
 /// and the places are. `required`: the file has replies or conditions. Each thread has a name, or none. The room for
 /// the text is made before the first byte is written.
-#[tactic(auto, using(crate::proofs::TurnLines::no_lines))]
 pub(crate) fn print_outcomes<A: Allocator + Copy, W: Write>(
     alloc: A,
     program: &ToldProgram<'_, '_, A>,
@@ -225,8 +231,8 @@ pub(crate) fn print_outcomes<A: Allocator + Copy, W: Write>(
 {
     let turns = most_turns(program);
     let text = String::with_capacity(alloc, room(program, turns))?;
-    let lines = TurnLines::new(alloc, turns)?;
-    let mut printer = Printer { text, lines };
+    let told = TurnTexts::new(alloc, program, turns)?;
+    let mut printer = Printer { text, told };
     match print_all(
         &mut printer,
         output,

@@ -1,25 +1,25 @@
 //! The text of outcomes: what each thread was answered, the states of the tracees, and one order that leads there.
 
-ghost use Rattle.std.specs.Prelude.{◌≡◌, ◌++◌, ◌<◌, ◌^◌, length, IfOk, IfSome, IsUtf8, OnOk, decimal, flat_map};
-ghost use Rattle.std.specs.Prelude.{option_map, string_bytes};
-ghost use Rattle.stop_explorer.specs.Program.{Log};
-ghost use Rattle.stop_explorer.specs.Progress.{is_quiet};
+ghost use Rattle.std.specs.Prelude.{◌≡◌, ◌++◌, ◌≤◌, length, IfOk, IfSome, IsUtf8, OnOk, Some, decimal, option_map};
+ghost use Rattle.std.specs.Prelude.{string_bytes};
+ghost use Rattle.stop_explorer.specs.Program.{own_turns};
+ghost use Rattle.stop_explorer.specs.Run.{EndedRun};
 ghost use Rattle.stop_explorer.specs.Search.{commands_in};
 ghost use Rattle.tracer_cli.specs.LitmusDraft.{AreTexts, names_kept};
-ghost use Rattle.tracer_cli.specs.OutcomeText.{allowed_line, counts_line, forbidden_line, name_at, order_text};
-ghost use Rattle.tracer_cli.specs.OutcomeText.{outcome_line, outcome_text, quiet_line, thread_head, thread_word};
-ghost use Rattle.tracer_cli.specs.OutcomeText.{threads_text, told_lines, tracee_line, tracees_text, waiting_line};
-ghost use Rattle.tracer_cli.specs.TurnLines.{lines_of_turns, named_text, own_text};
+ghost use Rattle.tracer_cli.specs.OutcomeText.{allowed_line, counts_line, done_line, forbidden_line, name_at};
+ghost use Rattle.tracer_cli.specs.OutcomeText.{outcome_line, outcome_text, thread_head, thread_text, thread_word};
+ghost use Rattle.tracer_cli.specs.OutcomeText.{threads_text, tracee_line, tracees_text, waiting_line};
+ghost use Rattle.tracer_cli.specs.TurnTexts.{AreTold, last_line, telling, told_thread, turns_told};
 
-use super::answer_text::write_waits;
+use super::answer_text::{write_answer, write_waits};
 use super::chosen::{is_quiet, thread_commands};
 use super::command_text::write_command;
-use super::turn_lines::TurnLine;
+use super::turn_texts::{ToldThread, TurnTexts};
 use crate::replies::write_state;
 use itoa::Buffer;
 use std::alloc::Allocator;
 use stop_board::{NoMemory, Row, State};
-use stop_explorer::{FoundRun, ThreadCommand, Voice, command_after};
+use stop_explorer::{FoundRun, ThreadCommand, Turn, Voice};
 
 /// A program, as the texts of its outcomes tell of it: the rows of its board, the names and the voices of its threads,
 /// and their commands.
@@ -31,7 +31,26 @@ pub(crate) struct ToldProgram<'a, 't, A: Allocator> {
     pub(crate) commands: &'a [Vec<ThreadCommand, A>],
 }
 
+/// At least the bytes of each line of an outcome: 32 of a name, 50 of a command and 35 of an answer.
+pub(super) const LINE: usize = 128;
+
 // ---- commands
+
+/// Writes a command that was done, and its answer.
+#[tactic(auto, using(crate::proofs::Written::in_three))]
+pub(super) fn write_done<A: Allocator>(
+    out: &mut String<A>,
+    rows: &[Row],
+    turn: &Turn,
+    command: &ThreadCommand,
+) -> Result<(), NoMemory>
+    ensures { OnOk result (string_bytes out.new
+        ≡ string_bytes out.old ++ done_line rows.now turn.now (Some command.now)) }
+{
+    write_command(out, rows, command)?;
+    out.push_str(": ")?;
+    write_answer(out, rows, command, turn)
+}
 
 /// Writes a command that a thread waits at.
 #[tactic(auto, using(crate::proofs::Written::in_three))]
@@ -53,7 +72,7 @@ fn write_waiting<A: Allocator>(
 
 /// Writes the line that a thread begins with.
 #[tactic(auto, using(crate::proofs::Written::in_three))]
-fn write_thread_head<A: Allocator>(
+pub(super) fn write_thread_head<A: Allocator>(
     out: &mut String<A>,
     number: usize,
     name: Option<&[u8]>,
@@ -102,98 +121,51 @@ fn write_name<A: Allocator>(out: &mut String<A>, name: &[u8]) -> Result<(), NoMe
     Ok(())
 }
 
-/// Writes the lines of a thread's turns.
-fn write_own_lines<A: Allocator>(
-    out: &mut String<A>,
-    thread: usize,
-    lines: &[TurnLine<A>],
-) -> Result<(), NoMemory>
-    ensures { OnOk result (string_bytes out.new ≡ string_bytes out.old ++ flat_map (own_text thread) lines.now) }
-{
-    for line in lines {
-        write_own_line(out, thread, line)?;
-    }
-    Ok(())
-}
-
-/// Writes the line of a turn, if it is one of a thread's.
-fn write_own_line<A: Allocator>(
-    out: &mut String<A>,
-    thread: usize,
-    line: &TurnLine<A>,
-) -> Result<(), NoMemory>
-    ensures { OnOk result (string_bytes out.new ≡ string_bytes out.old ++ own_text thread line.now) }
-{
-    if line.turn().thread as usize != thread {
-        return Ok(());
-    }
-    if let Some(text) = line.text() {
-        out.push_str(text)?;
-    }
-    Ok(())
-}
-
-/// Writes what a loud thread's turns did, and then the command that it waits at, if there is one.
-fn write_thread_lines<A: Allocator>(
+/// Writes the last line of what is told of a thread: the command that it waits at, or that a quiet thread is done.
+fn write_last_line<A: Allocator>(
     out: &mut String<A>,
     rows: &[Row],
     states: &[State],
-    thread: usize,
-    lines: &[TurnLine<A>],
-    next: Option<ThreadCommand>,
-) -> Result<(), NoMemory>
-    ensures { OnOk result (string_bytes out.new ≡ string_bytes out.old
-        ++ (flat_map (own_text thread) lines.now ++ waiting_line rows.now states.now next)) }
-{
-    write_own_lines(out, thread, lines)?;
-    if let Some(command) = next {
-        write_waiting(out, rows, states, &command)?;
-    }
-    Ok(())
-}
-
-/// Writes what of a quiet thread is told: that it is done, or the command that it waits at.
-fn write_quiet_line<A: Allocator>(
-    out: &mut String<A>,
-    rows: &[Row],
-    states: &[State],
+    quiet: bool,
     next: Option<ThreadCommand>,
 ) -> Result<(), NoMemory>
     ensures { OnOk result (string_bytes out.new
-        ≡ string_bytes out.old ++ quiet_line rows.now states.now next) }
+        ≡ string_bytes out.old ++ last_line rows.now states.now quiet next) }
 {
     match next {
         None => {
-            out.push_str("done\n")?;
+            if quiet {
+                out.push_str("done\n")?;
+            }
             Ok(())
         }
         Some(command) => write_waiting(out, rows, states, &command),
     }
 }
 
-/// Writes what of a thread is told.
-fn write_told<A: Allocator>(
+/// Writes what is told of a thread.
+fn write_thread<A: Allocator>(
     out: &mut String<A>,
     program: &ToldProgram<'_, '_, A>,
     thread: usize,
-    run: &FoundRun<A>,
-    lines: &[TurnLine<A>],
+    states: &[State],
+    told: &ToldThread<A>,
 ) -> Result<(), NoMemory>
-    requires thread { thread < 2 ^ 32 }
-    requires lines { lines.now
-        ≡ lines_of_turns program.now.rows.now (commands_in program.now.commands.now) run.now.turns }
-    ensures { OnOk result (string_bytes out.new ≡ string_bytes out.old
-        ++ told_lines program.now.rows.now (is_quiet program.now.voices.now thread)
-        (commands_in program.now.commands.now thread) run.now thread) }
+    ensures { (ending : EndedRun) → states.now ≡ ending.states →
+        told.now ≡ told_thread (telling program.now) thread (own_turns thread ending.turns) →
+        OnOk result (string_bytes out.new ≡ string_bytes out.old
+        ++ thread_text program.now.rows.now program.now.voices.now (commands_in program.now.commands.now) ending thread
+        (name_at (names_kept program.now.names.now) thread)) }
 {
-    let rows = program.rows;
-    let own = thread_commands(program.commands, thread);
-    let next = command_after(own, run.turns(), thread as u32);
-    if is_quiet(program.voices, thread) {
-        write_quiet_line(out, rows, run.states(), next)
-    } else {
-        write_thread_lines(out, rows, run.states(), thread, lines, next)
-    }
+    out.push_str(told.text())?;
+    let next = told.next_of(thread_commands(program.commands, thread));
+    write_last_line(
+        out,
+        program.rows,
+        states,
+        is_quiet(program.voices, thread),
+        next,
+    )
 }
 
 /// Writes each thread.
@@ -201,20 +173,17 @@ fn write_threads<A: Allocator>(
     out: &mut String<A>,
     program: &ToldProgram<'_, '_, A>,
     run: &FoundRun<A>,
-    lines: &[TurnLine<A>],
+    told: &TurnTexts<A>,
 ) -> Result<(), NoMemory>
-    requires names { AreTexts program.now.names.now }
-    requires few { length program.now.names.now < 2 ^ 32 }
-    requires lines { lines.now
-        ≡ lines_of_turns program.now.rows.now (commands_in program.now.commands.now) run.now.turns }
+    requires told { AreTold (telling program.now) told.now }
+    requires turns { turns_told told.now.turns ≡ run.now.turns }
+    requires threads { length program.now.names.now ≤ length told.now.threads }
     ensures { OnOk result (string_bytes out.new ≡ string_bytes out.old
         ++ threads_text program.now.rows.now program.now.voices.now (commands_in program.now.commands.now) run.now 0
         (names_kept program.now.names.now)) }
 {
-    let names = program.names;
-    for (thread, name) in names.iter().enumerate() {
-        write_thread_head(out, thread + 1, *name)?;
-        write_told(out, program, thread, run, lines)?;
+    for thread in 0..program.names.len() {
+        write_thread(out, program, thread, run.states(), told.thread(thread))?;
     }
     Ok(())
 }
@@ -249,68 +218,15 @@ fn write_tracees<A: Allocator>(
 // ---- the order
 
 /// The name of a thread, by its place among all threads, if it has one.
-pub(super) fn name_at<'t>(names: &[Option<&'t [u8]>], thread: u32) -> Option<&'t [u8]>
+pub(super) fn name_at<'t>(names: &[Option<&'t [u8]>], thread: usize) -> Option<&'t [u8]>
     requires { AreTexts names.now }
     ensures name { option_map (λ bytes. bytes.now) result ≡ name_at (names_kept names.now) thread }
     ensures text { IfSome result (λ bytes. IsUtf8 bytes.now) }
 {
-    match names.get(thread as usize) {
+    match names.get(thread) {
         Some(name) => *name,
         None => None,
     }
-}
-
-/// Writes the name or number of a turn's thread, and then the line of the turn.
-#[tactic(auto, using(crate::proofs::Written::in_three))]
-fn write_turn<A: Allocator>(
-    out: &mut String<A>,
-    names: &[Option<&[u8]>],
-    line: &TurnLine<A>,
-) -> Result<(), NoMemory>
-    requires { AreTexts names.now }
-    ensures { OnOk result (string_bytes out.new
-        ≡ string_bytes out.old ++ named_text (names_kept names.now) line.now) }
-{
-    let Some(text) = line.text() else {
-        return Ok(());
-    };
-    let thread = line.turn().thread;
-    write_thread_word(out, thread as usize + 1, name_at(names, thread))?;
-    out.push_str(" ")?;
-    out.push_str(text)?;
-    Ok(())
-}
-
-/// Writes turns in their order.
-fn write_turns<A: Allocator>(
-    out: &mut String<A>,
-    names: &[Option<&[u8]>],
-    lines: &[TurnLine<A>],
-) -> Result<(), NoMemory>
-    requires { AreTexts names.now }
-    ensures { OnOk result (string_bytes out.new
-        ≡ string_bytes out.old ++ flat_map (named_text (names_kept names.now)) lines.now) }
-{
-    for line in lines {
-        write_turn(out, names, line)?;
-    }
-    Ok(())
-}
-
-/// Writes one order that leads to an outcome.
-fn write_order<A: Allocator>(
-    out: &mut String<A>,
-    program: &ToldProgram<'_, '_, A>,
-    lines: &[TurnLine<A>],
-) -> Result<(), NoMemory>
-    requires { AreTexts program.now.names.now }
-    ensures { (turns : Log) →
-        lines.now ≡ lines_of_turns program.now.rows.now (commands_in program.now.commands.now) turns →
-        OnOk result (string_bytes out.new ≡ string_bytes out.old ++ order_text program.now.rows.now
-        (names_kept program.now.names.now) (commands_in program.now.commands.now) turns) }
-{
-    out.push_str("order\n")?;
-    write_turns(out, program.names, lines)
 }
 
 // ---- outcomes
@@ -335,20 +251,19 @@ pub(crate) fn write_outcome<A: Allocator>(
     number: usize,
     count: usize,
     run: &FoundRun<A>,
-    lines: &[TurnLine<A>],
+    told: &TurnTexts<A>,
 ) -> Result<(), NoMemory>
-    requires names { AreTexts program.now.names.now }
-    requires few { length program.now.names.now < 2 ^ 32 }
-    requires lines { lines.now
-        ≡ lines_of_turns program.now.rows.now (commands_in program.now.commands.now) run.now.turns }
+    requires told { AreTold (telling program.now) told.now }
+    requires turns { turns_told told.now.turns ≡ run.now.turns }
+    requires threads { length program.now.names.now ≤ length told.now.threads }
     ensures { OnOk result (string_bytes out.new ≡ string_bytes out.old
         ++ outcome_text program.now.rows.now (names_kept program.now.names.now) program.now.voices.now
         (commands_in program.now.commands.now) number count run.now) }
 {
     write_outcome_line(out, number, count)?;
-    write_threads(out, program, run, lines)?;
+    write_threads(out, program, run, told)?;
     write_tracees(out, program.rows, run.states())?;
-    write_order(out, program, lines)?;
+    out.push_str(told.order())?;
     out.push_str("\n")?;
     Ok(())
 }

@@ -1,9 +1,9 @@
 -- What clap's definitions say of these matches.
-use Rattle.std.proofs.Common.{◌≡◌, ◌∙◌, codes, subst, sym, Option, Some, None}
-use Rattle.clap.specs.Words.{Text, found_of, rows_of}
+use Rattle.std.proofs.Common.{◌∙◌, codes, subst, sym, Option}
+use Rattle.clap.specs.Words.{Text, found_of}
 use Rattle.clap.proofs.WalkLemmas.{one_text-rows}
 use Rattle.tracer_cli.specs.declared.arguments.TheConstants.{MOST_PLACES}
-use Rattle.tracer_cli.specs.Arguments.{AreListings, IsFlag, IsNumber, IsOptionalNumber}
+use Rattle.tracer_cli.specs.Arguments.{IsFlag, IsNumber, IsOptionalNumber}
 use Rattle.tracer_cli.proofs.Matches.{flag_is}
 use Rattle.tracer_cli.proofs.arguments.explore_options.Goals as goal
 

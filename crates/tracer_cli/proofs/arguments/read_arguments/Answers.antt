@@ -1,6 +1,6 @@
 -- What clap's definitions say of these words.
-use Rattle.std.proofs.Common.{refl, ◌∙◌, ap, map, subst, sym, List, ℕ}
-use Rattle.clap.specs.Words.{App, HasKind, fault_of, is_simple, is_simple_and_free, subcommand_of, subcommand_rows_of, takes}
+use Rattle.std.proofs.Common.{◌∙◌, ap, map, subst, sym, List, ℕ}
+use Rattle.clap.specs.Words.{App, HasKind, fault_of, is_simple, is_simple_and_free, subcommand_of, takes}
 use Rattle.tracer_cli.specs.Arguments.{FoundSubcommand, IsNamedBy}
 use Rattle.tracer_cli.proofs.Commands.{failed, is_free, is_known, named, named_is_taken}
 use Rattle.tracer_cli.proofs.arguments.read_arguments.Goals as goal

@@ -1,12 +1,11 @@
 -- What was found is of the program with the first n requirements.
-use Rattle.std.proofs.Common.{◌≡◌, ◌∙◌, ◌<◌, ℕ, List, ap, arith, length, subst, sym}
+use Rattle.std.proofs.Common.{◌≡◌, ◌∙◌, ◌<◌, ap, arith, length, subst, sym}
 use Rattle.std.specs.List.{All}
 use Rattle.stop_explorer.specs.BoardCall.{IsBoardCall}
-use Rattle.stop_explorer.specs.Program.{Program, own_commands}
-use Rattle.tracer_cli.specs.LitmusDraft.{content_in, names_kept}
-use Rattle.tracer_cli.specs.Required.{conditions_with, program_with}
-use Rattle.tracer_cli.proofs.ExploredFiles.{not_more_with, outcomes_with}
-use Rattle.tracer_cli.proofs.LitmusFiles.{length_kept}
+use Rattle.stop_explorer.specs.Program.{Program}
+use Rattle.tracer_cli.specs.LitmusDraft.{content_in}
+use Rattle.tracer_cli.specs.Required.{program_with}
+use Rattle.tracer_cli.proofs.ExploredFiles.{not_more_with}
 use Rattle.tracer_cli.proofs.Unmet.{calls_with, threads_with}
 use Rattle.tracer_cli.proofs.explored.search.Goals as goal
 

@@ -1,8 +1,8 @@
 -- A run in which all replies came true is a run with replies, and if the conditions held at its end, all could be met.
-use Rattle.std.proofs.Common.{◌≡◌, ◌∙◌, Bool, ap, false, inl, inr, length, true, ◌&&◌}
+use Rattle.std.proofs.Common.{◌≡◌, false, inl, inr, length, true}
 use Rattle.std.proofs.lemmas.Bool.{cases_Bool}
 use Rattle.stop_explorer.specs.Run.{EndedRun, ended_run}
-use Rattle.tracer_cli.specs.Chosen.{have_come_true, is_chosen}
+use Rattle.tracer_cli.specs.Chosen.{have_come_true}
 use Rattle.tracer_cli.specs.Conditions.{conditions_hold}
 use Rattle.tracer_cli.specs.Explored.{all_required, commands_with}
 use Rattle.tracer_cli.specs.Required.{conditions_with}

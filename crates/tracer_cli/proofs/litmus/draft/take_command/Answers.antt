@@ -1,5 +1,5 @@
 -- A command is one of the repeat that is open, or else is done once.
-use Rattle.std.proofs.Common.{refl, ◌∙◌, Result, ap, subst, sym}
+use Rattle.std.proofs.Common.{refl, Result, ap, subst, sym}
 use Rattle.trace_script.specs.Reading.{TakesLine}
 use Rattle.trace_script.specs.declared.cause.Cause.{Cause}
 use Rattle.tracer_cli.specs.LitmusDraft.{litmus_reading_of, repeat_kept}

@@ -1,5 +1,5 @@
 -- No repeat may be open after the last line.
-use Rattle.std.proofs.Common.{◌≡◌, ◌∙◌, ◌<◌, Err, ℕ, ap, arith, length, subst, sym}
+use Rattle.std.proofs.Common.{◌≡◌, ◌∙◌, ◌<◌, Err, ap, arith, length, subst, sym}
 use Rattle.std.specs.List.{All}
 use Rattle.trace_script.specs.declared.cause.Cause.TheVariants.{NoEnd}
 use Rattle.tracer_cli.specs.declared.litmus.required.NumberedLine.{NumberedLine}

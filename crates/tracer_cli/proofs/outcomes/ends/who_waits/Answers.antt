@@ -1,5 +1,5 @@
 -- The next thread waits, or is left out.
-use Rattle.std.proofs.Common.{◌≡◌, ◌∙◌, ◌+◌, ◌-◌, ◌++◌, ℕ, Bool, List, ap, filter, length, map, string_bytes, sym}
+use Rattle.std.proofs.Common.{◌∙◌, ◌+◌, ◌-◌, ◌++◌, ℕ, Bool, List, ap, filter, length, map, string_bytes, sym}
 use Rattle.std.specs.List.{range_with_len}
 use Rattle.stop_explorer.specs.Search.{commands_in}
 use Rattle.tracer_cli.specs.Conditions.{waits_at_end}

@@ -1,5 +1,5 @@
 -- The ends of so many outcomes have their lines, and then those of fewer.
-use Rattle.std.proofs.Common.{◌≡◌, ◌∙◌, ◌++◌, ◌<◌, ◌^◌, ap, arith, length, map, string_bytes, sym}
+use Rattle.std.proofs.Common.{◌≡◌, ◌∙◌, ◌++◌, ◌^◌, ap, arith, length, map, string_bytes, sym}
 use Rattle.std.proofs.lemmas.List.{length-map}
 use Rattle.tracer_cli.specs.OutcomeEnds.{lines_to, tally_lines}
 use Rattle.tracer_cli.proofs.OutcomeLines.{no_piece}

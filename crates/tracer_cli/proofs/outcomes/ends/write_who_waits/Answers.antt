@@ -1,5 +1,5 @@
 -- Several threads are listed.
-use Rattle.std.proofs.Common.{◌≡◌, ◌∙◌, ◌++◌, ◌≤◌, ap, append_assoc, arith, codes, length, map, string_bytes, sym}
+use Rattle.std.proofs.Common.{◌∙◌, ◌++◌, ap, append_assoc, arith, codes, map, string_bytes, sym}
 use Rattle.std.proofs.lemmas.List.{length-map}
 use Rattle.tracer_cli.specs.OutcomeEnds.{listed}
 use Rattle.tracer_cli.proofs.Tallies.{several_wait}

@@ -1,5 +1,5 @@
 -- What is cut off at the end is cut off after all outcomes.
-use Rattle.std.proofs.Common.{◌≡◌, ◌∙◌, ◌++◌, List, OnOk, ap, length, string_bytes, subst}
+use Rattle.std.proofs.Common.{◌++◌, List, OnOk, ap, length, string_bytes, subst}
 use Rattle.std.specs.Io.KnownBytes.{Appends}
 use Rattle.stop_explorer.specs.Search.{commands_in}
 use Rattle.stop_explorer.specs.Run.{EndedRun}

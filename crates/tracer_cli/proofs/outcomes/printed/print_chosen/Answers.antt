@@ -4,7 +4,7 @@ use Rattle.stop_explorer.specs.Search.{commands_in}
 use Rattle.tracer_cli.specs.Chosen.{chosen_of}
 use Rattle.tracer_cli.specs.LitmusDraft.{names_kept}
 use Rattle.tracer_cli.specs.OutcomeText.{outcome_text, outcome_texts}
-use Rattle.tracer_cli.specs.TurnLines.{AreLines}
+use Rattle.tracer_cli.specs.TurnTexts.{AreTold, telling}
 use Rattle.tracer_cli.proofs.OutcomeLines.{chosen_here, chosen_not_here, chosen_over, outcomes_more, outcomes_over}
 use Rattle.tracer_cli.proofs.Printing.{at_last, cut_there, one_more, so_far_as}
 use Rattle.tracer_cli.proofs.TextOfParts.{of_error}
@@ -34,8 +34,14 @@ loop-run-preserved g c =
     elim c.if-is_chosen.branch [
       | then-is_chosen+in_ok-print_outcome w ↦ record {
         few = omega (arith, w.before-is, c.loop-run.invariant.few);
-        lines = subst (λ printer. AreLines rows commands printer.lines) (sym w.printer-is)
-            w.in_ok-print_outcome.ensures.lines;
+        told = subst (λ printer. AreTold (telling program) printer.told) (sym w.printer-is)
+            w.in_ok-print_outcome.ensures.told;
+        threads = omega (
+          arith,
+          ap (λ printer. length printer.told.threads) w.printer-is,
+          w.in_ok-print_outcome.ensures.threads,
+          c.loop-run.invariant.threads,
+        );
         so_far = so_far_as start (g.W.Write.contents w.print_outcome.new.output)
             (g.W.Write.contents c.if-is_chosen.output) old all (string_bytes w.print_outcome.new.printer.text)
             (string_bytes c.if-is_chosen.printer.text)
@@ -54,7 +60,12 @@ loop-run-preserved g c =
       }
       | else-is_chosen w ↦ record {
         few = omega (arith, w.before-is, c.loop-run.invariant.few);
-        lines = subst (λ printer. AreLines rows commands printer.lines) (sym w.printer-is) c.loop-run.invariant.lines;
+        told = subst (λ printer. AreTold (telling program) printer.told) (sym w.printer-is) c.loop-run.invariant.told;
+        threads = omega (
+          arith,
+          ap (λ printer. length printer.told.threads) w.printer-is,
+          c.loop-run.invariant.threads,
+        );
         so_far = so_far_as start (g.W.Write.contents c.loop-run.output) (g.W.Write.contents c.if-is_chosen.output)
             old all (string_bytes c.loop-run.printer.text) (string_bytes c.if-is_chosen.printer.text) here after
             (ap g.W.Write.contents w.output-is) (ap (λ printer. string_bytes printer.text) w.printer-is)

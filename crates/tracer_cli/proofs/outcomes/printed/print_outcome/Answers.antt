@@ -1,9 +1,9 @@
--- What was collected is the text so far and that of the outcome.
+-- What was collected is the text so far and that of the outcome; or nothing of both is written.
 use Rattle.std.proofs.Common.{◌++◌, string_bytes}
 use Rattle.stop_explorer.specs.Search.{commands_in}
 use Rattle.tracer_cli.specs.LitmusDraft.{names_kept}
 use Rattle.tracer_cli.specs.OutcomeText.{outcome_text}
-use Rattle.tracer_cli.proofs.TextOfParts.{cut_off_as}
+use Rattle.tracer_cli.proofs.TextOfParts.{cut_off_as, none_written}
 use Rattle.tracer_cli.proofs.outcomes.printed.print_outcome.Goals as goal
 
 pub returns-in-Ok-clause-cut_off : goal.returns-in-Ok-clause-cut_off
@@ -14,3 +14,6 @@ returns-in-Ok-clause-cut_off g c =
     (string_bytes c.args.printer.now.text ++ outcome_text program.rows.now (names_kept program.names.now) program.voices.now
     (commands_in program.commands.now) c.args.number c.args.count c.args.run.now)
     c.in-Ok.ensures.text c.write_enough.ensures.cut_off
+
+pub returns-in-Err-clause-cut_off : goal.returns-in-Err-clause-cut_off
+returns-in-Err-clause-cut_off g c = none_written (g.W.Write.contents c.args.output.now) (string_bytes c.args.printer.now.text) _ _

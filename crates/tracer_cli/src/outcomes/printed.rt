@@ -1,7 +1,7 @@
 //! Outcomes that are printed as their texts are made, through one buffer.
 
 ghost use Rattle.std.specs.Io.KnownBytes.{Appends};
-ghost use Rattle.std.specs.Prelude.{◌≡◌, ◌++◌, ◌<◌, ◌≤◌, ◌^◌, [], IfErr, OnOk, length, string_bytes};
+ghost use Rattle.std.specs.Prelude.{◌≡◌, ◌++◌, ◌≤◌, [], IfErr, OnOk, length, string_bytes};
 ghost use Rattle.stop_explorer.specs.Search.{commands_in};
 ghost use Rattle.tracer_cli.specs.Chosen.{chosen_of};
 ghost use Rattle.tracer_cli.specs.CutOff.{IsCollected, IsCutOff};
@@ -74,7 +74,6 @@ fn collect_outcome<A: Allocator + Copy>(
     run: &FoundRun<A>,
 ) -> Result<(), NoMemory>
     requires names { AreTexts program.now.names.now }
-    requires few { length program.now.names.now < 2 ^ 32 }
     requires told { AreTold (telling program.now) printer.old.told }
     requires threads { length program.now.names.now ≤ length printer.old.told.threads }
     ensures text { OnOk result (string_bytes printer.new.text ≡ string_bytes printer.old.text
@@ -105,7 +104,6 @@ fn print_outcome<A: Allocator + Copy, W: Write>(
     run: &FoundRun<A>,
 ) -> Result<(), CutOff>
     requires names { AreTexts program.now.names.now }
-    requires few { length program.now.names.now < 2 ^ 32 }
     requires told { AreTold (telling program.now) printer.old.told }
     requires threads { length program.now.names.now ≤ length printer.old.told.threads }
     ensures ok { OnOk result (IsCollected (W.contents output.old) (W.contents output.new)
@@ -135,7 +133,6 @@ fn print_chosen<A: Allocator + Copy, W: Write>(
     runs: &[FoundRun<A>],
 ) -> Result<(), CutOff>
     requires names { AreTexts program.now.names.now }
-    requires few { length program.now.names.now < 2 ^ 32 }
     requires told { AreTold (telling program.now) printer.old.told }
     requires threads { length program.now.names.now ≤ length printer.old.told.threads }
     ensures ok { OnOk result (IsCollected (W.contents output.old) (W.contents output.new)
@@ -189,7 +186,6 @@ fn print_all<A: Allocator + Copy, W: Write>(
     explored: &Explored<A>,
 ) -> Result<(), CutOff>
     requires names { AreTexts program.now.names.now }
-    requires few { length program.now.names.now < 2 ^ 32 }
     requires told { AreTold (telling program.now) printer.old.told }
     requires threads { length program.now.names.now ≤ length printer.old.told.threads }
     requires begin { string_bytes printer.old.text ≡ [] }
@@ -222,7 +218,6 @@ pub(crate) fn print_outcomes<A: Allocator + Copy, W: Write>(
     output: &mut W,
 ) -> Result<(), Failure>
     requires names { AreTexts program.now.names.now }
-    requires few { length program.now.names.now < 2 ^ 32 }
     ensures written { WritesIfMemory (chosen_text program.now.rows.now (names_kept program.now.names.now)
         program.now.voices.now (commands_in program.now.commands.now) required explored.now.places
         (chosen_of (length program.now.commands.now) (commands_in program.now.commands.now) conditions.now

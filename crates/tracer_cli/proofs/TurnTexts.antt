@@ -24,7 +24,7 @@ use Rattle.tracer_cli.specs.OutcomeText.{command_of_turn, done_line, name_at, or
 use Rattle.tracer_cli.specs.OutcomeText.{thread_head, thread_lines, thread_text, thread_word, told_lines, turn_line}
 use Rattle.tracer_cli.specs.OutcomeText.{waiting_line}
 use Rattle.tracer_cli.specs.TurnTexts.{AreFirst, AreKeptTurns, AreTold, EndsLine, IsKeptTurn, Telling, TextsTold, ThreadTold}
-use Rattle.tracer_cli.specs.TurnTexts.{last_line, own_lines, told_after, told_thread, turns_told}
+use Rattle.tracer_cli.specs.TurnTexts.{closing_line, own_lines, told_after, told_thread, turns_told}
 
 -- ---- one turn more
 
@@ -100,9 +100,11 @@ kept_one : (t : Telling) (threads : ℕ) (before : Log) (turns : List ToldTurn) 
 unfolding AreKeptTurns
 kept_one t threads before [] kept are is =
     (subst (λ log. IsKeptTurn t threads log kept) (append-nil before) is, tt)
-kept_one t threads before (first ∷ turns) kept are is =
-    (are.0, kept_one t threads (before ++ first.turn ∷ []) turns kept are.1
-    (subst (λ log. IsKeptTurn t threads log kept) (sym (append_assoc before (first.turn ∷ []) (turns_told turns))) is))
+kept_one t threads before (first ∷ turns) kept are is = (
+  are.0,
+  kept_one t threads (before ++ first.turn ∷ []) turns kept are.1
+      (subst (λ log. IsKeptTurn t threads log kept) (sym (append_assoc before (first.turn ∷ []) (turns_told turns))) is),
+)
 
 kept_last : (t : Telling) (threads : ℕ) (before : Log) (turns : List ToldTurn) (kept : ToldTurn)
     → AreKeptTurns t threads before (turns ++ kept ∷ [])
@@ -111,9 +113,11 @@ unfolding AreKeptTurns
 kept_last t threads before [] kept are =
     (tt, subst (λ log. IsKeptTurn t threads log kept) (sym (append-nil before)) are.0)
 kept_last t threads before (first ∷ turns) kept are =
-    let rest = kept_last t threads (before ++ first.turn ∷ []) turns kept are.1 in
-    ((are.0, rest.0), subst (λ log. IsKeptTurn t threads log kept) (append_assoc before (first.turn ∷ []) (turns_told turns))
-    rest.1)
+    let rest = kept_last t threads (before ++ first.turn ∷ []) turns kept are.1 in (
+      (are.0, rest.0),
+      subst (λ log. IsKeptTurn t threads log kept) (append_assoc before (first.turn ∷ []) (turns_told turns))
+          rest.1,
+    )
 
 -- ---- all texts
 
@@ -248,9 +252,9 @@ told_done t old new kept before after did told turns_are threads_are before_is w
       thread = λ less. (text_is ∙ ap (λ (b : ThreadTold). length b.text) was, next_is ∙ ap (λ (b : ThreadTold). b.next) was);
     })
     (λ less.
-      after_is
-      ∙ (λ i. told_after (is_quiet t.voices owner) (t.commands owner) kept.turn (done_line t.rows kept.turn (done i)) (was i))
-      ∙ sym (told_one t owner own kept.turn))
+    after_is
+    ∙ (λ i. told_after (is_quiet t.voices owner) (t.commands owner) kept.turn (done_line t.rows kept.turn (done i)) (was i))
+    ∙ sym (told_one t owner own kept.turn))
     (new_order
     ∙ (λ i. told.order i ++ turn_line t.rows (name_at t.names owner) kept.turn (done i))
     ∙ sym (order_one t log kept.turn))
@@ -432,7 +436,7 @@ lines_to_the_end rows states commands at (turn ∷ turns) =
 
 by_voice : (t : Telling) (thread : ℕ) (ending : EndedRun) (quiet : Bool) (head : List ℕ)
     → (head ++ (if quiet then [] else own_lines t.rows (t.commands thread) 0 (own_turns thread ending.turns)))
-    ++ last_line t.rows ending.states quiet (command_after (t.commands thread) (own_turns thread ending.turns))
+    ++ closing_line t.rows ending.states quiet (command_after (t.commands thread) (own_turns thread ending.turns))
     ≡ head ++ told_lines t.rows quiet (t.commands thread) ending thread
 by_voice t thread ending true head =
     ap (λ text. text ++ quiet_line t.rows ending.states (command_after (t.commands thread) (own_turns thread ending.turns)))
@@ -446,7 +450,7 @@ by_voice t thread ending false head =
 -- of a thread, with its last line
 pub thread_told : (t : Telling) (thread : ℕ) (ending : EndedRun)
     → (told_thread t thread (own_turns thread ending.turns)).text
-    ++ last_line t.rows ending.states (is_quiet t.voices thread)
+    ++ closing_line t.rows ending.states (is_quiet t.voices thread)
     (slice_get (t.commands thread) (told_thread t thread (own_turns thread ending.turns)).next)
     ≡ thread_text t.rows t.voices t.commands ending thread (name_at t.names thread)
 thread_told t thread ending =

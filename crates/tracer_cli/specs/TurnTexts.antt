@@ -74,8 +74,8 @@ told_after quiet commands turn line told = record {
 }
 
 -- the end of what is told of a thread: the command that it waits at, or that a quiet thread is done
-abbrev pub last_line : List Row → List State → (quiet : Bool) → Option ThreadCommand → List ℕ
-last_line rows states quiet next = if quiet then quiet_line rows states next else waiting_line rows states next
+abbrev pub closing_line : List Row → List State → (quiet : Bool) → Option ThreadCommand → List ℕ
+closing_line rows states quiet next = if quiet then quiet_line rows states next else waiting_line rows states next
 
 -- ---- turns
 
@@ -103,8 +103,8 @@ pub record AreTold (t : Telling) (told : TextsTold) : Type 0 where
   -- no other thread has a command
   pub others : (thread : ℕ) → length told.threads ≤ thread → t.commands thread ≡ []
 
-abbrev pub IsTold : TextsTold → Type 0
-IsTold told = (t : Telling) × AreTold t told
+abbrev pub AreToldOfSome : TextsTold → Type 0
+AreToldOfSome told = (t : Telling) × AreTold t told
 
 -- a line ends before this place
 abbrev pub EndsLine : (text : List ℕ) → (end : ℕ) → Type 0

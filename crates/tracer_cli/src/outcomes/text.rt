@@ -9,7 +9,7 @@ ghost use Rattle.tracer_cli.specs.LitmusDraft.{AreTexts, names_kept};
 ghost use Rattle.tracer_cli.specs.OutcomeText.{allowed_line, counts_line, done_line, forbidden_line, name_at};
 ghost use Rattle.tracer_cli.specs.OutcomeText.{outcome_line, outcome_text, thread_head, thread_text, thread_word};
 ghost use Rattle.tracer_cli.specs.OutcomeText.{threads_text, tracee_line, tracees_text, waiting_line};
-ghost use Rattle.tracer_cli.specs.TurnTexts.{AreTold, last_line, telling, told_thread, turns_told};
+ghost use Rattle.tracer_cli.specs.TurnTexts.{AreTold, closing_line, telling, told_thread, turns_told};
 
 use super::answer_text::{write_answer, write_waits};
 use super::chosen::{is_quiet, thread_commands};
@@ -122,7 +122,7 @@ fn write_name<A: Allocator>(out: &mut String<A>, name: &[u8]) -> Result<(), NoMe
 }
 
 /// Writes the last line of what is told of a thread: the command that it waits at, or that a quiet thread is done.
-fn write_last_line<A: Allocator>(
+fn write_closing_line<A: Allocator>(
     out: &mut String<A>,
     rows: &[Row],
     states: &[State],
@@ -130,7 +130,7 @@ fn write_last_line<A: Allocator>(
     next: Option<ThreadCommand>,
 ) -> Result<(), NoMemory>
     ensures { OnOk result (string_bytes out.new
-        ≡ string_bytes out.old ++ last_line rows.now states.now quiet next) }
+        ≡ string_bytes out.old ++ closing_line rows.now states.now quiet next) }
 {
     match next {
         None => {
@@ -159,7 +159,7 @@ fn write_thread<A: Allocator>(
 {
     out.push_str(told.text())?;
     let next = told.next_of(thread_commands(program.commands, thread));
-    write_last_line(
+    write_closing_line(
         out,
         program.rows,
         states,

@@ -5,7 +5,7 @@ ghost use Rattle.std.specs.Prelude.{slice_get, string_bytes, take};
 ghost use Rattle.std.specs.Bool.{Decides};
 ghost use Rattle.tracer_cli.specs.LitmusDraft.{AreTexts, names_kept};
 ghost use Rattle.tracer_cli.specs.OutcomeText.{done_line, name_at, thread_word};
-ghost use Rattle.tracer_cli.specs.TurnTexts.{AreFirst, AreTold, EndsLine, IsTold, Telling, told_after, telling};
+ghost use Rattle.tracer_cli.specs.TurnTexts.{AreFirst, AreTold, EndsLine, AreToldOfSome, Telling, told_after, telling};
 ghost use Rattle.tracer_cli.specs.TurnTexts.{turns_told};
 
 use super::chosen::{is_quiet, thread_commands};
@@ -234,7 +234,7 @@ impl<A: Allocator> TurnTexts<A> {
     /// Keeps only this many turns, the first ones.
     fn keep(&mut self, count: usize)
         requires count { count ≤ length self.old.turns }
-        requires told { IsTold self.old }
+        requires told { AreToldOfSome self.old }
         ensures told { (telling : Telling) → AreTold telling self.old → AreTold telling self.new }
         ensures turns { self.new.turns ≡ take count self.old.turns }
         ensures threads { length self.new.threads ≡ length self.old.threads }
@@ -246,7 +246,7 @@ impl<A: Allocator> TurnTexts<A> {
 
     /// Takes back the last turn, if there is one.
     fn take_back(&mut self)
-        requires told { IsTold self.old }
+        requires told { AreToldOfSome self.old }
         ensures told { (telling : Telling) → AreTold telling self.old → AreTold telling self.new }
         ensures turns { self.new.turns ≡ take (length self.old.turns - 1) self.old.turns }
         ensures threads { length self.new.threads ≡ length self.old.threads }

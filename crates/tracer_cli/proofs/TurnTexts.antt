@@ -17,14 +17,14 @@ use Rattle.stop_explorer.specs.Run.{EndedRun}
 use Rattle.stop_explorer.proofs.Slices.{slice_last, slice_left}
 use Rattle.stop_explorer.proofs.Logs.{own_none, own_one, progress_one}
 use Rattle.tracer_workers.proofs.TurnEnds.{get_set_other, set_there}
-use Rattle.tracer_cli.specs.declared.outcomes.turn_texts.ToldTurn.{ToldTurn}
+use Rattle.tracer_cli.specs.declared.outcomes.turn_texts.WrittenTurn.{WrittenTurn}
 use Rattle.tracer_cli.specs.AnswerText.{answer_text}
 use Rattle.tracer_cli.specs.CommandText.{command_text}
 use Rattle.tracer_cli.specs.OutcomeText.{command_of_turn, done_line, name_at, order_lines, order_text, quiet_line}
 use Rattle.tracer_cli.specs.OutcomeText.{thread_head, thread_lines, thread_text, thread_word, told_lines, turn_line}
 use Rattle.tracer_cli.specs.OutcomeText.{waiting_line}
-use Rattle.tracer_cli.specs.TurnTexts.{AreFirst, AreKeptTurns, AreTold, EndsLine, IsKeptTurn, Telling, TextsTold, ThreadTold}
-use Rattle.tracer_cli.specs.TurnTexts.{closing_line, own_lines, told_after, told_thread, turns_told}
+use Rattle.tracer_cli.specs.TurnTexts.{AreBeforeTurns, AreWrittenTurns, AreTextsOf, EndsLine, IsWrittenTurn, TextSource, TextsOfTurns, ThreadText}
+use Rattle.tracer_cli.specs.TurnTexts.{closing_line, own_lines, thread_after_turn, thread_so_far, turns_written}
 
 -- ---- one turn more
 
@@ -46,11 +46,11 @@ one_line head true lines line more is = sym (append-nil (head ++ []))
 one_line head false lines line more is = ap (λ t. head ++ t) is ∙ sym (append_assoc head lines line)
 
 -- of a thread
-pub told_one : (t : Telling) (thread : ℕ) (own : List Turn) (turn : Turn)
-    → told_thread t thread (own ++ turn ∷ [])
-    ≡ told_after (is_quiet t.voices thread) (t.commands thread) turn
-    (done_line t.rows turn (slice_get (t.commands thread) (told_thread t thread own).next)) (told_thread t thread own)
-told_one t thread own turn =
+pub thread_one : (t : TextSource) (thread : ℕ) (own : List Turn) (turn : Turn)
+    → thread_so_far t thread (own ++ turn ∷ [])
+    ≡ thread_after_turn (is_quiet t.voices thread) (t.commands thread) turn
+    (done_line t.rows turn (slice_get (t.commands thread) (thread_so_far t thread own).next)) (thread_so_far t thread own)
+thread_one t thread own turn =
     let commands = t.commands thread in
     let texts = one_line (thread_head (thread + 1) (name_at t.names thread)) (is_quiet t.voices thread)
     (own_lines t.rows commands 0 own) (done_line t.rows turn (slice_get commands (index_from commands 0 own)))
@@ -78,7 +78,7 @@ order_lines_one rows names commands before (first ∷ turns) turn =
     ∙ sym (append_assoc line (order_lines rows names commands after turns) (last (before ++ first ∷ turns)))
 
 -- of the order
-pub order_one : (t : Telling) (turns : Log) (turn : Turn)
+pub order_one : (t : TextSource) (turns : Log) (turn : Turn)
     → order_text t.rows t.names t.commands (turns ++ turn ∷ [])
     ≡ order_text t.rows t.names t.commands turns
     ++ turn_line t.rows (name_at t.names turn.thread) turn (command_of_turn t.commands turns turn)
@@ -90,32 +90,32 @@ order_one t turns turn =
 
 -- ---- kept turns
 
-turns_one : (turns : List ToldTurn) (kept : ToldTurn)
-    → turns_told (turns ++ kept ∷ []) ≡ turns_told turns ++ kept.turn ∷ []
-turns_one turns kept = map-append (λ (told : ToldTurn). told.turn) turns (kept ∷ [])
+turns_one : (turns : List WrittenTurn) (kept : WrittenTurn)
+    → turns_written (turns ++ kept ∷ []) ≡ turns_written turns ++ kept.turn ∷ []
+turns_one turns kept = map-append (λ (told : WrittenTurn). told.turn) turns (kept ∷ [])
 
-kept_one : (t : Telling) (threads : ℕ) (before : Log) (turns : List ToldTurn) (kept : ToldTurn)
-    → AreKeptTurns t threads before turns → IsKeptTurn t threads (before ++ turns_told turns) kept
-    → AreKeptTurns t threads before (turns ++ kept ∷ [])
-unfolding AreKeptTurns
+kept_one : (t : TextSource) (threads : ℕ) (before : Log) (turns : List WrittenTurn) (kept : WrittenTurn)
+    → AreWrittenTurns t threads before turns → IsWrittenTurn t threads (before ++ turns_written turns) kept
+    → AreWrittenTurns t threads before (turns ++ kept ∷ [])
+unfolding AreWrittenTurns
 kept_one t threads before [] kept are is =
-    (subst (λ log. IsKeptTurn t threads log kept) (append-nil before) is, tt)
+    (subst (λ log. IsWrittenTurn t threads log kept) (append-nil before) is, tt)
 kept_one t threads before (first ∷ turns) kept are is = (
   are.0,
   kept_one t threads (before ++ first.turn ∷ []) turns kept are.1
-      (subst (λ log. IsKeptTurn t threads log kept) (sym (append_assoc before (first.turn ∷ []) (turns_told turns))) is),
+      (subst (λ log. IsWrittenTurn t threads log kept) (sym (append_assoc before (first.turn ∷ []) (turns_written turns))) is),
 )
 
-kept_last : (t : Telling) (threads : ℕ) (before : Log) (turns : List ToldTurn) (kept : ToldTurn)
-    → AreKeptTurns t threads before (turns ++ kept ∷ [])
-    → AreKeptTurns t threads before turns × IsKeptTurn t threads (before ++ turns_told turns) kept
-unfolding AreKeptTurns
+kept_last : (t : TextSource) (threads : ℕ) (before : Log) (turns : List WrittenTurn) (kept : WrittenTurn)
+    → AreWrittenTurns t threads before (turns ++ kept ∷ [])
+    → AreWrittenTurns t threads before turns × IsWrittenTurn t threads (before ++ turns_written turns) kept
+unfolding AreWrittenTurns
 kept_last t threads before [] kept are =
-    (tt, subst (λ log. IsKeptTurn t threads log kept) (sym (append-nil before)) are.0)
+    (tt, subst (λ log. IsWrittenTurn t threads log kept) (sym (append-nil before)) are.0)
 kept_last t threads before (first ∷ turns) kept are =
     let rest = kept_last t threads (before ++ first.turn ∷ []) turns kept are.1 in (
       (are.0, rest.0),
-      subst (λ log. IsKeptTurn t threads log kept) (append_assoc before (first.turn ∷ []) (turns_told turns))
+      subst (λ log. IsWrittenTurn t threads log kept) (append_assoc before (first.turn ∷ []) (turns_written turns))
           rest.1,
     )
 
@@ -131,69 +131,69 @@ same_text true text = sym (append-nil text)
 same_text false text = sym (append-nil text)
 
 -- before any turn
-pub told_first : (t : Telling) (thread : ℕ) (text : List ℕ) → text ≡ thread_head (thread + 1) (name_at t.names thread)
-    → record { text = text; next = 0 } ≡ told_thread t thread []
+pub thread_first : (t : TextSource) (thread : ℕ) (text : List ℕ) → text ≡ thread_head (thread + 1) (name_at t.names thread)
+    → record { text = text; next = 0 } ≡ thread_so_far t thread []
 unfolding own_lines index_from
-told_first t thread text is =
+thread_first t thread text is =
     let texts = is ∙ same_text (is_quiet t.voices thread) (thread_head (thread + 1) (name_at t.names thread)) in
     λ i. record { text = texts i; next = 0 }
 
-pub first_more : (t : Telling) (threads : List ThreadTold) (first : ThreadTold) → AreFirst t threads
-    → first ≡ told_thread t (length threads) [] → AreFirst t (threads ++ first ∷ [])
+pub first_more : (t : TextSource) (threads : List ThreadText) (first : ThreadText) → AreBeforeTurns t threads
+    → first ≡ thread_so_far t (length threads) [] → AreBeforeTurns t (threads ++ first ∷ [])
 first_more t threads first are is = λ thread within.
     elim (cases_lt thread (length threads)) [
       | inl less ↦ slice_left threads (first ∷ []) thread less ∙ are thread less
       | inr past ↦
           let last : length threads ≡ thread = omega (arith, past, within, length_push threads first) in
-          subst (λ n. slice_get (threads ++ first ∷ []) n ≡ Some (told_thread t n [])) last
+          subst (λ n. slice_get (threads ++ first ∷ []) n ≡ Some (thread_so_far t n [])) last
           (slice_last threads first ∙ ap Some is)
     ]
 
-pub told_none : (t : Telling) (told : TextsTold) → told.turns ≡ [] → AreFirst t told.threads
-    → told.order ≡ codes "order\n" → ((thread : ℕ) → length told.threads ≤ thread → t.commands thread ≡ []) → AreTold t told
-unfolding AreKeptTurns order_lines
-told_none t told no_turns first order others = record {
-  turns = subst (AreKeptTurns t (length told.threads) []) (sym no_turns) tt;
+pub texts_none : (t : TextSource) (told : TextsOfTurns) → told.turns ≡ [] → AreBeforeTurns t told.threads
+    → told.order ≡ codes "order\n" → ((thread : ℕ) → length told.threads ≤ thread → t.commands thread ≡ []) → AreTextsOf t told
+unfolding AreWrittenTurns order_lines
+texts_none t told no_turns first order others = record {
+  turns = subst (AreWrittenTurns t (length told.threads) []) (sym no_turns) tt;
   threads = λ thread within.
-      first thread within ∙ ap (λ turns. Some (told_thread t thread (own_turns thread (turns_told turns)))) (sym no_turns);
-  order = order ∙ ap (λ turns. order_text t.rows t.names t.commands (turns_told turns)) (sym no_turns);
+      first thread within ∙ ap (λ turns. Some (thread_so_far t thread (own_turns thread (turns_written turns)))) (sym no_turns);
+  order = order ∙ ap (λ turns. order_text t.rows t.names t.commands (turns_written turns)) (sym no_turns);
   others = others;
 }
 
 -- after a turn more
-pub told_more : (t : Telling) (old new : TextsTold) (kept : ToldTurn) (owner : ThreadTold) → AreTold t old
+pub texts_more : (t : TextSource) (old new : TextsOfTurns) (kept : WrittenTurn) (owner : ThreadText) → AreTextsOf t old
     → new.turns ≡ old.turns ++ kept ∷ [] → new.threads ≡ slice_set old.threads kept.turn.thread owner
-    → IsKeptTurn t (length old.threads) (turns_told old.turns) kept
+    → IsWrittenTurn t (length old.threads) (turns_written old.turns) kept
     → (kept.turn.thread < length old.threads
-    → owner ≡ told_thread t kept.turn.thread (own_turns kept.turn.thread (turns_told old.turns) ++ kept.turn ∷ []))
-    → new.order ≡ order_text t.rows t.names t.commands (turns_told old.turns ++ kept.turn ∷ []) → AreTold t new
-told_more t old new kept owner told turns_are threads_are is_kept own order_is =
-    let log = turns_told old.turns in
-    let more : turns_told new.turns ≡ log ++ kept.turn ∷ [] = ap turns_told turns_are ∙ turns_one old.turns kept in
+    → owner ≡ thread_so_far t kept.turn.thread (own_turns kept.turn.thread (turns_written old.turns) ++ kept.turn ∷ []))
+    → new.order ≡ order_text t.rows t.names t.commands (turns_written old.turns ++ kept.turn ∷ []) → AreTextsOf t new
+texts_more t old new kept owner told turns_are threads_are is_kept own order_is =
+    let log = turns_written old.turns in
+    let more : turns_written new.turns ≡ log ++ kept.turn ∷ [] = ap turns_written turns_are ∙ turns_one old.turns kept in
     let count : length new.threads ≡ length old.threads =
     ap length threads_are ∙ length-set old.threads kept.turn.thread owner in
     record {
-      turns = subst (λ n. AreKeptTurns t n [] new.turns) (sym count)
-          (subst (AreKeptTurns t (length old.threads) []) (sym turns_are)
+      turns = subst (λ n. AreWrittenTurns t n [] new.turns) (sym count)
+          (subst (AreWrittenTurns t (length old.threads) []) (sym turns_are)
           (kept_one t (length old.threads) [] old.turns kept told.turns is_kept));
       threads = λ thread within.
           let there : thread < length old.threads = subst (λ n. thread < n) count within in
-          ap (λ (l : List ThreadTold). slice_get l thread) threads_are
+          ap (λ (l : List ThreadText). slice_get l thread) threads_are
           ∙ elim (eqb_tells kept.turn.thread thread) [
             | inl same ↦
                 let there_too : kept.turn.thread < length old.threads =
                 subst (λ n. n < length old.threads) (sym same.1) there in
                 subst
                 (λ n. slice_get (slice_set old.threads kept.turn.thread owner) n
-                ≡ Some (told_thread t n (own_turns n (turns_told new.turns)))) same.1
+                ≡ Some (thread_so_far t n (own_turns n (turns_written new.turns)))) same.1
                 (set_there old.threads kept.turn.thread owner there_too
                 ∙ ap Some (own there_too
-                ∙ ap (told_thread t kept.turn.thread)
+                ∙ ap (thread_so_far t kept.turn.thread)
                 (sym (ap (own_turns kept.turn.thread) more ∙ own_one kept.turn.thread log kept.turn refl))))
             | inr other ↦
                 get_set_other old.threads kept.turn.thread thread owner (λ is. other.1 (sym is))
                 ∙ told.threads thread there
-                ∙ ap (λ turns. Some (told_thread t thread turns))
+                ∙ ap (λ turns. Some (thread_so_far t thread turns))
                 (sym (ap (own_turns thread) more ∙ own_none thread log kept.turn other.1))
           ];
       order = order_is ∙ ap (order_text t.rows t.names t.commands) (sym more);
@@ -201,14 +201,14 @@ told_more t old new kept owner told turns_are threads_are is_kept own order_is =
     }
 
 -- of a thread that the program does not have
-pub told_past : (t : Telling) (old new : TextsTold) (kept : ToldTurn) → AreTold t old
+pub texts_past : (t : TextSource) (old new : TextsOfTurns) (kept : WrittenTurn) → AreTextsOf t old
     → new.turns ≡ old.turns ++ kept ∷ [] → new.threads ≡ old.threads → new.order ≡ old.order
-    → kept.order ≡ length old.order → length old.threads ≤ kept.turn.thread → AreTold t new
-told_past t old new kept told turns_are threads_are order_is long past =
-    let log = turns_told old.turns in
+    → kept.order_len ≡ length old.order → length old.threads ≤ kept.turn.thread → AreTextsOf t new
+texts_past t old new kept told turns_are threads_are order_is long past =
+    let log = turns_written old.turns in
     let owner = kept.turn.thread in
-    let any : ThreadTold = record { text = []; next = 0 } in
-    told_more t old new kept any told turns_are
+    let any : ThreadText = record { text = []; next = 0 } in
+    texts_more t old new kept any told turns_are
     (threads_are ∙ sym (set_past old.threads owner any past))
     (record {
       order = long ∙ ap length told.order;
@@ -221,90 +221,90 @@ told_past t old new kept told turns_are threads_are order_is long past =
     ∙ append-nil (order_text t.rows t.names t.commands log)))
 
 -- a thread without a next command
-pub told_same : (quiet : Bool) (commands : List ThreadCommand) (turn : Turn) (told : ThreadTold)
-    → slice_get commands told.next ≡ None → told ≡ told_after quiet commands turn [] told
-told_same quiet commands turn told none =
+pub thread_same : (quiet : Bool) (commands : List ThreadCommand) (turn : Turn) (told : ThreadText)
+    → slice_get commands told.next ≡ None → told ≡ thread_after_turn quiet commands turn [] told
+thread_same quiet commands turn told none =
     let texts = same_text quiet told.text in
     let nexts = ap (λ did. index_after did told.next turn.answer) (sym none) in
     λ i. record { text = texts i; next = nexts i }
 
 -- of a thread that the program has, whose next command was this
-pub told_done : (t : Telling) (old new : TextsTold) (kept : ToldTurn) (before after : ThreadTold)
-    (did : Option ThreadCommand) → AreTold t old
+pub texts_done : (t : TextSource) (old new : TextsOfTurns) (kept : WrittenTurn) (before after : ThreadText)
+    (did : Option ThreadCommand) → AreTextsOf t old
     → new.turns ≡ old.turns ++ kept ∷ [] → new.threads ≡ slice_set old.threads kept.turn.thread after
     → slice_get old.threads kept.turn.thread ≡ Some before → kept.turn.thread < length old.threads
-    → kept.order ≡ length old.order → kept.text ≡ length before.text → kept.next ≡ before.next
+    → kept.order_len ≡ length old.order → kept.text_len ≡ length before.text → kept.next ≡ before.next
     → did ≡ slice_get (t.commands kept.turn.thread) before.next
-    → after ≡ told_after (is_quiet t.voices kept.turn.thread) (t.commands kept.turn.thread) kept.turn
+    → after ≡ thread_after_turn (is_quiet t.voices kept.turn.thread) (t.commands kept.turn.thread) kept.turn
     (done_line t.rows kept.turn did) before
-    → new.order ≡ old.order ++ turn_line t.rows (name_at t.names kept.turn.thread) kept.turn did → AreTold t new
-told_done t old new kept before after did told turns_are threads_are before_is within order_is text_is next_is did_is
+    → new.order ≡ old.order ++ turn_line t.rows (name_at t.names kept.turn.thread) kept.turn did → AreTextsOf t new
+texts_done t old new kept before after did told turns_are threads_are before_is within order_is text_is next_is did_is
     after_is new_order =
-    let log = turns_told old.turns in
+    let log = turns_written old.turns in
     let owner = kept.turn.thread in
     let own = own_turns owner log in
-    let was : before ≡ told_thread t owner own = same_Some _ _ (sym before_is ∙ told.threads owner within) in
+    let was : before ≡ thread_so_far t owner own = same_Some _ _ (sym before_is ∙ told.threads owner within) in
     let done : did ≡ command_of_turn t.commands log kept.turn =
-    did_is ∙ ap (λ (b : ThreadTold). slice_get (t.commands owner) b.next) was in
-    told_more t old new kept after told turns_are threads_are
+    did_is ∙ ap (λ (b : ThreadText). slice_get (t.commands owner) b.next) was in
+    texts_more t old new kept after told turns_are threads_are
     (record {
       order = order_is ∙ ap length told.order;
-      thread = λ less. (text_is ∙ ap (λ (b : ThreadTold). length b.text) was, next_is ∙ ap (λ (b : ThreadTold). b.next) was);
+      thread = λ less. (text_is ∙ ap (λ (b : ThreadText). length b.text) was, next_is ∙ ap (λ (b : ThreadText). b.next) was);
     })
     (λ less.
     after_is
-    ∙ (λ i. told_after (is_quiet t.voices owner) (t.commands owner) kept.turn (done_line t.rows kept.turn (done i)) (was i))
-    ∙ sym (told_one t owner own kept.turn))
+    ∙ (λ i. thread_after_turn (is_quiet t.voices owner) (t.commands owner) kept.turn (done_line t.rows kept.turn (done i)) (was i))
+    ∙ sym (thread_one t owner own kept.turn))
     (new_order
     ∙ (λ i. told.order i ++ turn_line t.rows (name_at t.names owner) kept.turn (done i))
     ∙ sym (order_one t log kept.turn))
 
 -- with the last one taken back
-pub told_less : (t : Telling) (old new : TextsTold) (kept : ToldTurn) (before : ThreadTold) → AreTold t old
+pub texts_less : (t : TextSource) (old new : TextsOfTurns) (kept : WrittenTurn) (before : ThreadText) → AreTextsOf t old
     → old.turns ≡ new.turns ++ kept ∷ []
-    → new.threads ≡ slice_set old.threads kept.turn.thread (record { text = take kept.text before.text; next = kept.next })
+    → new.threads ≡ slice_set old.threads kept.turn.thread (record { text = take kept.text_len before.text; next = kept.next })
     → (kept.turn.thread < length old.threads → slice_get old.threads kept.turn.thread ≡ Some before)
-    → new.order ≡ take kept.order old.order → AreTold t new
-told_less t old new kept before told turns_are threads_are is order_is =
-    let log = turns_told new.turns in
-    let more : turns_told old.turns ≡ log ++ kept.turn ∷ [] = ap turns_told turns_are ∙ turns_one new.turns kept in
+    → new.order ≡ take kept.order_len old.order → AreTextsOf t new
+texts_less t old new kept before told turns_are threads_are is order_is =
+    let log = turns_written new.turns in
+    let more : turns_written old.turns ≡ log ++ kept.turn ∷ [] = ap turns_written turns_are ∙ turns_one new.turns kept in
     let kepts = kept_last t (length old.threads) [] new.turns kept
-    (subst (AreKeptTurns t (length old.threads) []) turns_are told.turns) in
+    (subst (AreWrittenTurns t (length old.threads) []) turns_are told.turns) in
     let owner = kept.turn.thread in
-    let own = told_thread t owner (own_turns owner log) in
+    let own = thread_so_far t owner (own_turns owner log) in
     let told_line = turn_line t.rows (name_at t.names owner) kept.turn (command_of_turn t.commands log kept.turn) in
-    let cut_off : ThreadTold = record { text = take kept.text before.text; next = kept.next } in
+    let cut_off : ThreadText = record { text = take kept.text_len before.text; next = kept.next } in
     let count : length new.threads ≡ length old.threads =
     ap length threads_are ∙ length-set old.threads owner cut_off in
     let same_text : owner < length old.threads → cut_off ≡ own = λ within.
-    let was : before ≡ told_after (is_quiet t.voices owner) (t.commands owner) kept.turn
+    let was : before ≡ thread_after_turn (is_quiet t.voices owner) (t.commands owner) kept.turn
     (done_line t.rows kept.turn (slice_get (t.commands owner) own.next)) own =
     same_Some _ _ (sym (is within) ∙ told.threads owner within)
-    ∙ ap (told_thread t owner) (ap (own_turns owner) more ∙ own_one owner log kept.turn refl)
-    ∙ told_one t owner (own_turns owner log) kept.turn in
+    ∙ ap (thread_so_far t owner) (ap (own_turns owner) more ∙ own_one owner log kept.turn refl)
+    ∙ thread_one t owner (own_turns owner log) kept.turn in
     let line = if is_quiet t.voices owner then []
     else done_line t.rows kept.turn (slice_get (t.commands owner) own.next) in
     let lengths = kepts.1.thread within in
-    let texts : take kept.text before.text ≡ own.text =
+    let texts : take kept.text_len before.text ≡ own.text =
     (λ i. take (lengths.0 i) (was i).text) ∙ take-append_seam own.text line in
     λ i. record { text = texts i; next = lengths.1 i } in
     record {
-      turns = subst (λ n. AreKeptTurns t n [] new.turns) (sym count) kepts.0;
+      turns = subst (λ n. AreWrittenTurns t n [] new.turns) (sym count) kepts.0;
       threads = λ thread within.
           let there : thread < length old.threads = subst (λ n. thread < n) count within in
-          ap (λ (l : List ThreadTold). slice_get l thread) threads_are
+          ap (λ (l : List ThreadText). slice_get l thread) threads_are
           ∙ elim (eqb_tells owner thread) [
             | inl same ↦
                 let there_too : owner < length old.threads =
                 subst (λ n. n < length old.threads) (sym same.1) there in
-                subst (λ n. slice_get (slice_set old.threads owner cut_off) n ≡ Some (told_thread t n (own_turns n log)))
+                subst (λ n. slice_get (slice_set old.threads owner cut_off) n ≡ Some (thread_so_far t n (own_turns n log)))
                 same.1 (set_there old.threads owner cut_off there_too ∙ ap Some (same_text there_too))
             | inr other ↦
                 get_set_other old.threads owner thread cut_off (λ is. other.1 (sym is)) ∙ told.threads thread there
-                ∙ ap (λ turns. Some (told_thread t thread turns))
+                ∙ ap (λ turns. Some (thread_so_far t thread turns))
                 (ap (own_turns thread) more ∙ own_none thread log kept.turn other.1)
           ];
-      order = order_is ∙ ap (take kept.order) (told.order ∙ ap (order_text t.rows t.names t.commands) more
+      order = order_is ∙ ap (take kept.order_len) (told.order ∙ ap (order_text t.rows t.names t.commands) more
           ∙ order_one t log kept.turn)
           ∙ ap (λ n. take n (order_text t.rows t.names t.commands log ++ told_line)) kepts.1.order
           ∙ take-append_seam (order_text t.rows t.names t.commands log) told_line;
@@ -372,50 +372,50 @@ order_lines_end rows names commands before (turn ∷ turns) text are =
     (order_lines_end rows names commands (before ++ turn ∷ []) turns (text ++ line)
     (named_lines rows (name_at names turn.thread) turn text (command_of_turn commands before turn) are))
 
-told_by_voice : (quiet : Bool) (head lines : List ℕ) → IsLines head → IsLines (head ++ lines)
+lines_by_voice : (quiet : Bool) (head lines : List ℕ) → IsLines head → IsLines (head ++ lines)
     → IsLines (head ++ (if quiet then [] else lines))
-told_by_voice true head lines none some = no_more head none
-told_by_voice false head lines none some = some
+lines_by_voice true head lines none some = no_more head none
+lines_by_voice false head lines none some = some
 
-thread_ends : (t : Telling) (thread : ℕ) (own : List Turn) → IsLines (told_thread t thread own).text
+thread_ends : (t : TextSource) (thread : ℕ) (own : List Turn) → IsLines (thread_so_far t thread own).text
 thread_ends t thread own =
     let word = thread_word (thread + 1) (name_at t.names thread) in
     let head = thread_head (thread + 1) (name_at t.names thread) in
     let first : IsLines head = (codes "thread " ++ word, sym (append_assoc (codes "thread ") word (codes "\n"))) in
-    told_by_voice (is_quiet t.voices thread) head (own_lines t.rows (t.commands thread) 0 own) first
+    lines_by_voice (is_quiet t.voices thread) head (own_lines t.rows (t.commands thread) 0 own) first
     (own_lines_end t.rows (t.commands thread) 0 own head first)
 
 -- what the last turn added to the order, and to the text of its thread, is after a line
-pub order_cut : (t : Telling) (told : TextsTold) (turns : List ToldTurn) (kept : ToldTurn) → AreTold t told
-    → told.turns ≡ turns ++ kept ∷ [] → EndsLine told.order kept.order
+pub order_cut : (t : TextSource) (told : TextsOfTurns) (turns : List WrittenTurn) (kept : WrittenTurn) → AreTextsOf t told
+    → told.turns ≡ turns ++ kept ∷ [] → EndsLine told.order kept.order_len
 order_cut t told turns kept are turns_are =
-    let log = turns_told turns in
+    let log = turns_written turns in
     let line = turn_line t.rows (name_at t.names kept.turn.thread) kept.turn (command_of_turn t.commands log kept.turn) in
     let is_kept = (kept_last t (length told.threads) [] turns kept
-    (subst (AreKeptTurns t (length told.threads) []) turns_are are.turns)).1 in
+    (subst (AreWrittenTurns t (length told.threads) []) turns_are are.turns)).1 in
     let before = order_text t.rows t.names t.commands log in
     let whole : told.order ≡ before ++ line =
-    are.order ∙ ap (order_text t.rows t.names t.commands) (ap turns_told turns_are ∙ turns_one turns kept)
+    are.order ∙ ap (order_text t.rows t.names t.commands) (ap turns_written turns_are ∙ turns_one turns kept)
     ∙ order_one t log kept.turn in
     subst (λ n. EndsLine told.order n) (sym is_kept.order)
     (subst (λ text. EndsLine text (length before)) (sym whole)
     (ends_line before line (order_lines_end t.rows t.names t.commands [] log (codes "order\n") (codes "order", refl))))
 
-pub thread_cut : (t : Telling) (told : TextsTold) (turns : List ToldTurn) (kept : ToldTurn) (owner : ThreadTold)
-    → AreTold t told → told.turns ≡ turns ++ kept ∷ [] → kept.turn.thread < length told.threads
-    → slice_get told.threads kept.turn.thread ≡ Some owner → EndsLine owner.text kept.text
+pub thread_cut : (t : TextSource) (told : TextsOfTurns) (turns : List WrittenTurn) (kept : WrittenTurn) (owner : ThreadText)
+    → AreTextsOf t told → told.turns ≡ turns ++ kept ∷ [] → kept.turn.thread < length told.threads
+    → slice_get told.threads kept.turn.thread ≡ Some owner → EndsLine owner.text kept.text_len
 thread_cut t told turns kept owner are turns_are within is =
-    let log = turns_told turns in
+    let log = turns_written turns in
     let thread = kept.turn.thread in
-    let before = told_thread t thread (own_turns thread log) in
+    let before = thread_so_far t thread (own_turns thread log) in
     let line = if is_quiet t.voices thread then [] else done_line t.rows kept.turn (slice_get (t.commands thread) before.next) in
     let is_kept = (kept_last t (length told.threads) [] turns kept
-    (subst (AreKeptTurns t (length told.threads) []) turns_are are.turns)).1 in
+    (subst (AreWrittenTurns t (length told.threads) []) turns_are are.turns)).1 in
     let lengths = is_kept.thread within in
     let whole : owner.text ≡ before.text ++ line =
-    ap (λ (o : ThreadTold). o.text) (same_Some _ _ (sym is ∙ are.threads thread within)
-    ∙ ap (told_thread t thread) (ap (own_turns thread) (ap turns_told turns_are ∙ turns_one turns kept)
-    ∙ own_one thread log kept.turn refl) ∙ told_one t thread (own_turns thread log) kept.turn) in
+    ap (λ (o : ThreadText). o.text) (same_Some _ _ (sym is ∙ are.threads thread within)
+    ∙ ap (thread_so_far t thread) (ap (own_turns thread) (ap turns_written turns_are ∙ turns_one turns kept)
+    ∙ own_one thread log kept.turn refl) ∙ thread_one t thread (own_turns thread log) kept.turn) in
     subst (λ n. EndsLine owner.text n) (sym lengths.0)
     (subst (λ text. EndsLine text (length before.text)) (sym whole)
     (ends_line before.text line (thread_ends t thread (own_turns thread log))))
@@ -434,7 +434,7 @@ lines_to_the_end rows states commands at (turn ∷ turns) =
     (waiting_line rows states (slice_get commands (index_from commands next turns)))
     ∙ ap (λ lines. line ++ lines) (lines_to_the_end rows states commands next turns)
 
-by_voice : (t : Telling) (thread : ℕ) (ending : EndedRun) (quiet : Bool) (head : List ℕ)
+by_voice : (t : TextSource) (thread : ℕ) (ending : EndedRun) (quiet : Bool) (head : List ℕ)
     → (head ++ (if quiet then [] else own_lines t.rows (t.commands thread) 0 (own_turns thread ending.turns)))
     ++ closing_line t.rows ending.states quiet (command_after (t.commands thread) (own_turns thread ending.turns))
     ≡ head ++ told_lines t.rows quiet (t.commands thread) ending thread
@@ -448,19 +448,19 @@ by_voice t thread ending false head =
     ∙ ap (λ text. head ++ text) (lines_to_the_end t.rows ending.states commands 0 own)
 
 -- of a thread, with its last line
-pub thread_told : (t : Telling) (thread : ℕ) (ending : EndedRun)
-    → (told_thread t thread (own_turns thread ending.turns)).text
+pub thread_whole : (t : TextSource) (thread : ℕ) (ending : EndedRun)
+    → (thread_so_far t thread (own_turns thread ending.turns)).text
     ++ closing_line t.rows ending.states (is_quiet t.voices thread)
-    (slice_get (t.commands thread) (told_thread t thread (own_turns thread ending.turns)).next)
+    (slice_get (t.commands thread) (thread_so_far t thread (own_turns thread ending.turns)).next)
     ≡ thread_text t.rows t.voices t.commands ending thread (name_at t.names thread)
-thread_told t thread ending =
+thread_whole t thread ending =
     by_voice t thread ending (is_quiet t.voices thread) (thread_head (thread + 1) (name_at t.names thread))
 
 -- ---- the turns that are the same
 
-pub same_more : (told : List ToldTurn) (turns : Log) (at : ℕ) (any : ToldTurn) (d : Turn) → at < length told
-    → at < length turns → (get_or told at any).turn ≡ get_or turns at d → take at (turns_told told) ≡ take at turns
-    → take (at + 1) (turns_told told) ≡ take (at + 1) turns
+pub same_more : (told : List WrittenTurn) (turns : Log) (at : ℕ) (any : WrittenTurn) (d : Turn) → at < length told
+    → at < length turns → (get_or told at any).turn ≡ get_or turns at d → take at (turns_written told) ≡ take at turns
+    → take (at + 1) (turns_written told) ≡ take (at + 1) turns
 same_more told turns at any d first second same so_far =
-    take_more_same (turns_told told) turns at d (subst (λ n. at < n) (sym (length-map told (λ it. it.turn))) first)
-    second so_far (get_or-map (λ (it : ToldTurn). it.turn) told at any d first ∙ same)
+    take_more_same (turns_written told) turns at d (subst (λ n. at < n) (sym (length-map told (λ it. it.turn))) first)
+    second so_far (get_or-map (λ (it : WrittenTurn). it.turn) told at any d first ∙ same)

@@ -8,7 +8,7 @@ ghost use Rattle.tracer_cli.specs.CutOff.{IsCollected, IsCutOff};
 ghost use Rattle.tracer_cli.specs.LitmusDraft.{AreTexts, names_kept};
 ghost use Rattle.tracer_cli.specs.OutcomeText.{allowed_line, chosen_text, counts_line, outcome_text, outcome_texts};
 ghost use Rattle.tracer_cli.specs.Run.{IsUnwritten, WritesIfMemory};
-ghost use Rattle.tracer_cli.specs.TurnTexts.{AreTold, telling};
+ghost use Rattle.tracer_cli.specs.TurnTexts.{AreTextsOf, text_source};
 
 use super::chosen::{count_chosen, is_chosen};
 use super::text::{LINE, ToldProgram, write_end, write_outcome};
@@ -24,11 +24,11 @@ use stop_explorer::{Explored, FoundRun};
 /// From how many bytes on what is collected is written.
 const ENOUGH: usize = 65_536;
 
-/// What outcomes are printed by: the text that is collected, and the texts of the turns of the last outcome.
+/// What outcomes are printed by: the text that is collected, and the texts of the turns of the outcome before.
 #[derive(Drop)]
 struct Printer<A: Allocator> {
     text: String<A>,
-    told: TurnTexts<A>,
+    texts: TurnTexts<A>,
 }
 
 /// How many turns an outcome may have: a thread has no more turns than commands.
@@ -74,22 +74,22 @@ fn collect_outcome<A: Allocator + Copy>(
     run: &FoundRun<A>,
 ) -> Result<(), NoMemory>
     requires names { AreTexts program.now.names.now }
-    requires told { AreTold (telling program.now) printer.old.told }
-    requires threads { length program.now.names.now ≤ length printer.old.told.threads }
+    requires texts { AreTextsOf (text_source program.now) printer.old.texts }
+    requires threads { length program.now.names.now ≤ length printer.old.texts.threads }
     ensures text { OnOk result (string_bytes printer.new.text ≡ string_bytes printer.old.text
         ++ outcome_text program.now.rows.now (names_kept program.now.names.now) program.now.voices.now
         (commands_in program.now.commands.now) number count run.now) }
-    ensures told { OnOk result (AreTold (telling program.now) printer.new.told) }
-    ensures threads { OnOk result (length printer.new.told.threads ≡ length printer.old.told.threads) }
+    ensures texts { OnOk result (AreTextsOf (text_source program.now) printer.new.texts) }
+    ensures threads { OnOk result (length printer.new.texts.threads ≡ length printer.old.texts.threads) }
 {
-    printer.told.set_turns(program, run.turns())?;
+    printer.texts.set_turns(program, run.turns())?;
     write_outcome(
         &mut printer.text,
         program,
         number,
         count,
         run,
-        &printer.told,
+        &printer.texts,
     )
 }
 
@@ -104,14 +104,14 @@ fn print_outcome<A: Allocator + Copy, W: Write>(
     run: &FoundRun<A>,
 ) -> Result<(), CutOff>
     requires names { AreTexts program.now.names.now }
-    requires told { AreTold (telling program.now) printer.old.told }
-    requires threads { length program.now.names.now ≤ length printer.old.told.threads }
+    requires texts { AreTextsOf (text_source program.now) printer.old.texts }
+    requires threads { length program.now.names.now ≤ length printer.old.texts.threads }
     ensures ok { OnOk result (IsCollected (W.contents output.old) (W.contents output.new)
         (string_bytes printer.old.text)
         (outcome_text program.now.rows.now (names_kept program.now.names.now) program.now.voices.now
         (commands_in program.now.commands.now) number count run.now) (string_bytes printer.new.text)) }
-    ensures told { OnOk result (AreTold (telling program.now) printer.new.told) }
-    ensures threads { OnOk result (length printer.new.told.threads ≡ length printer.old.told.threads) }
+    ensures texts { OnOk result (AreTextsOf (text_source program.now) printer.new.texts) }
+    ensures threads { OnOk result (length printer.new.texts.threads ≡ length printer.old.texts.threads) }
     ensures cut_off { IfErr result (λ _. IsCutOff (W.contents output.old) (W.contents output.new)
         (string_bytes printer.old.text
         ++ outcome_text program.now.rows.now (names_kept program.now.names.now) program.now.voices.now
@@ -133,8 +133,8 @@ fn print_chosen<A: Allocator + Copy, W: Write>(
     runs: &[FoundRun<A>],
 ) -> Result<(), CutOff>
     requires names { AreTexts program.now.names.now }
-    requires told { AreTold (telling program.now) printer.old.told }
-    requires threads { length program.now.names.now ≤ length printer.old.told.threads }
+    requires texts { AreTextsOf (text_source program.now) printer.old.texts }
+    requires threads { length program.now.names.now ≤ length printer.old.texts.threads }
     ensures ok { OnOk result (IsCollected (W.contents output.old) (W.contents output.new)
         (string_bytes printer.old.text)
         (outcome_texts program.now.rows.now (names_kept program.now.names.now) program.now.voices.now
@@ -186,8 +186,8 @@ fn print_all<A: Allocator + Copy, W: Write>(
     explored: &Explored<A>,
 ) -> Result<(), CutOff>
     requires names { AreTexts program.now.names.now }
-    requires told { AreTold (telling program.now) printer.old.told }
-    requires threads { length program.now.names.now ≤ length printer.old.told.threads }
+    requires texts { AreTextsOf (text_source program.now) printer.old.texts }
+    requires threads { length program.now.names.now ≤ length printer.old.texts.threads }
     requires begin { string_bytes printer.old.text ≡ [] }
     ensures ok { OnOk result (Appends (W.contents output.old) (W.contents output.new)
         (chosen_text program.now.rows.now (names_kept program.now.names.now) program.now.voices.now
@@ -226,8 +226,8 @@ pub(crate) fn print_outcomes<A: Allocator + Copy, W: Write>(
 {
     let turns = most_turns(program);
     let text = String::with_capacity(alloc, room(program, turns))?;
-    let told = TurnTexts::new(alloc, program, turns)?;
-    let mut printer = Printer { text, told };
+    let texts = TurnTexts::new(alloc, program, turns)?;
+    let mut printer = Printer { text, texts };
     match print_all(
         &mut printer,
         output,

@@ -9,12 +9,12 @@ ghost use Rattle.tracer_cli.specs.LitmusDraft.{AreTexts, names_kept};
 ghost use Rattle.tracer_cli.specs.OutcomeText.{allowed_line, counts_line, done_line, forbidden_line, name_at};
 ghost use Rattle.tracer_cli.specs.OutcomeText.{outcome_line, outcome_text, thread_head, thread_text, thread_word};
 ghost use Rattle.tracer_cli.specs.OutcomeText.{threads_text, tracee_line, tracees_text, waiting_line};
-ghost use Rattle.tracer_cli.specs.TurnTexts.{AreTold, closing_line, telling, told_thread, turns_told};
+ghost use Rattle.tracer_cli.specs.TurnTexts.{AreTextsOf, closing_line, text_source, thread_so_far, turns_written};
 
 use super::answer_text::{write_answer, write_waits};
 use super::chosen::{is_quiet, thread_commands};
 use super::command_text::write_command;
-use super::turn_texts::{ToldThread, TurnTexts};
+use super::turn_texts::{ThreadSoFar, TurnTexts};
 use crate::replies::write_state;
 use itoa::Buffer;
 use std::alloc::Allocator;
@@ -121,7 +121,8 @@ fn write_name<A: Allocator>(out: &mut String<A>, name: &[u8]) -> Result<(), NoMe
     Ok(())
 }
 
-/// Writes the last line of what is told of a thread: the command that it waits at, or that a quiet thread is done.
+/// Writes the last line of a thread: the command that it waits at. If there is none, a quiet thread has the line `done`,
+/// and another thread has no line.
 fn write_closing_line<A: Allocator>(
     out: &mut String<A>,
     rows: &[Row],
@@ -143,22 +144,22 @@ fn write_closing_line<A: Allocator>(
     }
 }
 
-/// Writes what is told of a thread.
+/// Writes a thread: its text so far, and its last line.
 fn write_thread<A: Allocator>(
     out: &mut String<A>,
     program: &ToldProgram<'_, '_, A>,
     thread: usize,
     states: &[State],
-    told: &ToldThread<A>,
+    so_far: &ThreadSoFar<A>,
 ) -> Result<(), NoMemory>
     ensures { (ending : EndedRun) → states.now ≡ ending.states →
-        told.now ≡ told_thread (telling program.now) thread (own_turns thread ending.turns) →
+        so_far.now ≡ thread_so_far (text_source program.now) thread (own_turns thread ending.turns) →
         OnOk result (string_bytes out.new ≡ string_bytes out.old
         ++ thread_text program.now.rows.now program.now.voices.now (commands_in program.now.commands.now) ending thread
         (name_at (names_kept program.now.names.now) thread)) }
 {
-    out.push_str(told.text())?;
-    let next = told.next_of(thread_commands(program.commands, thread));
+    out.push_str(so_far.text())?;
+    let next = so_far.next_of(thread_commands(program.commands, thread));
     write_closing_line(
         out,
         program.rows,
@@ -173,17 +174,17 @@ fn write_threads<A: Allocator>(
     out: &mut String<A>,
     program: &ToldProgram<'_, '_, A>,
     run: &FoundRun<A>,
-    told: &TurnTexts<A>,
+    texts: &TurnTexts<A>,
 ) -> Result<(), NoMemory>
-    requires told { AreTold (telling program.now) told.now }
-    requires turns { turns_told told.now.turns ≡ run.now.turns }
-    requires threads { length program.now.names.now ≤ length told.now.threads }
+    requires texts { AreTextsOf (text_source program.now) texts.now }
+    requires turns { turns_written texts.now.turns ≡ run.now.turns }
+    requires threads { length program.now.names.now ≤ length texts.now.threads }
     ensures { OnOk result (string_bytes out.new ≡ string_bytes out.old
         ++ threads_text program.now.rows.now program.now.voices.now (commands_in program.now.commands.now) run.now 0
         (names_kept program.now.names.now)) }
 {
     for thread in 0..program.names.len() {
-        write_thread(out, program, thread, run.states(), told.thread(thread))?;
+        write_thread(out, program, thread, run.states(), texts.thread(thread))?;
     }
     Ok(())
 }
@@ -251,19 +252,19 @@ pub(crate) fn write_outcome<A: Allocator>(
     number: usize,
     count: usize,
     run: &FoundRun<A>,
-    told: &TurnTexts<A>,
+    texts: &TurnTexts<A>,
 ) -> Result<(), NoMemory>
-    requires told { AreTold (telling program.now) told.now }
-    requires turns { turns_told told.now.turns ≡ run.now.turns }
-    requires threads { length program.now.names.now ≤ length told.now.threads }
+    requires texts { AreTextsOf (text_source program.now) texts.now }
+    requires turns { turns_written texts.now.turns ≡ run.now.turns }
+    requires threads { length program.now.names.now ≤ length texts.now.threads }
     ensures { OnOk result (string_bytes out.new ≡ string_bytes out.old
         ++ outcome_text program.now.rows.now (names_kept program.now.names.now) program.now.voices.now
         (commands_in program.now.commands.now) number count run.now) }
 {
     write_outcome_line(out, number, count)?;
-    write_threads(out, program, run, told)?;
+    write_threads(out, program, run, texts)?;
     write_tracees(out, program.rows, run.states())?;
-    out.push_str(told.order())?;
+    out.push_str(texts.order())?;
     out.push_str("\n")?;
     Ok(())
 }

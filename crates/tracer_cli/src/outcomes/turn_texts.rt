@@ -1,12 +1,13 @@
-//! The texts of an outcome's turns: what is told of each thread, and the order.
+//! The texts of an outcome's turns, kept from one outcome to the next: the text of each thread without its last line,
+//! and the order.
 
 ghost use Rattle.std.specs.Prelude.{◌≡◌, ◌+◌, ◌++◌, ◌-◌, ◌∷◌, ◌<◌, ◌≤◌, [], IfOk, OnOk, Some, codes, length};
 ghost use Rattle.std.specs.Prelude.{slice_get, string_bytes, take};
 ghost use Rattle.std.specs.Bool.{Decides};
 ghost use Rattle.tracer_cli.specs.LitmusDraft.{AreTexts, names_kept};
 ghost use Rattle.tracer_cli.specs.OutcomeText.{done_line, name_at, thread_word};
-ghost use Rattle.tracer_cli.specs.TurnTexts.{AreFirst, AreTold, EndsLine, AreToldOfSome, Telling, told_after, telling};
-ghost use Rattle.tracer_cli.specs.TurnTexts.{turns_told};
+ghost use Rattle.tracer_cli.specs.TurnTexts.{AreBeforeTurns, AreTextsOf, EndsLine, AreTextsOfAny, TextSource, thread_after_turn, text_source};
+ghost use Rattle.tracer_cli.specs.TurnTexts.{turns_written};
 
 use super::chosen::{is_quiet, thread_commands};
 use super::text::{LINE, ToldProgram, name_at, write_done, write_thread_head, write_thread_word};
@@ -15,38 +16,40 @@ use std::marker::Model;
 use stop_board::{NoMemory, Row};
 use stop_explorer::{ThreadCommand, Turn, index_after};
 
-/// What is told of a thread before the command that it waits at, and the place of that command among its own.
+/// The text of a thread without its last line: its head and, unless it is quiet, a line for each command that it did.
+/// `next` is the index of its next command; there may be none at it.
 #[derive(Drop)]
-pub(crate) struct ToldThread<A: Allocator> {
+pub(crate) struct ThreadSoFar<A: Allocator> {
     text: String<A>,
     next: usize,
 }
 
-impl<A: Allocator> Model for ToldThread<A> {
+impl<A: Allocator> Model for ThreadSoFar<A> {
     ghost use Rattle.std.specs.Prelude.{string_bytes};
-    ghost use Rattle.tracer_cli.specs.TurnTexts.{ThreadTold};
+    ghost use Rattle.tracer_cli.specs.TurnTexts.{ThreadText};
 
-    ghost Value = { ThreadTold };
+    ghost Value = { ThreadText };
 
     ghost view = { λ t. record { text = string_bytes t.text; next = t.next } };
 }
 
-impl<A: Allocator> ToldThread<A> {
-    /// The text.
+impl<A: Allocator> ThreadSoFar<A> {
+    /// The text, without the last line of the thread.
     pub(super) fn text(&self) -> &str
         ensures { result.now ≡ self.now.text }
     {
         self.text.as_str()
     }
 
-    /// The thread's next command, if it has one, among its own.
+    /// The thread's next command, if it has one. `own` are the commands of the thread.
     pub(super) fn next_of(&self, own: &[ThreadCommand]) -> Option<ThreadCommand>
         ensures { result ≡ slice_get own.now self.now.next }
     {
         own.get(self.next).copied()
     }
 
-    /// Adds the line of a turn, unless the thread is quiet: its next command was answered.
+    /// Adds a turn of the thread: its line, unless the thread is quiet. The next command is then the one at which the
+    /// thread goes on after the answer.
     fn add(
         &mut self,
         quiet: bool,
@@ -54,7 +57,7 @@ impl<A: Allocator> ToldThread<A> {
         turn: &Turn,
         line: &str,
     ) -> Result<(), NoMemory>
-        ensures { OnOk result (self.new ≡ told_after quiet own.now turn.now line.now self.old) }
+        ensures { OnOk result (self.new ≡ thread_after_turn quiet own.now turn.now line.now self.old) }
     {
         if !quiet {
             self.text.push_str(line)?;
@@ -63,41 +66,43 @@ impl<A: Allocator> ToldThread<A> {
         Ok(())
     }
 
-    /// Takes back what was added since the text had this length, and the next command this place.
-    fn take_back(&mut self, text: usize, next: usize)
-        requires { EndsLine self.old.text text }
-        ensures { self.new ≡ record { text = take text self.old.text; next = next } }
+    /// Cuts the text to this length, at which a line ends, and sets the index of the next command.
+    fn take_back(&mut self, text_len: usize, next: usize)
+        requires { EndsLine self.old.text text_len }
+        ensures { self.new ≡ record { text = take text_len self.old.text; next = next } }
     {
-        cut(&mut self.text, text);
+        cut_after_line(&mut self.text, text_len);
         self.next = next;
     }
 }
 
-/// A turn that is told. Before it, the next command of its thread had this place, and the thread's text and the order
-/// had these lengths.
+/// A turn whose line is written, with what is needed to take it back: before it, `next` was the index of its thread's
+/// next command, and the thread's text and the order had `text_len` and `order_len` bytes. For a thread that the program
+/// does not have, `next` and `text_len` are 0, and not used.
 #[derive(Clone, Copy)]
-pub(crate) struct ToldTurn {
+pub(crate) struct WrittenTurn {
     pub(crate) turn: Turn,
     pub(crate) next: usize,
-    pub(crate) text: usize,
-    pub(crate) order: usize,
+    pub(crate) text_len: usize,
+    pub(crate) order_len: usize,
 }
 
-/// The texts of the turns of the last outcome. Outcomes that follow one another begin with the same turns, so the next
-/// one takes back only the others. `line` is the line of the turn that is added.
+/// The texts of the turns of the outcome that was written before; at first, of no turns. Outcomes that follow one another
+/// often begin with the same turns: then only the turns after these are taken back, which saves time. `line` is a buffer
+/// for the line of one turn.
 #[derive(Drop)]
 pub(crate) struct TurnTexts<A: Allocator> {
-    turns: Vec<ToldTurn, A>,
-    threads: Vec<ToldThread<A>, A>,
+    turns: Vec<WrittenTurn, A>,
+    threads: Vec<ThreadSoFar<A>, A>,
     order: String<A>,
     line: String<A>,
 }
 
 impl<A: Allocator> Model for TurnTexts<A> {
     ghost use Rattle.std.specs.Prelude.{string_bytes};
-    ghost use Rattle.tracer_cli.specs.TurnTexts.{TextsTold};
+    ghost use Rattle.tracer_cli.specs.TurnTexts.{TextsOfTurns};
 
-    ghost Value = { TextsTold };
+    ghost Value = { TextsOfTurns };
 
     ghost view = { λ t. record {
       turns = t.turns.items;
@@ -107,19 +112,19 @@ impl<A: Allocator> Model for TurnTexts<A> {
 }
 
 impl<A: Allocator + Copy> TurnTexts<A> {
-    /// The texts of no turns. They have room for this many.
+    /// The texts before any turn: the heads of the threads, and the line `order`. Room is made for this many turns.
     pub(crate) fn new(
         alloc: A,
         program: &ToldProgram<'_, '_, A>,
         turns: usize,
     ) -> Result<TurnTexts<A>, NoMemory>
         requires { AreTexts program.now.names.now }
-        ensures told { IfOk result (λ told. AreTold (telling program.now) told) }
-        ensures turns { IfOk result (λ told. turns_told told.turns ≡ []) }
-        ensures names { IfOk result (λ told. length program.now.names.now ≤ length told.threads) }
+        ensures texts { IfOk result (λ texts. AreTextsOf (text_source program.now) texts) }
+        ensures turns { IfOk result (λ texts. turns_written texts.turns ≡ []) }
+        ensures names { IfOk result (λ texts. length program.now.names.now ≤ length texts.threads) }
     {
         let count = program.names.len().max(program.commands.len());
-        let threads = first_threads(alloc, program, count)?;
+        let threads = threads_before_turns(alloc, program, count)?;
         let line = String::with_capacity(alloc, LINE)?;
         let mut order = String::with_capacity(alloc, turns.saturating_add(1).saturating_mul(LINE))?;
         order.push_str("order\n")?;
@@ -133,16 +138,16 @@ impl<A: Allocator + Copy> TurnTexts<A> {
 }
 
 impl<A: Allocator> TurnTexts<A> {
-    /// Makes them the texts of these turns. What both begin with is kept.
+    /// Takes back turns, and adds others, so that the turns are these. Turns at the beginning that are the same stay.
     pub(crate) fn set_turns(
         &mut self,
         program: &ToldProgram<'_, '_, A>,
         turns: &[Turn],
     ) -> Result<(), NoMemory>
         requires names { AreTexts program.now.names.now }
-        requires told { AreTold (telling program.now) self.old }
-        ensures told { OnOk result (AreTold (telling program.now) self.new) }
-        ensures turns { OnOk result (turns_told self.new.turns ≡ turns.now) }
+        requires texts { AreTextsOf (text_source program.now) self.old }
+        ensures texts { OnOk result (AreTextsOf (text_source program.now) self.new) }
+        ensures turns { OnOk result (turns_written self.new.turns ≡ turns.now) }
         ensures threads { OnOk result (length self.new.threads ≡ length self.old.threads) }
     {
         let same = self.shared_with(turns);
@@ -155,57 +160,57 @@ impl<A: Allocator> TurnTexts<A> {
 }
 
 impl<A: Allocator> TurnTexts<A> {
-    /// What is told of a thread.
-    pub(super) fn thread(&self, thread: usize) -> &ToldThread<A>
+    /// A thread's text, and the index of its next command.
+    pub(super) fn thread(&self, thread: usize) -> &ThreadSoFar<A>
         requires { thread < length self.now.threads }
         ensures { slice_get self.now.threads thread ≡ Some result.now }
     {
         &self.threads[thread]
     }
 
-    /// The order.
+    /// The text of the order.
     pub(super) fn order(&self) -> &str
         ensures { result.now ≡ self.now.order }
     {
         self.order.as_str()
     }
 
-    /// Adds a turn.
+    /// Adds a turn. If its thread has no next command, no line is written.
     fn add(&mut self, program: &ToldProgram<'_, '_, A>, turn: Turn) -> Result<(), NoMemory>
         requires names { AreTexts program.now.names.now }
-        requires told { AreTold (telling program.now) self.old }
-        ensures told { OnOk result (AreTold (telling program.now) self.new) }
-        ensures turns { OnOk result (turns_told self.new.turns ≡ turns_told self.old.turns ++ turn ∷ []) }
+        requires texts { AreTextsOf (text_source program.now) self.old }
+        ensures texts { OnOk result (AreTextsOf (text_source program.now) self.new) }
+        ensures turns { OnOk result (turns_written self.new.turns ≡ turns_written self.old.turns ++ turn ∷ []) }
         ensures threads { OnOk result (length self.new.threads ≡ length self.old.threads) }
     {
         let thread = turn.thread as usize;
-        let order = self.order.as_str().len();
-        let Some(told) = self.threads.get_mut(thread) else {
-            // Nothing is told of a thread that the program does not have.
-            self.turns.push(ToldTurn {
+        let order_len = self.order.as_str().len();
+        let Some(so_far) = self.threads.get_mut(thread) else {
+            // A thread that the program does not have has no text.
+            self.turns.push(WrittenTurn {
                 turn,
                 next: 0,
-                text: 0,
-                order,
+                text_len: 0,
+                order_len,
             })?;
             return Ok(());
         };
-        self.turns.push(ToldTurn {
+        self.turns.push(WrittenTurn {
             turn,
-            next: told.next,
-            text: told.text.len(),
-            order,
+            next: so_far.next,
+            text_len: so_far.text.len(),
+            order_len,
         })?;
         let own = thread_commands(program.commands, thread);
-        if let Some(command) = told.next_of(own) {
+        if let Some(command) = so_far.next_of(own) {
             set_line(&mut self.line, program.rows, &turn, &command)?;
-            told.add(
+            so_far.add(
                 is_quiet(program.voices, thread),
                 own,
                 &turn,
                 self.line.as_str(),
             )?;
-            add_turn(
+            add_order_line(
                 &mut self.order,
                 program.names,
                 turn.thread,
@@ -222,20 +227,20 @@ impl<A: Allocator> TurnTexts<A> {
         self.turns.len()
     }
 
-    /// How many of its first turns are the first ones of these too.
+    /// How many turns at the beginning are the same as in `turns`.
     fn shared_with(&self, turns: &[Turn]) -> usize
         ensures within { result ≤ length self.now.turns }
         ensures shorter { result ≤ length turns.now }
-        ensures same { take result (turns_told self.now.turns) ≡ take result turns.now }
+        ensures same { take result (turns_written self.now.turns) ≡ take result turns.now }
     {
         count_same(self.turns.as_slice(), turns)
     }
 
-    /// Keeps only this many turns, the first ones.
+    /// Takes back turns until only the first `count` are left.
     fn keep(&mut self, count: usize)
         requires count { count ≤ length self.old.turns }
-        requires told { AreToldOfSome self.old }
-        ensures told { (telling : Telling) → AreTold telling self.old → AreTold telling self.new }
+        requires texts { AreTextsOfAny self.old }
+        ensures texts { (text_source : TextSource) → AreTextsOf text_source self.old → AreTextsOf text_source self.new }
         ensures turns { self.new.turns ≡ take count self.old.turns }
         ensures threads { length self.new.threads ≡ length self.old.threads }
     {
@@ -246,23 +251,23 @@ impl<A: Allocator> TurnTexts<A> {
 
     /// Takes back the last turn, if there is one.
     fn take_back(&mut self)
-        requires told { AreToldOfSome self.old }
-        ensures told { (telling : Telling) → AreTold telling self.old → AreTold telling self.new }
+        requires texts { AreTextsOfAny self.old }
+        ensures texts { (text_source : TextSource) → AreTextsOf text_source self.old → AreTextsOf text_source self.new }
         ensures turns { self.new.turns ≡ take (length self.old.turns - 1) self.old.turns }
         ensures threads { length self.new.threads ≡ length self.old.threads }
     {
         let Some(last) = self.turns.pop() else {
             return;
         };
-        cut(&mut self.order, last.order);
-        if let Some(told) = self.threads.get_mut(last.turn.thread as usize) {
-            told.take_back(last.text, last.next);
+        cut_after_line(&mut self.order, last.order_len);
+        if let Some(so_far) = self.threads.get_mut(last.turn.thread as usize) {
+            so_far.take_back(last.text_len, last.next);
         }
     }
 }
 
-/// Cuts off what follows a line.
-fn cut<A: Allocator>(text: &mut String<A>, end: usize)
+/// Cuts a text to its first `end` bytes, the last of which is a line feed: so no character is cut in two.
+fn cut_after_line<A: Allocator>(text: &mut String<A>, end: usize)
     requires { EndsLine (string_bytes text.old) end }
     ensures { string_bytes text.new ≡ take end (string_bytes text.old) }
 {
@@ -271,7 +276,7 @@ fn cut<A: Allocator>(text: &mut String<A>, end: usize)
     }
 }
 
-/// Makes it the line of a turn that did a command.
+/// Sets `line` to the line of a turn that did this command.
 fn set_line<A: Allocator>(
     line: &mut String<A>,
     rows: &[Row],
@@ -284,9 +289,9 @@ fn set_line<A: Allocator>(
     write_done(line, rows, turn, command)
 }
 
-/// Adds the line of a thread's turn to the order, after the name or number of the thread.
+/// Adds a line to the order: the thread's name, or its number if it has none, a space, and the line of the turn.
 #[tactic(auto, using(crate::proofs::Written::in_three))]
-fn add_turn<A: Allocator>(
+fn add_order_line<A: Allocator>(
     order: &mut String<A>,
     names: &[Option<&[u8]>],
     thread: u32,
@@ -302,15 +307,15 @@ fn add_turn<A: Allocator>(
     Ok(())
 }
 
-/// What is told of each thread before any turn.
-fn first_threads<A: Allocator + Copy>(
+/// The texts of the threads before any turn: their heads.
+fn threads_before_turns<A: Allocator + Copy>(
     alloc: A,
     program: &ToldProgram<'_, '_, A>,
     count: usize,
-) -> Result<Vec<ToldThread<A>, A>, NoMemory>
+) -> Result<Vec<ThreadSoFar<A>, A>, NoMemory>
     requires { AreTexts program.now.names.now }
     ensures long { IfOk result (λ threads. length threads.items ≡ count) }
-    ensures each { IfOk result (λ threads. AreFirst (telling program.now) threads.items) }
+    ensures each { IfOk result (λ threads. AreBeforeTurns (text_source program.now) threads.items) }
 {
     let mut threads = Vec::with_capacity(alloc, count)?;
     for thread in 0..count {
@@ -318,27 +323,27 @@ fn first_threads<A: Allocator + Copy>(
         let lines = own.len().saturating_add(1);
         let mut text = String::with_capacity(alloc, lines.saturating_mul(LINE))?;
         write_thread_head(&mut text, thread + 1, name_at(program.names, thread))?;
-        threads.push(ToldThread { text, next: 0 })?;
+        threads.push(ThreadSoFar { text, next: 0 })?;
     }
     Ok(threads)
 }
 
-/// Whether a turn that is told is this one.
-fn is_of(told: &ToldTurn, turn: &Turn) -> bool
-    ensures { Decides result (told.now.turn ≡ turn.now) }
+/// Whether a turn that is written is the same as this one.
+fn is_same_turn(written: &WrittenTurn, turn: &Turn) -> bool
+    ensures { Decides result (written.now.turn ≡ turn.now) }
 {
-    told.turn == *turn
+    written.turn == *turn
 }
 
-/// How many of the first turns are the same.
-fn count_same(told: &[ToldTurn], turns: &[Turn]) -> usize
-    ensures within { result ≤ length told.now }
+/// How many turns at the beginning are the same in both lists.
+fn count_same(written: &[WrittenTurn], turns: &[Turn]) -> usize
+    ensures within { result ≤ length written.now }
     ensures shorter { result ≤ length turns.now }
-    ensures same { take result (turns_told told.now) ≡ take result turns.now }
+    ensures same { take result (turns_written written.now) ≡ take result turns.now }
 {
-    let most = told.len().min(turns.len());
+    let most = written.len().min(turns.len());
     for at in 0..most {
-        if !is_of(&told[at], &turns[at]) {
+        if !is_same_turn(&written[at], &turns[at]) {
             return at;
         }
     }

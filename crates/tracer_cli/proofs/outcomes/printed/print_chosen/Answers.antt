@@ -4,7 +4,7 @@ use Rattle.stop_explorer.specs.Search.{commands_in}
 use Rattle.tracer_cli.specs.Chosen.{chosen_of}
 use Rattle.tracer_cli.specs.LitmusDraft.{names_kept}
 use Rattle.tracer_cli.specs.OutcomeText.{outcome_text, outcome_texts}
-use Rattle.tracer_cli.specs.TurnTexts.{AreTold, telling}
+use Rattle.tracer_cli.specs.TurnTexts.{AreTextsOf, text_source}
 use Rattle.tracer_cli.proofs.OutcomeLines.{chosen_here, chosen_not_here, chosen_over, outcomes_more, outcomes_over}
 use Rattle.tracer_cli.proofs.Printing.{at_last, cut_there, one_more, so_far_as}
 use Rattle.tracer_cli.proofs.TextOfParts.{of_error}
@@ -34,11 +34,11 @@ loop-run-preserved g c =
     elim c.if-is_chosen.branch [
       | then-is_chosen+in_ok-print_outcome w ↦ record {
         few = omega (arith, w.before-is, c.loop-run.invariant.few);
-        told = subst (λ printer. AreTold (telling program) printer.told) (sym w.printer-is)
-            w.in_ok-print_outcome.ensures.told;
+        texts = subst (λ printer. AreTextsOf (text_source program) printer.texts) (sym w.printer-is)
+            w.in_ok-print_outcome.ensures.texts;
         threads = omega (
           arith,
-          ap (λ printer. length printer.told.threads) w.printer-is,
+          ap (λ printer. length printer.texts.threads) w.printer-is,
           w.in_ok-print_outcome.ensures.threads,
           c.loop-run.invariant.threads,
         );
@@ -60,10 +60,10 @@ loop-run-preserved g c =
       }
       | else-is_chosen w ↦ record {
         few = omega (arith, w.before-is, c.loop-run.invariant.few);
-        told = subst (λ printer. AreTold (telling program) printer.told) (sym w.printer-is) c.loop-run.invariant.told;
+        texts = subst (λ printer. AreTextsOf (text_source program) printer.texts) (sym w.printer-is) c.loop-run.invariant.texts;
         threads = omega (
           arith,
-          ap (λ printer. length printer.told.threads) w.printer-is,
+          ap (λ printer. length printer.texts.threads) w.printer-is,
           c.loop-run.invariant.threads,
         );
         so_far = so_far_as start (g.W.Write.contents c.loop-run.output) (g.W.Write.contents c.if-is_chosen.output)

@@ -4,15 +4,15 @@ use Rattle.stop_explorer.specs.Search.{commands_in}
 use Rattle.tracer_cli.specs.Chosen.{chosen_of}
 use Rattle.tracer_cli.specs.LitmusDraft.{names_kept}
 use Rattle.tracer_cli.specs.OutcomeText.{outcome_texts}
-use Rattle.tracer_cli.specs.TurnTexts.{AreTold, telling}
+use Rattle.tracer_cli.specs.TurnTexts.{AreTextsOf, text_source}
 use Rattle.tracer_cli.proofs.Printing.{IsSoFar}
 use Rattle.tracer_cli.proofs.outcomes.printed.print_chosen.Given as goal
 
 abbrev pub invariant-loop-run : goal.invariant-loop-run
 invariant-loop-run g l = record {
   few : l.before ≤ l.run-index;
-  told : AreTold (telling l.program) l.printer.told;
-  threads : length l.program.names.now ≤ length l.printer.told.threads;
+  texts : AreTextsOf (text_source l.program) l.printer.texts;
+  threads : length l.program.names.now ≤ length l.printer.texts.threads;
   so_far : IsSoFar (g.W.Write.contents l.fn.output) (g.W.Write.contents l.output) (string_bytes l.fn.printer.text)
       (outcome_texts l.program.rows.now (names_kept l.program.names.now) l.program.voices.now
       (commands_in l.program.commands.now) 1 l.count

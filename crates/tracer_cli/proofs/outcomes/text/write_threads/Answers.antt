@@ -3,19 +3,19 @@ use Rattle.std.proofs.Common.{◌<◌, ◌∙◌, ap, arith, length, string_byte
 use Rattle.std.proofs.lemmas.Option.{same_Some}
 use Rattle.stop_explorer.specs.Program.{Log, own_turns}
 use Rattle.stop_explorer.specs.Search.{commands_in}
-use Rattle.tracer_cli.specs.TurnTexts.{telling, told_thread}
+use Rattle.tracer_cli.specs.TurnTexts.{text_source, thread_so_far}
 use Rattle.tracer_cli.proofs.OutcomeLines.{no_piece, threads_more, threads_over}
 use Rattle.tracer_cli.proofs.outcomes.text.write_threads.Goals as goal
 
 pub loop-thread-preserved : goal.loop-thread-preserved
 loop-thread-preserved g c =
     let program = c.args.program.now in
-    let t = telling program in
+    let t = text_source program in
     let thread = c.loop-thread.thread in
     let threads = c.requires.threads in
-    let within : thread < length c.args.told.now.threads = omega (arith, c.loop-thread-test.true, threads) in
-    let told_is = same_Some _ _ (sym c.thread.ensures ∙ c.requires.told.threads thread within)
-    ∙ ap (λ (log : Log). told_thread t thread (own_turns thread log)) c.requires.turns in
+    let within : thread < length c.args.texts.now.threads = omega (arith, c.loop-thread-test.true, threads) in
+    let told_is = same_Some _ _ (sym c.thread.ensures ∙ c.requires.texts.threads thread within)
+    ∙ ap (λ (log : Log). thread_so_far t thread (own_turns thread log)) c.requires.turns in
     threads_more t.rows t.voices t.commands c.args.run.now program.names.now thread (string_bytes c.loop-thread.out)
     (string_bytes c.write_thread.new.out) c.loop-thread-test.true
     (c.in_ok-write_thread.ensures c.args.run.now c.states.ensures told_is)

@@ -4,12 +4,12 @@ use Rattle.std.proofs.lemmas.List.{take_all}
 use Rattle.tracer_cli.proofs.outcomes.turn_texts.TurnTexts.keep.Goals as goal
 
 pub turns-init : goal.turns-init
-turns-init g c = record { least = c.requires.count; same = refl; told = λ t are. are; threads = refl }
+turns-init g c = record { least = c.requires.count; same = refl; texts = λ t are. are; threads = refl }
 
 pub take_back-requires : goal.take_back-requires
 take_back-requires g c =
-    let told = c.requires.told in
-    record { told = (told.0, c.turns.invariant.told told.0 told.1) }
+    let texts = c.requires.texts in
+    record { texts = (texts.0, c.turns.invariant.texts texts.0 texts.1) }
 
 pub turns-preserved : goal.turns-preserved
 turns-preserved g c =
@@ -20,7 +20,7 @@ turns-preserved g c =
       least = omega (arith, ap length c.take_back.ensures.turns, length-take before turns, longer);
       same = ap (take c.args.count) c.take_back.ensures.turns
           ∙ take-take c.args.count before turns (omega (arith, longer)) ∙ c.turns.invariant.same;
-      told = λ t are. c.take_back.ensures.told t (c.turns.invariant.told t are);
+      texts = λ t are. c.take_back.ensures.texts t (c.turns.invariant.texts t are);
       threads = c.take_back.ensures.threads ∙ c.turns.invariant.threads;
     }
 

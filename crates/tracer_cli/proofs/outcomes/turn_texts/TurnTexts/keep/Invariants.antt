@@ -1,13 +1,13 @@
 -- The first turns stay.
 use Rattle.std.proofs.Common.{◌≡◌, ◌≤◌, length, take}
-use Rattle.tracer_cli.specs.TurnTexts.{AreTold, Telling}
+use Rattle.tracer_cli.specs.TurnTexts.{AreTextsOf, TextSource}
 use Rattle.tracer_cli.proofs.outcomes.turn_texts.TurnTexts.keep.Given as goal
 
 abbrev pub invariant-turns : goal.invariant-turns
 invariant-turns g l = record {
   least : l.count ≤ length l.self.turns;
   same : take l.count l.self.turns ≡ take l.count l.fn.self.turns;
-  told : (t : Telling) → AreTold t l.fn.self → AreTold t l.self;
+  texts : (t : TextSource) → AreTextsOf t l.fn.self → AreTextsOf t l.self;
   threads : length l.self.threads ≡ length l.fn.self.threads;
 }
 

@@ -1,17 +1,17 @@
--- No turn is told, and each thread has its first line.
+-- No turn is written, and each thread has its head.
 use Rattle.std.proofs.Common.{◌≤◌, ◌++◌, ◌∙◌, ap, arith, codes, length}
 use Rattle.std.proofs.Math.Nat.{le-max_right}
 use Rattle.std.proofs.lemmas.Option.{slice_get_past}
 use Rattle.stop_explorer.specs.Search.{items_in}
-use Rattle.tracer_cli.specs.TurnTexts.{telling}
-use Rattle.tracer_cli.proofs.TurnTexts.{told_none}
+use Rattle.tracer_cli.specs.TurnTexts.{text_source}
+use Rattle.tracer_cli.proofs.TurnTexts.{texts_none}
 use Rattle.tracer_cli.proofs.outcomes.turn_texts.TurnTexts.new.Goals as goal
 
-pub returns-clause-told : goal.returns-clause-told
-returns-clause-told g c =
+pub returns-clause-texts : goal.returns-clause-texts
+returns-clause-texts g c =
     let names = c.args.program.now.names.now in
     let lists = c.args.program.now.commands.now in
-    told_none (telling c.args.program.now) _ c.in_ok-with_capacity.ensures.items c.in_ok-threads.ensures.each
+    texts_none (text_source c.args.program.now) _ c.in_ok-with_capacity.ensures.items c.in_ok-threads.ensures.each
     (c.in_ok-push_str.ensures.bytes ∙ ap (λ text. text ++ codes "order\n") c.in_ok-order.ensures.bytes)
     (λ thread past.
     let most = le-max_right (length names) (length lists) in

@@ -1,17 +1,17 @@
--- The next turn is told.
+-- The next turn is written.
 use Rattle.std.proofs.Common.{◌++◌, ◌∷◌, [], ◌∙◌, ap, get_or, sym}
 use Rattle.std.proofs.lemmas.List.{take-map, take_all, take_more}
-use Rattle.tracer_cli.specs.declared.outcomes.turn_texts.ToldTurn.{ToldTurn}
-use Rattle.tracer_cli.specs.TurnTexts.{telling, turns_told}
+use Rattle.tracer_cli.specs.declared.outcomes.turn_texts.WrittenTurn.{WrittenTurn}
+use Rattle.tracer_cli.specs.TurnTexts.{text_source, turns_written}
 use Rattle.tracer_cli.proofs.outcomes.turn_texts.TurnTexts.set_turns.Goals as goal
 
 pub loop-at-init : goal.loop-at-init
 loop-at-init g c =
     let same = c.shared_with-same.result in
     record {
-      told = c.keep.ensures.told (telling c.args.program.now) c.requires.told;
-      turns = ap turns_told c.keep.ensures.turns
-          ∙ sym (take-map (λ (told : ToldTurn). told.turn) same c.args.self.now.turns) ∙ c.shared_with-same.ensures.same;
+      texts = c.keep.ensures.texts (text_source c.args.program.now) c.requires.texts;
+      turns = ap turns_written c.keep.ensures.turns
+          ∙ sym (take-map (λ (written : WrittenTurn). written.turn) same c.args.self.now.turns) ∙ c.shared_with-same.ensures.same;
       threads = c.keep.ensures.threads;
     }
 
@@ -21,7 +21,7 @@ loop-at-preserved g c =
     let at = c.loop-at.at in
     let turn = get_or turns at _ in
     record {
-      told = c.in_ok-add.ensures.told;
+      texts = c.in_ok-add.ensures.texts;
       turns = c.in_ok-add.ensures.turns ∙ ap (λ log. log ++ turn ∷ []) c.loop-at.invariant.turns
           ∙ sym (take_more turns at _ c.loop-at-test.true);
       threads = c.in_ok-add.ensures.threads ∙ c.loop-at.invariant.threads;

@@ -1,7 +1,7 @@
 -- What a line feed is before begins a character.
 use Rattle.std.proofs.Common.{◌≡◌, ◌+◌, ◌-◌, ◌<◌, ◌≤◌, ◌∙◌, ap, arith, get_or, length, slice_index, subst, sym}
 use Rattle.std.proofs.lemmas.Str.{lead_after_ascii}
-use Rattle.tracer_cli.proofs.outcomes.turn_texts.cut.Goals as goal
+use Rattle.tracer_cli.proofs.outcomes.turn_texts.cut_after_line.Goals as goal
 
 pub truncate-requires : goal.truncate-requires
 truncate-requires g c = λ long.

@@ -4,10 +4,12 @@
 ghost use Rattle.std.specs.Prelude.{◌≡◌, ◌+◌, ◌++◌, ◌-◌, ◌∷◌, ◌<◌, ◌≤◌, [], IfOk, OnOk, Some, codes, length};
 ghost use Rattle.std.specs.Prelude.{slice_get, string_bytes, take};
 ghost use Rattle.std.specs.Bool.{Decides};
+ghost use Rattle.stop_explorer.specs.declared.turn.Turn.{Turn};
+ghost use Rattle.tracer_cli.specs.declared.outcomes.turn_texts.WrittenTurn.{WrittenTurn};
 ghost use Rattle.tracer_cli.specs.LitmusDraft.{AreTexts, names_kept};
 ghost use Rattle.tracer_cli.specs.OutcomeText.{done_line, name_at, thread_word};
-ghost use Rattle.tracer_cli.specs.TurnTexts.{AreBeforeTurns, AreTextsOf, EndsLine, AreTextsOfAny, TextSource, thread_after_turn, text_source};
-ghost use Rattle.tracer_cli.specs.TurnTexts.{turns_written};
+ghost use Rattle.tracer_cli.specs.TurnTexts.{AreBeforeTurns, AreTextsOf, AreTextsOfAny, EndsLine, TextSource};
+ghost use Rattle.tracer_cli.specs.TurnTexts.{text_source, thread_after_turn, turns_written};
 
 use super::chosen::{is_quiet, thread_commands};
 use super::text::{LINE, ToldProgram, name_at, write_done, write_thread_head, write_thread_word};
@@ -227,11 +229,13 @@ impl<A: Allocator> TurnTexts<A> {
         self.turns.len()
     }
 
-    /// How many turns at the beginning are the same as in `turns`.
+    /// How many turns at the beginning are the same as in `turns`, as many as there are.
     fn shared_with(&self, turns: &[Turn]) -> usize
         ensures within { result ≤ length self.now.turns }
         ensures shorter { result ≤ length turns.now }
         ensures same { take result (turns_written self.now.turns) ≡ take result turns.now }
+        ensures most { (one : WrittenTurn) (other : Turn) → slice_get self.now.turns result ≡ Some one →
+            slice_get turns.now result ≡ Some other → ¬ one.turn ≡ other }
     {
         count_same(self.turns.as_slice(), turns)
     }
@@ -335,11 +339,13 @@ fn is_same_turn(written: &WrittenTurn, turn: &Turn) -> bool
     written.turn == *turn
 }
 
-/// How many turns at the beginning are the same in both lists.
+/// How many turns at the beginning are the same in both lists, as many as there are.
 fn count_same(written: &[WrittenTurn], turns: &[Turn]) -> usize
     ensures within { result ≤ length written.now }
     ensures shorter { result ≤ length turns.now }
     ensures same { take result (turns_written written.now) ≡ take result turns.now }
+    ensures most { (one : WrittenTurn) (other : Turn) → slice_get written.now result ≡ Some one →
+        slice_get turns.now result ≡ Some other → ¬ one.turn ≡ other }
 {
     let most = written.len().min(turns.len());
     for at in 0..most {

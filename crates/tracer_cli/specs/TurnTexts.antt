@@ -1,5 +1,5 @@
--- The texts of an outcome's turns, as they are kept for the next outcome: the text of each thread without its last line,
--- and the order.
+-- The texts of an outcome's turns, as they are kept for the next outcome: the text of each thread without its last
+-- line, and the order.
 use Rattle.std.specs.Prelude.{◌≡◌, ◌+◌, ◌-◌, ◌++◌, ◌∷◌, ◌<◌, ◌≤◌, [], ℕ, Bool, List, map, length, if◌then◌else◌}
 use Rattle.std.specs.Prelude.{Option, Some, get_or, slice_get}
 use Rattle.stop_history.specs.declared.roster.Row.{Row}

@@ -121,8 +121,8 @@ fn write_name<A: Allocator>(out: &mut String<A>, name: &[u8]) -> Result<(), NoMe
     Ok(())
 }
 
-/// Writes the last line of a thread: the command that it waits at. If there is none, a quiet thread has the line `done`,
-/// and another thread has no line.
+/// Writes the last line of a thread: the command that it waits at. If there is none, a quiet thread has the line
+/// `done`, and another thread has no line.
 fn write_closing_line<A: Allocator>(
     out: &mut String<A>,
     rows: &[Row],

@@ -79,8 +79,8 @@ impl<A: Allocator> ThreadSoFar<A> {
 }
 
 /// A turn whose line is written, with what is needed to take it back: before it, `next` was the index of its thread's
-/// next command, and the thread's text and the order had `text_len` and `order_len` bytes. For a thread that the program
-/// does not have, `next` and `text_len` are 0, and not used.
+/// next command, and the thread's text and the order had `text_len` and `order_len` bytes. For a thread that the
+/// program does not have, `next` and `text_len` are 0, and not used.
 #[derive(Clone, Copy)]
 pub(crate) struct WrittenTurn {
     pub(crate) turn: Turn,
@@ -89,9 +89,9 @@ pub(crate) struct WrittenTurn {
     pub(crate) order_len: usize,
 }
 
-/// The texts of the turns of the outcome that was written before; at first, of no turns. Outcomes that follow one another
-/// often begin with the same turns: then only the turns after these are taken back, which saves time. `line` is a buffer
-/// for the line of one turn.
+/// The texts of the turns of the outcome that was written before; at first, of no turns. Outcomes that follow one
+/// another often begin with the same turns: then only the turns after these are taken back, which saves time. `line` is
+/// a buffer for the line of one turn.
 #[derive(Drop)]
 pub(crate) struct TurnTexts<A: Allocator> {
     turns: Vec<WrittenTurn, A>,

@@ -1,9 +1,9 @@
 -- Texts of turns: one turn more, the last one taken back, and what they are texts of.
-use Rattle.std.proofs.Common.{refl, ◌≡◌, ◌++◌, ◌∷◌, [], ℕ, suc, zero, Bool, true, false, List, Option, Some, None}
+use Rattle.std.proofs.Common.{refl, ◌≡◌, ◌++◌, ◌∷◌, [], ℕ, Bool, true, false, List, Option, Some, None}
 use Rattle.std.proofs.Common.{◌<◌, ◌≤◌, ◌+◌, ◌-◌, length, get_or, take, slice_get, slice_set, codes, ◌∙◌, ap, sym, subst}
 use Rattle.std.proofs.Common.{append_assoc, append-nil, arith, inl, inr, if◌then◌else◌}
-use Rattle.std.proofs.lemmas.List.{length-append, length-set, length_push, map-append, take_more_same, get_or-map, length-map}
-use Rattle.std.proofs.lemmas.Option.{same_Some}
+use Rattle.std.proofs.lemmas.List.{length-append, length-set, length_push, map-append, set_past, take_more_same, get_or-map, length-map}
+use Rattle.std.proofs.lemmas.Option.{same_Some, slice_get_within}
 use Rattle.std.proofs.Math.Seq.{get_or-append_seam, take-append_seam}
 use Rattle.std.proofs.lemmas.Bool.{cases_lt}
 use Rattle.std.proofs.lemmas.Bool.Decides.{eqb_tells}
@@ -121,11 +121,6 @@ kept_last t threads before (first ∷ turns) kept are =
 
 -- ---- all texts
 
-pub set_past : {A : Type 0} (xs : List A) (i : ℕ) (x : A) → length xs ≤ i → slice_set xs i x ≡ xs
-set_past [] i x past = refl
-set_past (y ∷ xs) zero x past = absurd (omega (arith, past))
-set_past (y ∷ xs) (suc i) x past = ap (λ (rest : List _). y ∷ rest) (set_past xs i x (omega (arith, past)))
-
 same_text : (quiet : Bool) (text : List ℕ) → text ≡ text ++ (if quiet then [] else [])
 same_text true text = sym (append-nil text)
 same_text false text = sym (append-nil text)
@@ -150,13 +145,15 @@ first_more t threads first are is = λ thread within.
     ]
 
 pub texts_none : (t : TextSource) (told : TextsOfTurns) → told.turns ≡ [] → AreBeforeTurns t told.threads
-    → told.order ≡ codes "order\n" → ((thread : ℕ) → length told.threads ≤ thread → t.commands thread ≡ []) → AreTextsOf t told
+    → told.order ≡ codes "order\n" → length t.names ≤ length told.threads
+    → ((thread : ℕ) → length told.threads ≤ thread → t.commands thread ≡ []) → AreTextsOf t told
 unfolding AreWrittenTurns order_lines
-texts_none t told no_turns first order others = record {
+texts_none t told no_turns first order names others = record {
   turns = subst (AreWrittenTurns t (length told.threads) []) (sym no_turns) tt;
   threads = λ thread within.
       first thread within ∙ ap (λ turns. Some (thread_so_far t thread (own_turns thread (turns_written turns)))) (sym no_turns);
   order = order ∙ ap (λ turns. order_text t.rows t.names t.commands (turns_written turns)) (sym no_turns);
+  names = names;
   others = others;
 }
 
@@ -197,6 +194,7 @@ texts_more t old new kept owner told turns_are threads_are is_kept own order_is 
                 (sym (ap (own_turns thread) more ∙ own_none thread log kept.turn other.1))
           ];
       order = order_is ∙ ap (order_text t.rows t.names t.commands) (sym more);
+      names = subst (λ n. length t.names ≤ n) (sym count) told.names;
       others = λ thread past. told.others thread (subst (λ n. n ≤ thread) count past);
     }
 
@@ -232,18 +230,18 @@ thread_same quiet commands turn told none =
 pub texts_done : (t : TextSource) (old new : TextsOfTurns) (kept : WrittenTurn) (before after : ThreadText)
     (did : Option ThreadCommand) → AreTextsOf t old
     → new.turns ≡ old.turns ++ kept ∷ [] → new.threads ≡ slice_set old.threads kept.turn.thread after
-    → slice_get old.threads kept.turn.thread ≡ Some before → kept.turn.thread < length old.threads
+    → slice_get old.threads kept.turn.thread ≡ Some before
     → kept.order_len ≡ length old.order → kept.text_len ≡ length before.text → kept.next ≡ before.next
     → did ≡ slice_get (t.commands kept.turn.thread) before.next
     → after ≡ thread_after_turn (is_quiet t.voices kept.turn.thread) (t.commands kept.turn.thread) kept.turn
     (done_line t.rows kept.turn did) before
     → new.order ≡ old.order ++ turn_line t.rows (name_at t.names kept.turn.thread) kept.turn did → AreTextsOf t new
-texts_done t old new kept before after did told turns_are threads_are before_is within order_is text_is next_is did_is
-    after_is new_order =
+texts_done t old new kept before after did told turns_are threads_are before_is order_is text_is next_is did_is after_is
+    new_order =
     let log = turns_written old.turns in
     let owner = kept.turn.thread in
     let own = own_turns owner log in
-    let was : before ≡ thread_so_far t owner own = same_Some _ _ (sym before_is ∙ told.threads owner within) in
+    let was : before ≡ thread_so_far t owner own = same_Some _ _ (sym before_is ∙ told.threads owner (slice_get_within old.threads owner before before_is)) in
     let done : did ≡ command_of_turn t.commands log kept.turn =
     did_is ∙ ap (λ (b : ThreadText). slice_get (t.commands owner) b.next) was in
     texts_more t old new kept after told turns_are threads_are
@@ -308,6 +306,7 @@ texts_less t old new kept before told turns_are threads_are is order_is =
           ∙ order_one t log kept.turn)
           ∙ ap (λ n. take n (order_text t.rows t.names t.commands log ++ told_line)) kepts.1.order
           ∙ take-append_seam (order_text t.rows t.names t.commands log) told_line;
+      names = subst (λ n. length t.names ≤ n) (sym count) told.names;
       others = λ thread past. told.others thread (subst (λ n. n ≤ thread) count past);
     }
 
@@ -315,9 +314,6 @@ texts_less t old new kept before told turns_are threads_are is order_is =
 
 abbrev IsLines : List ℕ → Type 0
 IsLines text = (front : List ℕ) × (text ≡ front ++ 10 ∷ [])
-
-lines_more : (a b : List ℕ) → IsLines b → IsLines (a ++ b)
-lines_more a b are = (a ++ are.0, ap (λ t. a ++ t) are.1 ∙ sym (append_assoc a are.0 (10 ∷ [])))
 
 lines_as : (a b : List ℕ) → a ≡ b → IsLines a → IsLines b
 lines_as a b same are = (are.0, sym same ∙ are.1)
@@ -402,11 +398,12 @@ order_cut t told turns kept are turns_are =
     (ends_line before line (order_lines_end t.rows t.names t.commands [] log (codes "order\n") (codes "order", refl))))
 
 pub thread_cut : (t : TextSource) (told : TextsOfTurns) (turns : List WrittenTurn) (kept : WrittenTurn) (owner : ThreadText)
-    → AreTextsOf t told → told.turns ≡ turns ++ kept ∷ [] → kept.turn.thread < length told.threads
+    → AreTextsOf t told → told.turns ≡ turns ++ kept ∷ []
     → slice_get told.threads kept.turn.thread ≡ Some owner → EndsLine owner.text kept.text_len
-thread_cut t told turns kept owner are turns_are within is =
+thread_cut t told turns kept owner are turns_are is =
     let log = turns_written turns in
     let thread = kept.turn.thread in
+    let within = slice_get_within told.threads thread owner is in
     let before = thread_so_far t thread (own_turns thread log) in
     let line = if is_quiet t.voices thread then [] else done_line t.rows kept.turn (slice_get (t.commands thread) before.next) in
     let is_kept = (kept_last t (length told.threads) [] turns kept

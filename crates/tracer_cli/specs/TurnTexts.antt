@@ -102,7 +102,8 @@ pub record AreTextsOf (t : TextSource) (texts : TextsOfTurns) : Type 0 where
   pub threads : (thread : ℕ) → thread < length texts.threads
       → slice_get texts.threads thread ≡ Some (thread_so_far t thread (own_turns thread (turns_written texts.turns)))
   pub order : texts.order ≡ order_text t.rows t.names t.commands (turns_written texts.turns)
-  -- no other thread has a command
+  -- each thread that has a name is among them, and no other thread has a command
+  pub names : length t.names ≤ length texts.threads
   pub others : (thread : ℕ) → length texts.threads ≤ thread → t.commands thread ≡ []
 
 -- the same, of some rows, names, voices and commands

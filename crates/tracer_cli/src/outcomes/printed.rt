@@ -1,7 +1,7 @@
 //! Outcomes that are printed as their texts are made, through one buffer.
 
 ghost use Rattle.std.specs.Io.KnownBytes.{Appends};
-ghost use Rattle.std.specs.Prelude.{◌≡◌, ◌++◌, ◌≤◌, [], IfErr, OnOk, length, string_bytes};
+ghost use Rattle.std.specs.Prelude.{◌≡◌, ◌++◌, [], IfErr, OnOk, length, string_bytes};
 ghost use Rattle.stop_explorer.specs.Search.{commands_in};
 ghost use Rattle.tracer_cli.specs.Chosen.{chosen_of};
 ghost use Rattle.tracer_cli.specs.CutOff.{IsCollected, IsCutOff};
@@ -11,8 +11,8 @@ ghost use Rattle.tracer_cli.specs.Run.{IsUnwritten, WritesIfMemory};
 ghost use Rattle.tracer_cli.specs.TurnTexts.{AreTextsOf, text_source};
 
 use super::chosen::{count_chosen, is_chosen};
-use super::text::{LINE, ToldProgram, write_end, write_outcome};
-use super::turn_texts::TurnTexts;
+use super::text::{ToldProgram, write_end, write_outcome};
+use super::turn_texts::{LINE, TurnTexts};
 use crate::failure::Failure;
 use crate::litmus::required::Condition;
 use crate::parts::{CutOff, write_part};
@@ -75,12 +75,10 @@ fn collect_outcome<A: Allocator + Copy>(
 ) -> Result<(), NoMemory>
     requires names { AreTexts program.now.names.now }
     requires texts { AreTextsOf (text_source program.now) printer.old.texts }
-    requires threads { length program.now.names.now ≤ length printer.old.texts.threads }
     ensures text { OnOk result (string_bytes printer.new.text ≡ string_bytes printer.old.text
         ++ outcome_text program.now.rows.now (names_kept program.now.names.now) program.now.voices.now
         (commands_in program.now.commands.now) number count run.now) }
     ensures texts { OnOk result (AreTextsOf (text_source program.now) printer.new.texts) }
-    ensures threads { OnOk result (length printer.new.texts.threads ≡ length printer.old.texts.threads) }
 {
     printer.texts.set_turns(program, run.turns())?;
     write_outcome(
@@ -105,13 +103,11 @@ fn print_outcome<A: Allocator + Copy, W: Write>(
 ) -> Result<(), CutOff>
     requires names { AreTexts program.now.names.now }
     requires texts { AreTextsOf (text_source program.now) printer.old.texts }
-    requires threads { length program.now.names.now ≤ length printer.old.texts.threads }
     ensures ok { OnOk result (IsCollected (W.contents output.old) (W.contents output.new)
         (string_bytes printer.old.text)
         (outcome_text program.now.rows.now (names_kept program.now.names.now) program.now.voices.now
         (commands_in program.now.commands.now) number count run.now) (string_bytes printer.new.text)) }
     ensures texts { OnOk result (AreTextsOf (text_source program.now) printer.new.texts) }
-    ensures threads { OnOk result (length printer.new.texts.threads ≡ length printer.old.texts.threads) }
     ensures cut_off { IfErr result (λ _. IsCutOff (W.contents output.old) (W.contents output.new)
         (string_bytes printer.old.text
         ++ outcome_text program.now.rows.now (names_kept program.now.names.now) program.now.voices.now
@@ -134,7 +130,6 @@ fn print_chosen<A: Allocator + Copy, W: Write>(
 ) -> Result<(), CutOff>
     requires names { AreTexts program.now.names.now }
     requires texts { AreTextsOf (text_source program.now) printer.old.texts }
-    requires threads { length program.now.names.now ≤ length printer.old.texts.threads }
     ensures ok { OnOk result (IsCollected (W.contents output.old) (W.contents output.new)
         (string_bytes printer.old.text)
         (outcome_texts program.now.rows.now (names_kept program.now.names.now) program.now.voices.now
@@ -187,7 +182,6 @@ fn print_all<A: Allocator + Copy, W: Write>(
 ) -> Result<(), CutOff>
     requires names { AreTexts program.now.names.now }
     requires texts { AreTextsOf (text_source program.now) printer.old.texts }
-    requires threads { length program.now.names.now ≤ length printer.old.texts.threads }
     requires begin { string_bytes printer.old.text ≡ [] }
     ensures ok { OnOk result (Appends (W.contents output.old) (W.contents output.new)
         (chosen_text program.now.rows.now (names_kept program.now.names.now) program.now.voices.now

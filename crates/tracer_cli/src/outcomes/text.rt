@@ -1,17 +1,17 @@
 //! The text of outcomes: what each thread was answered, the states of the tracees, and one order that leads there.
 
-ghost use Rattle.std.specs.Prelude.{◌≡◌, ◌++◌, ◌≤◌, length, IfOk, IfSome, IsUtf8, OnOk, Some, decimal, option_map};
+ghost use Rattle.std.specs.Prelude.{◌≡◌, ◌++◌, IfOk, IfSome, IsUtf8, OnOk, Some, decimal, option_map};
 ghost use Rattle.std.specs.Prelude.{string_bytes};
 ghost use Rattle.stop_explorer.specs.Program.{own_turns};
 ghost use Rattle.stop_explorer.specs.Run.{EndedRun};
 ghost use Rattle.stop_explorer.specs.Search.{commands_in};
 ghost use Rattle.tracer_cli.specs.LitmusDraft.{AreTexts, names_kept};
-ghost use Rattle.tracer_cli.specs.OutcomeText.{allowed_line, counts_line, done_line, forbidden_line, name_at};
+ghost use Rattle.tracer_cli.specs.OutcomeText.{allowed_line, counts_line, forbidden_line, name_at};
 ghost use Rattle.tracer_cli.specs.OutcomeText.{outcome_line, outcome_text, thread_head, thread_text, thread_word};
 ghost use Rattle.tracer_cli.specs.OutcomeText.{threads_text, tracee_line, tracees_text, waiting_line};
 ghost use Rattle.tracer_cli.specs.TurnTexts.{AreTextsOf, closing_line, text_source, thread_so_far, turns_written};
 
-use super::answer_text::{write_answer, write_waits};
+use super::answer_text::write_waits;
 use super::chosen::{is_quiet, thread_commands};
 use super::command_text::write_command;
 use super::turn_texts::{ThreadSoFar, TurnTexts};
@@ -19,7 +19,7 @@ use crate::replies::write_state;
 use itoa::Buffer;
 use std::alloc::Allocator;
 use stop_board::{NoMemory, Row, State};
-use stop_explorer::{FoundRun, ThreadCommand, Turn, Voice};
+use stop_explorer::{FoundRun, ThreadCommand, Voice};
 
 /// A program, as the texts of its outcomes tell of it: the rows of its board, the names and the voices of its threads,
 /// and their commands.
@@ -31,26 +31,7 @@ pub(crate) struct ToldProgram<'a, 't, A: Allocator> {
     pub(crate) commands: &'a [Vec<ThreadCommand, A>],
 }
 
-/// At least the bytes of each line of an outcome: 32 of a name, 50 of a command and 35 of an answer.
-pub(super) const LINE: usize = 128;
-
 // ---- commands
-
-/// Writes a command that was done, and its answer.
-#[tactic(auto, using(crate::proofs::Written::in_three))]
-pub(super) fn write_done<A: Allocator>(
-    out: &mut String<A>,
-    rows: &[Row],
-    turn: &Turn,
-    command: &ThreadCommand,
-) -> Result<(), NoMemory>
-    ensures { OnOk result (string_bytes out.new
-        ≡ string_bytes out.old ++ done_line rows.now turn.now (Some command.now)) }
-{
-    write_command(out, rows, command)?;
-    out.push_str(": ")?;
-    write_answer(out, rows, command, turn)
-}
 
 /// Writes a command that a thread waits at.
 #[tactic(auto, using(crate::proofs::Written::in_three))]
@@ -178,7 +159,6 @@ fn write_threads<A: Allocator>(
 ) -> Result<(), NoMemory>
     requires texts { AreTextsOf (text_source program.now) texts.now }
     requires turns { turns_written texts.now.turns ≡ run.now.turns }
-    requires threads { length program.now.names.now ≤ length texts.now.threads }
     ensures { OnOk result (string_bytes out.new ≡ string_bytes out.old
         ++ threads_text program.now.rows.now program.now.voices.now (commands_in program.now.commands.now) run.now 0
         (names_kept program.now.names.now)) }
@@ -256,7 +236,6 @@ pub(crate) fn write_outcome<A: Allocator>(
 ) -> Result<(), NoMemory>
     requires texts { AreTextsOf (text_source program.now) texts.now }
     requires turns { turns_written texts.now.turns ≡ run.now.turns }
-    requires threads { length program.now.names.now ≤ length texts.now.threads }
     ensures { OnOk result (string_bytes out.new ≡ string_bytes out.old
         ++ outcome_text program.now.rows.now (names_kept program.now.names.now) program.now.voices.now
         (commands_in program.now.commands.now) number count run.now) }

@@ -11,12 +11,17 @@ ghost use Rattle.tracer_cli.specs.OutcomeText.{done_line, name_at, thread_word};
 ghost use Rattle.tracer_cli.specs.TurnTexts.{AreBeforeTurns, AreTextsOf, AreTextsOfAny, EndsLine, TextSource};
 ghost use Rattle.tracer_cli.specs.TurnTexts.{text_source, thread_after_turn, turns_written};
 
+use super::answer_text::write_answer;
 use super::chosen::{is_quiet, thread_commands};
-use super::text::{LINE, ToldProgram, name_at, write_done, write_thread_head, write_thread_word};
+use super::command_text::write_command;
+use super::text::{ToldProgram, name_at, write_thread_head, write_thread_word};
 use std::alloc::Allocator;
 use std::marker::Model;
 use stop_board::{NoMemory, Row};
 use stop_explorer::{ThreadCommand, Turn, index_after};
+
+/// At least the bytes of each line of an outcome: 32 of a name, 50 of a command and 35 of an answer.
+pub(super) const LINE: usize = 128;
 
 /// The text of a thread without its last line: its head and, unless it is quiet, a line for each command that it did.
 /// `next` is the index of its next command; there may be none at it.
@@ -123,7 +128,6 @@ impl<A: Allocator + Copy> TurnTexts<A> {
         requires { AreTexts program.now.names.now }
         ensures texts { IfOk result (λ texts. AreTextsOf (text_source program.now) texts) }
         ensures turns { IfOk result (λ texts. turns_written texts.turns ≡ []) }
-        ensures names { IfOk result (λ texts. length program.now.names.now ≤ length texts.threads) }
     {
         let count = program.names.len().max(program.commands.len());
         let threads = threads_before_turns(alloc, program, count)?;
@@ -150,18 +154,15 @@ impl<A: Allocator> TurnTexts<A> {
         requires texts { AreTextsOf (text_source program.now) self.old }
         ensures texts { OnOk result (AreTextsOf (text_source program.now) self.new) }
         ensures turns { OnOk result (turns_written self.new.turns ≡ turns.now) }
-        ensures threads { OnOk result (length self.new.threads ≡ length self.old.threads) }
     {
-        let same = self.shared_with(turns);
+        let same = count_same(self.written(), turns);
         self.keep(same);
         for at in same..turns.len() {
             self.add(program, turns[at])?;
         }
         Ok(())
     }
-}
 
-impl<A: Allocator> TurnTexts<A> {
     /// A thread's text, and the index of its next command.
     pub(super) fn thread(&self, thread: usize) -> &ThreadSoFar<A>
         requires { thread < length self.now.threads }
@@ -183,10 +184,9 @@ impl<A: Allocator> TurnTexts<A> {
         requires texts { AreTextsOf (text_source program.now) self.old }
         ensures texts { OnOk result (AreTextsOf (text_source program.now) self.new) }
         ensures turns { OnOk result (turns_written self.new.turns ≡ turns_written self.old.turns ++ turn ∷ []) }
-        ensures threads { OnOk result (length self.new.threads ≡ length self.old.threads) }
     {
         let thread = turn.thread as usize;
-        let order_len = self.order.as_str().len();
+        let order_len = self.order.len();
         let Some(so_far) = self.threads.get_mut(thread) else {
             // A thread that the program does not have has no text.
             self.turns.push(WrittenTurn {
@@ -222,33 +222,21 @@ impl<A: Allocator> TurnTexts<A> {
         Ok(())
     }
 
-    /// How many turns there are.
-    fn len(&self) -> usize
-        ensures { result ≡ length self.now.turns }
+    /// The turns that are written.
+    fn written(&self) -> &[WrittenTurn]
+        ensures { result.now ≡ self.now.turns }
     {
-        self.turns.len()
-    }
-
-    /// How many turns at the beginning are the same as in `turns`, as many as there are.
-    fn shared_with(&self, turns: &[Turn]) -> usize
-        ensures within { result ≤ length self.now.turns }
-        ensures shorter { result ≤ length turns.now }
-        ensures same { take result (turns_written self.now.turns) ≡ take result turns.now }
-        ensures most { (one : WrittenTurn) (other : Turn) → slice_get self.now.turns result ≡ Some one →
-            slice_get turns.now result ≡ Some other → ¬ one.turn ≡ other }
-    {
-        count_same(self.turns.as_slice(), turns)
+        self.turns.as_slice()
     }
 
     /// Takes back turns until only the first `count` are left.
     fn keep(&mut self, count: usize)
         requires count { count ≤ length self.old.turns }
         requires texts { AreTextsOfAny self.old }
-        ensures texts { (text_source : TextSource) → AreTextsOf text_source self.old → AreTextsOf text_source self.new }
+        ensures texts { (source : TextSource) → AreTextsOf source self.old → AreTextsOf source self.new }
         ensures turns { self.new.turns ≡ take count self.old.turns }
-        ensures threads { length self.new.threads ≡ length self.old.threads }
     {
-        'turns: while self.len() > count {
+        'turns: while self.written().len() > count {
             self.take_back();
         }
     }
@@ -256,9 +244,8 @@ impl<A: Allocator> TurnTexts<A> {
     /// Takes back the last turn, if there is one.
     fn take_back(&mut self)
         requires texts { AreTextsOfAny self.old }
-        ensures texts { (text_source : TextSource) → AreTextsOf text_source self.old → AreTextsOf text_source self.new }
+        ensures texts { (source : TextSource) → AreTextsOf source self.old → AreTextsOf source self.new }
         ensures turns { self.new.turns ≡ take (length self.old.turns - 1) self.old.turns }
-        ensures threads { length self.new.threads ≡ length self.old.threads }
     {
         let Some(last) = self.turns.pop() else {
             return;
@@ -278,6 +265,22 @@ fn cut_after_line<A: Allocator>(text: &mut String<A>, end: usize)
     if end < text.as_str().len() {
         text.truncate(end);
     }
+}
+
+/// Writes a command that was done, and its answer.
+#[tactic(auto, using(crate::proofs::Written::in_three))]
+fn write_done<A: Allocator>(
+    out: &mut String<A>,
+    rows: &[Row],
+    turn: &Turn,
+    command: &ThreadCommand,
+) -> Result<(), NoMemory>
+    ensures { OnOk result (string_bytes out.new
+        ≡ string_bytes out.old ++ done_line rows.now turn.now (Some command.now)) }
+{
+    write_command(out, rows, command)?;
+    out.push_str(": ")?;
+    write_answer(out, rows, command, turn)
 }
 
 /// Sets `line` to the line of a turn that did this command.

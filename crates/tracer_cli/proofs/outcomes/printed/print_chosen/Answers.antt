@@ -36,12 +36,6 @@ loop-run-preserved g c =
         few = omega (arith, w.before-is, c.loop-run.invariant.few);
         texts = subst (λ printer. AreTextsOf (text_source program) printer.texts) (sym w.printer-is)
             w.in_ok-print_outcome.ensures.texts;
-        threads = omega (
-          arith,
-          ap (λ printer. length printer.texts.threads) w.printer-is,
-          w.in_ok-print_outcome.ensures.threads,
-          c.loop-run.invariant.threads,
-        );
         so_far = so_far_as start (g.W.Write.contents w.print_outcome.new.output)
             (g.W.Write.contents c.if-is_chosen.output) old all (string_bytes w.print_outcome.new.printer.text)
             (string_bytes c.if-is_chosen.printer.text)
@@ -61,11 +55,6 @@ loop-run-preserved g c =
       | else-is_chosen w ↦ record {
         few = omega (arith, w.before-is, c.loop-run.invariant.few);
         texts = subst (λ printer. AreTextsOf (text_source program) printer.texts) (sym w.printer-is) c.loop-run.invariant.texts;
-        threads = omega (
-          arith,
-          ap (λ printer. length printer.texts.threads) w.printer-is,
-          c.loop-run.invariant.threads,
-        );
         so_far = so_far_as start (g.W.Write.contents c.loop-run.output) (g.W.Write.contents c.if-is_chosen.output)
             old all (string_bytes c.loop-run.printer.text) (string_bytes c.if-is_chosen.printer.text) here after
             (ap g.W.Write.contents w.output-is) (ap (λ printer. string_bytes printer.text) w.printer-is)

@@ -12,7 +12,6 @@ abbrev pub invariant-loop-run : goal.invariant-loop-run
 invariant-loop-run g l = record {
   few : l.before ≤ l.run-index;
   texts : AreTextsOf (text_source l.program) l.printer.texts;
-  threads : length l.program.names.now ≤ length l.printer.texts.threads;
   so_far : IsSoFar (g.W.Write.contents l.fn.output) (g.W.Write.contents l.output) (string_bytes l.fn.printer.text)
       (outcome_texts l.program.rows.now (names_kept l.program.names.now) l.program.voices.now
       (commands_in l.program.commands.now) 1 l.count

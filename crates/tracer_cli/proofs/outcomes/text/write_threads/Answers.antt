@@ -1,5 +1,6 @@
 -- The next thread is written.
-use Rattle.std.proofs.Common.{◌<◌, ◌∙◌, ap, arith, length, string_bytes, sym}
+use Rattle.std.proofs.Common.{◌<◌, ◌≤◌, ◌∙◌, ap, arith, length, string_bytes, subst, sym}
+use Rattle.std.proofs.lemmas.List.{length-map}
 use Rattle.std.proofs.lemmas.Option.{same_Some}
 use Rattle.stop_explorer.specs.Program.{Log, own_turns}
 use Rattle.stop_explorer.specs.Search.{commands_in}
@@ -12,8 +13,9 @@ loop-thread-preserved g c =
     let program = c.args.program.now in
     let t = text_source program in
     let thread = c.loop-thread.thread in
-    let threads = c.requires.threads in
-    let within : thread < length c.args.texts.now.threads = omega (arith, c.loop-thread-test.true, threads) in
+    let named : length program.names.now ≤ length c.args.texts.now.threads =
+    subst (λ n. n ≤ length c.args.texts.now.threads) (length-map program.names.now _) c.requires.texts.names in
+    let within : thread < length c.args.texts.now.threads = omega (arith, c.loop-thread-test.true, named) in
     let told_is = same_Some _ _ (sym c.thread.ensures ∙ c.requires.texts.threads thread within)
     ∙ ap (λ (log : Log). thread_so_far t thread (own_turns thread log)) c.requires.turns in
     threads_more t.rows t.voices t.commands c.args.run.now program.names.now thread (string_bytes c.loop-thread.out)

@@ -1,8 +1,8 @@
 -- The thread has the line of the command that it did, if there is one, and so has the order.
-use Rattle.std.proofs.Common.{◌≡◌, ◌<◌, ◌≤◌, ◌++◌, ◌+◌, ◌∷◌, [], ◌∙◌, List, None, Some, ap, append-nil, arith, codes}
+use Rattle.std.proofs.Common.{◌≡◌, ◌≤◌, ◌++◌, ◌+◌, ◌∷◌, [], ◌∙◌, List, None, Some, ap, append-nil, arith, codes}
 use Rattle.std.proofs.Common.{inl, inr, length, refl, slice_get, slice_set, subst, sym}
 use Rattle.std.proofs.lemmas.Bool.{cases_lt}
-use Rattle.std.proofs.lemmas.Option.{slice_get_read, slice_get_within}
+use Rattle.std.proofs.lemmas.Option.{slice_get_read}
 use Rattle.stop_explorer.specs.declared.command.ThreadCommand.{ThreadCommand}
 use Rattle.tracer_cli.specs.declared.outcomes.turn_texts.WrittenTurn.{WrittenTurn}
 use Rattle.tracer_cli.specs.LitmusDraft.{names_kept}
@@ -16,7 +16,7 @@ returns-in_default-clause-texts g c =
     let turn = c.args.turn in
     let threads = c.self.inside.threads in
     let view_is = c.self.view_is in
-    let kept : WrittenTurn = record { turn = turn; next = 0; text_len = 0; order_len = length c.as_str-order_len.result.now } in
+    let kept : WrittenTurn = record { turn = turn; next = 0; text_len = 0; order_len = c.len-order_len.result } in
     let past : length threads.items ≤ turn.thread = elim (cases_lt turn.thread threads.len) [
       | inl less ↦ let clash = c.in_default.ensures.variant.1 less in cc
       | inr after ↦ omega (arith, after, threads.ok.0)
@@ -24,7 +24,7 @@ returns-in_default-clause-texts g c =
     texts_past (text_source c.args.program.now) c.args.self.now _ kept c.requires.texts
     (c.in_ok-push.ensures.items ∙ ap (λ (s : TextsOfTurns). s.turns ++ kept ∷ []) view_is)
     (ap (λ (s : TextsOfTurns). s.threads) view_is) (ap (λ (s : TextsOfTurns). s.order) view_is)
-    (ap length c.as_str-order_len.ensures.value ∙ ap (λ (s : TextsOfTurns). length s.order) view_is)
+    (c.len-order_len.ensures ∙ c.self.inside.order.bytes.ok.0 ∙ ap (λ (s : TextsOfTurns). length s.order) view_is)
     (subst (λ (s : TextsOfTurns). length s.threads ≤ turn.thread) view_is past)
 
 pub returns-in_ok-add_order_line-clause-texts : goal.returns-in_ok-add_order_line-clause-texts
@@ -32,19 +32,17 @@ returns-in_ok-add_order_line-clause-texts g c =
     let turn = c.args.turn in
     let threads = c.self.inside.threads in
     let view_is = c.self.view_is in
-    let rows = c.args.program.now.rows.now in
     let before = c.in-Some.so_far.now in
     let command = c.in-Some-next_of.command in
     let kept : WrittenTurn = record {
       turn = turn;
       next = c.so_far.inside.next;
       text_len = c.len.result;
-      order_len = length c.as_str-order_len.result.now;
+      order_len = c.len-order_len.result;
     } in
     let less = c.in-Some.ensures.variant.0 refl in
     let is : slice_get threads.items turn.thread ≡ Some before =
     slice_get_read threads.items threads.len turn.thread before threads.ok.0 less c.in-Some.ensures.value in
-    let within : turn.thread < length threads.items = slice_get_within threads.items turn.thread before is in
     let line_is = c.as_str.ensures.value ∙ c.in_ok-set_line.ensures in
     let named_is = c.as_str-in-Some-next_of.ensures.value ∙ c.in_ok-set_line.ensures in
     let word = thread_word (turn.thread + 1) (name_at (names_kept c.args.program.now.names.now) turn.thread) in
@@ -52,8 +50,7 @@ returns-in_ok-add_order_line-clause-texts g c =
     (c.in_ok-push-2.ensures.items ∙ ap (λ (s : TextsOfTurns). s.turns ++ kept ∷ []) view_is)
     (ap (λ (s : TextsOfTurns). slice_set s.threads turn.thread c.add.new.self) view_is)
     (ap (λ (s : TextsOfTurns). slice_get s.threads turn.thread) (sym view_is) ∙ is)
-    (subst (λ (s : TextsOfTurns). turn.thread < length s.threads) view_is within)
-    (ap length c.as_str-order_len.ensures.value ∙ ap (λ (s : TextsOfTurns). length s.order) view_is)
+    (c.len-order_len.ensures ∙ c.self.inside.order.bytes.ok.0 ∙ ap (λ (s : TextsOfTurns). length s.order) view_is)
     (c.len.ensures ∙ c.so_far.inside.text.bytes.ok.0 ∙ ap (λ (b : ThreadText). length b.text) c.so_far.view_is)
     (ap (λ (b : ThreadText). b.next) c.so_far.view_is)
     (sym c.in-Some-next_of.is ∙ c.next_of.ensures
@@ -73,12 +70,11 @@ returns-in_default-next_of-clause-texts g c =
       turn = turn;
       next = c.so_far.inside.next;
       text_len = c.len.result;
-      order_len = length c.as_str-order_len.result.now;
+      order_len = c.len-order_len.result;
     } in
     let less = c.in-Some.ensures.variant.0 refl in
     let is : slice_get threads.items turn.thread ≡ Some before =
     slice_get_read threads.items threads.len turn.thread before threads.ok.0 less c.in-Some.ensures.value in
-    let within : turn.thread < length threads.items = slice_get_within threads.items turn.thread before is in
     let did_is : None ≡ slice_get (t.commands turn.thread) before.next =
     sym c.in_default-next_of.is ∙ c.next_of.ensures
     ∙ ap (λ (own : List ThreadCommand). slice_get own before.next) c.thread_commands-own.ensures in
@@ -86,8 +82,7 @@ returns-in_default-next_of-clause-texts g c =
     (c.in_ok-push-2.ensures.items ∙ ap (λ (s : TextsOfTurns). s.turns ++ kept ∷ []) view_is)
     (ap (λ (s : TextsOfTurns). slice_set s.threads turn.thread before) view_is)
     (ap (λ (s : TextsOfTurns). slice_get s.threads turn.thread) (sym view_is) ∙ is)
-    (subst (λ (s : TextsOfTurns). turn.thread < length s.threads) view_is within)
-    (ap length c.as_str-order_len.ensures.value ∙ ap (λ (s : TextsOfTurns). length s.order) view_is)
+    (c.len-order_len.ensures ∙ c.self.inside.order.bytes.ok.0 ∙ ap (λ (s : TextsOfTurns). length s.order) view_is)
     (c.len.ensures ∙ c.so_far.inside.text.bytes.ok.0 ∙ ap (λ (b : ThreadText). length b.text) c.so_far.view_is)
     (ap (λ (b : ThreadText). b.next) c.so_far.view_is) did_is
     (thread_same _ (t.commands turn.thread) turn before (sym did_is))

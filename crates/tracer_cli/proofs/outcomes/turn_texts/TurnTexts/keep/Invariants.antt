@@ -8,7 +8,6 @@ invariant-turns g l = record {
   least : l.count ≤ length l.self.turns;
   same : take l.count l.self.turns ≡ take l.count l.fn.self.turns;
   texts : (t : TextSource) → AreTextsOf t l.fn.self → AreTextsOf t l.self;
-  threads : length l.self.threads ≡ length l.fn.self.threads;
 }
 
 abbrev pub decreases-turns : goal.decreases-turns

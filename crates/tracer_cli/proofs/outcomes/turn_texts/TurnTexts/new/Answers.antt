@@ -1,8 +1,10 @@
 -- No turn is written, and each thread has its head.
-use Rattle.std.proofs.Common.{◌≤◌, ◌++◌, ◌∙◌, ap, arith, codes, length}
-use Rattle.std.proofs.Math.Nat.{le-max_right}
+use Rattle.std.proofs.Common.{◌≡◌, ◌≤◌, ◌++◌, ◌∙◌, ap, arith, codes, length}
+use Rattle.std.proofs.Math.Nat.{le-max_left, le-max_right}
+use Rattle.std.proofs.lemmas.List.{length-map}
 use Rattle.std.proofs.lemmas.Option.{slice_get_past}
 use Rattle.stop_explorer.specs.Search.{items_in}
+use Rattle.tracer_cli.specs.LitmusDraft.{names_kept}
 use Rattle.tracer_cli.specs.TurnTexts.{text_source}
 use Rattle.tracer_cli.proofs.TurnTexts.{texts_none}
 use Rattle.tracer_cli.proofs.outcomes.turn_texts.TurnTexts.new.Goals as goal
@@ -13,6 +15,9 @@ returns-clause-texts g c =
     let lists = c.args.program.now.commands.now in
     texts_none (text_source c.args.program.now) _ c.in_ok-with_capacity.ensures.items c.in_ok-threads.ensures.each
     (c.in_ok-push_str.ensures.bytes ∙ ap (λ text. text ++ codes "order\n") c.in_ok-order.ensures.bytes)
+    (let many : length (names_kept names) ≡ length names = length-map names _ in
+    let most = le-max_left (length names) (length lists) in
+    omega (arith, many, most, c.max-count.ensures, c.in_ok-threads.ensures.long))
     (λ thread past.
     let most = le-max_right (length names) (length lists) in
     let after : length lists ≤ thread = omega (arith, past, most, c.max-count.ensures, c.in_ok-threads.ensures.long) in

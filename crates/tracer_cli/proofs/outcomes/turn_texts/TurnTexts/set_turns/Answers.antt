@@ -1,5 +1,5 @@
 -- The next turn is written.
-use Rattle.std.proofs.Common.{◌++◌, ◌∷◌, [], ◌∙◌, ap, get_or, sym}
+use Rattle.std.proofs.Common.{List, ◌++◌, ◌∷◌, [], ◌∙◌, ap, get_or, sym, take}
 use Rattle.std.proofs.lemmas.List.{take-map, take_all, take_more}
 use Rattle.tracer_cli.specs.declared.outcomes.turn_texts.WrittenTurn.{WrittenTurn}
 use Rattle.tracer_cli.specs.TurnTexts.{text_source, turns_written}
@@ -7,12 +7,13 @@ use Rattle.tracer_cli.proofs.outcomes.turn_texts.TurnTexts.set_turns.Goals as go
 
 pub loop-at-init : goal.loop-at-init
 loop-at-init g c =
-    let same = c.shared_with-same.result in
+    let same = c.count_same-same.result in
     record {
       texts = c.keep.ensures.texts (text_source c.args.program.now) c.requires.texts;
       turns = ap turns_written c.keep.ensures.turns
-          ∙ sym (take-map (λ (written : WrittenTurn). written.turn) same c.args.self.now.turns) ∙ c.shared_with-same.ensures.same;
-      threads = c.keep.ensures.threads;
+          ∙ sym (take-map (λ (written : WrittenTurn). written.turn) same c.args.self.now.turns)
+          ∙ ap (λ (written : List WrittenTurn). take same (turns_written written)) (sym c.written.ensures)
+          ∙ c.count_same-same.ensures.same;
     }
 
 pub loop-at-preserved : goal.loop-at-preserved
@@ -24,7 +25,6 @@ loop-at-preserved g c =
       texts = c.in_ok-add.ensures.texts;
       turns = c.in_ok-add.ensures.turns ∙ ap (λ log. log ++ turn ∷ []) c.loop-at.invariant.turns
           ∙ sym (take_more turns at _ c.loop-at-test.true);
-      threads = c.in_ok-add.ensures.threads ∙ c.loop-at.invariant.threads;
     }
 
 pub returns-clause-turns : goal.returns-clause-turns

@@ -1,9 +1,10 @@
 -- The order and the text of the thread end where they ended before the turn.
 use Rattle.std.proofs.Common.{◌≡◌, ◌<◌, ◌≤◌, ◌++◌, ◌∷◌, [], ◌∙◌, Some, ap, arith, inl, inr, refl, slice_get, slice_set, take, length, subst, sym}
 use Rattle.std.proofs.lemmas.Bool.{cases_lt}
-use Rattle.std.proofs.lemmas.Option.{slice_get_read, slice_get_within}
+use Rattle.std.proofs.lemmas.List.{set_past}
+use Rattle.std.proofs.lemmas.Option.{slice_get_read}
 use Rattle.tracer_cli.specs.TurnTexts.{EndsLine, TextsOfTurns, ThreadText}
-use Rattle.tracer_cli.proofs.TurnTexts.{order_cut, set_past, thread_cut, texts_less}
+use Rattle.tracer_cli.proofs.TurnTexts.{order_cut, thread_cut, texts_less}
 use Rattle.tracer_cli.proofs.outcomes.turn_texts.TurnTexts.take_back.Goals as goal
 use Rattle.tracer_cli.proofs.outcomes.turn_texts.TurnTexts.take_back.Goals.{in-Some-get_mut, in_default-get_mut}
 
@@ -24,9 +25,7 @@ take_back-requires g c =
     ap (λ (s : TextsOfTurns). s.turns) (sym c.self.view_is) ∙ c.in-Some.ensures.items in
     let is : slice_get threads.items thread ≡ Some owner =
     slice_get_read threads.items threads.len thread owner threads.ok.0 less c.in-Some-get_mut.ensures.value in
-    let within : thread < length threads.items = slice_get_within threads.items thread owner is in
     thread_cut c.requires.texts.0 c.args.self.now c.pop.new.self.items c.in-Some.last owner c.requires.texts.1 turns_are
-    (subst (λ (s : TextsOfTurns). thread < length s.threads) c.self.view_is within)
     (ap (λ (s : TextsOfTurns). slice_get s.threads thread) (sym c.self.view_is) ∙ is)
 
 pub returns-clause-texts : goal.returns-clause-texts

@@ -184,29 +184,29 @@ order_is content number threads places lists conditions rows found shown rows_ar
 pub order_shown : (options : ExploreOptions) (content : LitmusContent) (searched : Searched) (number : ℕ)
     (shown : Option (List ℕ)) (text : List ℕ) → IsSearched content options.budget (all_required content) searched
     → number_asked options.listing ≡ Some number
-    → shown ≡ asked_text (listing.Replay number) content searched.explored.runs.items searched.explored.places
+    → shown ≡ asked_text (listing.Replay number) content searched.explored.runs searched.explored.places
     → shown ≡ Some text → IsShown options content text false
 order_shown options content searched number shown text known asked is some = record {
-  found = searched.explored.runs.items;
+  found = searched.explored.runs;
   places = searched.explored.places;
   all = known.all;
   few = known.few;
-  shows = ap (λ l. asked_text l content searched.explored.runs.items searched.explored.places)
+  shows = ap (λ l. asked_text l content searched.explored.runs searched.explored.places)
       (asked_is options.listing number asked) ∙ sym is ∙ some;
 }
 
 pub no_order : (options : ExploreOptions) (content : LitmusContent) (searched : Searched) (number : ℕ)
     (shown : Option (List ℕ)) → IsSearched content options.budget (all_required content) searched
     → number_asked options.listing ≡ Some number
-    → shown ≡ asked_text (listing.Replay number) content searched.explored.runs.items searched.explored.places
+    → shown ≡ asked_text (listing.Replay number) content searched.explored.runs searched.explored.places
     → shown ≡ None → IsUnshown options (Ok content) (NoOutcome number)
 no_order options content searched number shown known asked is none = record {
-  found = searched.explored.runs.items;
+  found = searched.explored.runs;
   places = searched.explored.places;
   all = known.all;
   few = known.few;
   asked = asked_is options.listing number asked;
-  none = ap (λ l. asked_text l content searched.explored.runs.items searched.explored.places)
+  none = ap (λ l. asked_text l content searched.explored.runs searched.explored.places)
       (asked_is options.listing number asked) ∙ sym is ∙ none;
 }
 
@@ -286,16 +286,16 @@ all_listed listing.Ends content found places text none allowed is =
 
 pub all_shown : (options : ExploreOptions) (content : LitmusContent) (searched : Searched) (text : List ℕ)
     → IsSearched content options.budget (all_required content) searched → number_asked options.listing ≡ None
-    → forbids content.requirements (chosen_with content (all_required content) searched.explored.runs.items) ≡ false
+    → forbids content.requirements (chosen_with content (all_required content) searched.explored.runs) ≡ false
     → text ≡ all_text (shows_ends options.listing) content searched.explored.places
-    (chosen_with content (all_required content) searched.explored.runs.items)
+    (chosen_with content (all_required content) searched.explored.runs)
     → IsShown options content text false
 all_shown options content searched text known none allowed is = record {
-  found = searched.explored.runs.items;
+  found = searched.explored.runs;
   places = searched.explored.places;
   all = known.all;
   few = known.few;
-  shows = all_listed options.listing content searched.explored.runs.items searched.explored.places text none allowed is;
+  shows = all_listed options.listing content searched.explored.runs searched.explored.places text none allowed is;
 }
 
 -- ---- that nothing has all that the file requires

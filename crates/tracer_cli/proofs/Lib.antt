@@ -1,3 +1,4 @@
+pub mod AllChosen
 pub mod AllOf
 pub mod CameTrue
 pub mod Commands
@@ -23,6 +24,7 @@ pub mod Printing
 pub mod ReadBack
 pub mod Runs
 pub mod SixWords
+pub mod SomeChosen
 pub mod Tables
 pub mod Tallies
 pub mod TextOfParts

@@ -3,7 +3,9 @@ use Rattle.std.proofs.Common.{refl, ◌≡◌, ◌<◌, ◌≤◌, ◌+◌, ◌-
 use Rattle.std.proofs.Common.{Bor, length, get_or, drop, option_map, arith, ◌∙◌, ap, sym, append_assoc}
 use Rattle.std.proofs.Common.{append-nil, flat_map, min, zip, OnOk, Result, subst}
 use Rattle.std.proofs.lemmas.List.{at_drop_all, drop_more, get_or-map}
+use Rattle.std.proofs.lemmas.Option.{get_or_from_slice_get, slice_get_within}
 use Rattle.std.proofs.lemmas.Slice.Zip.{get_or-zip, length-zip}
+use Rattle.std.specs.Prelude.{Some, slice_get}
 use Rattle.stop_history.specs.declared.roster.Row.{Row}
 use Rattle.stop_history.specs.declared.state.State.{State}
 use Rattle.stop_explorer.specs.declared.command.ThreadCommand.{ThreadCommand}
@@ -90,24 +92,27 @@ tracees_over rows states n is =
 
 -- ---- outcomes
 
+-- what is left begins with the one that is read
+pub drop_at : {X : Type 0} (xs : List X) (i : ℕ) (x : X) → slice_get xs i ≡ Some x → drop i xs ≡ x ∷ drop (i + 1) xs
+drop_at xs i x is =
+    drop_more xs i x (slice_get_within xs i x is) ∙ ap (λ e. e ∷ drop (i + 1) xs) (get_or_from_slice_get xs i x x is)
+
 pub chosen_here : (threads : ℕ) (commands : ℕ → List ThreadCommand) (conditions : List Condition)
-    (endings : List EndedRun) (i : ℕ) (ending : EndedRun) → i < length endings → ending ≡ get_or endings i ending
+    (endings : List EndedRun) (i : ℕ) (ending : EndedRun) → slice_get endings i ≡ Some ending
     → is_chosen threads commands conditions ending ≡ true
     → chosen_of threads commands conditions (drop i endings)
     ≡ ending ∷ chosen_of threads commands conditions (drop (i + 1) endings)
-chosen_here threads commands conditions endings i ending within is true_here =
-    let rest : List EndedRun = drop (i + 1) endings in
-    let cut : drop i endings ≡ ending ∷ rest = drop_more endings i ending within ∙ ap (λ e. e ∷ rest) (sym is) in
+chosen_here threads commands conditions endings i ending is true_here =
+    let cut : drop i endings ≡ ending ∷ drop (i + 1) endings = drop_at endings i ending is in
     ap (chosen_of threads commands conditions) cut ∙ rw true_here
 
 pub chosen_not_here : (threads : ℕ) (commands : ℕ → List ThreadCommand) (conditions : List Condition)
-    (endings : List EndedRun) (i : ℕ) (ending : EndedRun) → i < length endings → ending ≡ get_or endings i ending
+    (endings : List EndedRun) (i : ℕ) (ending : EndedRun) → slice_get endings i ≡ Some ending
     → is_chosen threads commands conditions ending ≡ false
     → chosen_of threads commands conditions (drop i endings)
     ≡ chosen_of threads commands conditions (drop (i + 1) endings)
-chosen_not_here threads commands conditions endings i ending within is false_here =
-    let rest : List EndedRun = drop (i + 1) endings in
-    let cut : drop i endings ≡ ending ∷ rest = drop_more endings i ending within ∙ ap (λ e. e ∷ rest) (sym is) in
+chosen_not_here threads commands conditions endings i ending is false_here =
+    let cut : drop i endings ≡ ending ∷ drop (i + 1) endings = drop_at endings i ending is in
     ap (chosen_of threads commands conditions) cut ∙ rw false_here
 
 pub chosen_over : (threads : ℕ) (commands : ℕ → List ThreadCommand) (conditions : List Condition)
@@ -128,7 +133,18 @@ pub outcomes_over : (rows : List Row) (names : List (Option (List ℕ))) (voices
 unfolding outcome_texts
 outcomes_over rows names voices commands number count chosen is = ap (outcome_texts rows names voices commands number count) is
 
+pub outcomes_some : (rows : List Row) (names : List (Option (List ℕ))) (voices : List Voice)
+    (commands : ℕ → List ThreadCommand) (number count : ℕ) (chosen : List EndedRun) → 0 < length chosen
+    → 0 < length (outcome_texts rows names voices commands number count chosen)
+unfolding outcome_texts
+outcomes_some rows names voices commands number count [] some = absurd (omega (arith, some))
+outcomes_some rows names voices commands number count (ending ∷ more) some = omega arith
+
 -- ---- the outcome of a number
+
+pub numbered_first : (number : ℕ) (ending : EndedRun) (more : List EndedRun) → number ≡ 1
+    → ending_numbered number (ending ∷ more) ≡ Some ending
+numbered_first number ending more one = ap (λ n. ending_numbered n (ending ∷ more)) one
 
 pub numbered_next : (number : ℕ) (ending : EndedRun) (more : List EndedRun) → (number ≡ 1 → ⊥)
     → ending_numbered number (ending ∷ more) ≡ ending_numbered (number - 1) more

@@ -1,6 +1,6 @@
 -- Texts that are collected and written part after part, and what of them is printed where a write fails.
 use Rattle.std.proofs.Common.{refl, ◌≡◌, ◌∙◌, ◌<◌, ◌++◌, [], ℕ, Bool, true, false, List, Option, Result, Ok, Err, ap}
-use Rattle.std.proofs.Common.{append_assoc, append-nil, length, subst, sym}
+use Rattle.std.proofs.Common.{append_assoc, append-nil, arith, length, length-append, subst, sym}
 use Rattle.std.proofs.KnownBytes.{Appends-nil}
 use Rattle.std.specs.Io.KnownBytes.{Appends}
 use Rattle.std.specs.Prelude.{IfErr, OnOk}
@@ -49,6 +49,14 @@ module _ (a b c : Option (List ℕ)) (old all mid rest part more : List ℕ) (so
   pub cut_there : IsCutOff b c (mid ++ part) → IsCutOff a c (old ++ all)
   cut_there off = cut_in_part so_far.0 (mid ++ part) more (old ++ all) a b c parts so_far.1 off
 
+-- nothing of what is left is written
+pub cut_before : (a b : Option (List ℕ)) (old all new rest : List ℕ) → IsSoFar a b old all new rest → 0 < length rest
+    → IsCutOff a b (old ++ all)
+cut_before a b old all new rest so_far some =
+    let whole = ap (λ t. so_far.0 ++ t) (append-nil (new ++ rest)) ∙ so_far.2 in
+    cut_in_part so_far.0 (new ++ rest) [] (old ++ all) a b b whole so_far.1
+    (nothing_of b (new ++ rest) (omega (arith, length-append new rest, some)))
+
 -- the same of what is equal
 pub so_far_as : (a b c : Option (List ℕ)) (old all new same rest left : List ℕ) → c ≡ b → same ≡ new → left ≡ rest
     → IsSoFar a b old all new rest → IsSoFar a c old all same left
@@ -94,14 +102,13 @@ written_after {T} {E} (Err error) a b c old first mid second none so_far added =
 
 -- all outcomes that are chosen, and how many they and the places are
 pub whole_chosen : (rows : List Row) (names : List (Option (List ℕ))) (voices : List Voice)
-    (commands : ℕ → List ThreadCommand) (required : Bool) (places count : ℕ) (chosen found : List EndedRun)
-    → chosen ≡ found → count ≡ length chosen
-    → outcome_texts rows names voices commands 1 count chosen ++ (counts_line count places ++ allowed_line required)
+    (commands : ℕ → List ThreadCommand) (required : Bool) (told places count : ℕ) (found : List EndedRun)
+    → told ≡ places → count ≡ length found
+    → outcome_texts rows names voices commands 1 count found ++ (counts_line count told ++ allowed_line required)
     ≡ chosen_text rows names voices commands required places found
-whole_chosen rows names voices commands required places count chosen found same counted =
-    (λ i. outcome_texts rows names voices commands 1 (counted i) chosen
-    ++ (counts_line (counted i) places ++ allowed_line required))
-    ∙ ap (chosen_text rows names voices commands required places) same
+whole_chosen rows names voices commands required told places count found same counted =
+    (λ i. outcome_texts rows names voices commands 1 (counted i) found
+    ++ (counts_line (counted i) (same i) ++ allowed_line required))
 
 -- ---- what is printed of a file
 

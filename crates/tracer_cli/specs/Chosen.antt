@@ -1,6 +1,7 @@
 -- The outcomes that are printed: those in which every command with a reply was done, and every condition holds. A law
 -- says that the test for replies is `HaveComeTrue` of `stop_explorer`.
-use Rattle.std.specs.Prelude.{◌==◌, ◌&&◌, ◌||◌, ℕ, suc, zero, Bool, not, List, length, filter, Option, None, slice_get}
+use Rattle.std.specs.Prelude.{◌==◌, ◌&&◌, ◌||◌, ℕ, suc, zero, Bool, not, List, length, filter, Option, None, Vec}
+use Rattle.std.specs.Prelude.{is_none, slice_get}
 use Rattle.std.specs.List.{list_all, list_any, range_with_len}
 use Rattle.stop_explorer.specs.declared.command.ThreadCommand.{ThreadCommand}
 use Rattle.stop_explorer.specs.Program.{Log}
@@ -40,6 +41,18 @@ is_chosen threads commands conditions ending =
 abbrev pub chosen_of : (threads : ℕ) → (commands : ℕ → List ThreadCommand) → List Condition → List EndedRun
     → List EndedRun
 chosen_of threads commands conditions endings = filter (is_chosen threads commands conditions) endings
+
+-- no command has a reply
+abbrev pub has_no_reply : List ThreadCommand → Bool
+has_no_reply commands = list_all (λ command. is_none command.wanted) commands
+
+-- no command of any thread has a reply
+abbrev pub lacks_replies : {Z : Type 0} → (lists : List (Vec ThreadCommand Z)) → Bool
+lacks_replies lists = list_all (λ own. has_no_reply own.items) lists
+
+-- and there is no condition: nothing is asked of an outcome
+abbrev pub asks_nothing : {Z : Type 0} → (lists : List (Vec ThreadCommand Z)) → List Condition → Bool
+asks_nothing lists conditions = length conditions == 0 && lacks_replies lists
 
 -- outcomes are numbered from 1
 abbrev pub ending_numbered : (number : ℕ) → List EndedRun → Option EndedRun

@@ -68,7 +68,7 @@ pub record IsSearched (content : LitmusContent) (budget count : ℕ) (searched :
   pub threads : length searched.commands.items ≡ length content.names
   pub commands : (thread : ℕ) → commands_in searched.commands.items thread ≡ commands_with content count thread
   pub conditions : searched.conditions.items ≡ conditions_with count content.conditions
-  pub all : AreOutcomes content count searched.explored.runs.items searched.explored.places
+  pub all : AreOutcomes content count searched.explored.runs searched.explored.places
   pub few : searched.explored.places ≤ budget
 
 -- ---- what a file requires

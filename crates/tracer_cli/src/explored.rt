@@ -17,7 +17,7 @@ use crate::arguments::{ExploreOptions, Listing};
 use crate::failure::Failure;
 use crate::litmus::file::{LitmusFile, read_litmus};
 use crate::litmus::required::{Condition, NumberedLine, conditions_with, program_with};
-use crate::outcomes::chosen::{count_chosen, is_chosen};
+use crate::outcomes::chosen::is_chosen;
 use crate::outcomes::ends::ends_text;
 use crate::outcomes::printed::print_outcomes;
 use crate::outcomes::replay_order::outcome_replay;
@@ -122,28 +122,45 @@ fn search(
     })
 }
 
-/// Whether some of these runs has each reply, and each of these conditions holds where it ends.
+/// Whether some outcome has each reply, and each of these conditions holds where it ends. None is read after the first.
 fn is_some_chosen(
+    alloc: Global,
     commands: &[Vec<ThreadCommand>],
     conditions: &[Condition],
-    runs: &[FoundRun],
-) -> bool
-    ensures { result
-        ≡ list_any (is_chosen (length commands.now) (commands_in commands.now) conditions.now) runs.now }
+    explored: &Explored,
+) -> Result<bool, NoMemory>
+    ensures { IfOk result (λ is. is ≡ list_any
+        (is_chosen (length commands.now) (commands_in commands.now) conditions.now) explored.now.runs) }
 {
-    runs.iter().any(|run| is_chosen(commands, conditions, run))
+    let mut run = FoundRun::new(alloc);
+    for number in 0..explored.len() {
+        explored.read(number, &mut run)?;
+        if is_chosen(commands, conditions, &run) {
+            return Ok(true);
+        }
+    }
+    Ok(false)
 }
 
 /// Whether the file requires something, and no outcome has all of it.
-fn is_forbidden(file: &LitmusFile<'_, Global>, budget: u32, whole: &Searched) -> bool
+fn is_forbidden(
+    alloc: Global,
+    file: &LitmusFile<'_, Global>,
+    budget: u32,
+    whole: &Searched,
+) -> Result<bool, NoMemory>
     requires file { IsLitmusFile file.now }
     requires whole { IsSearched (content_in file.now) budget (length file.now.requirements.items) whole.now }
-    ensures { result ≡ forbids file.now.requirements.items (chosen_with (content_in file.now)
-        (length file.now.requirements.items) whole.now.explored.runs.items) }
+    ensures { IfOk result (λ is. is ≡ forbids file.now.requirements.items (chosen_with (content_in file.now)
+        (length file.now.requirements.items) whole.now.explored.runs)) }
 {
-    let runs = whole.explored.runs.as_slice();
-    let chosen = count_chosen(whole.commands.as_slice(), whole.conditions.as_slice(), runs);
-    has_requirements(file) && chosen == 0
+    if !has_requirements(file) {
+        return Ok(false);
+    }
+    let commands = whole.commands.as_slice();
+    let conditions = whole.conditions.as_slice();
+    let chosen = is_some_chosen(alloc, commands, conditions, &whole.explored)?;
+    Ok(!chosen)
 }
 
 // ---- what is shown
@@ -164,7 +181,7 @@ fn print_found<W: Write>(
         (W.contents output.new) result }
     ensures unwritten { IsUnwritten output.old output.new result }
 {
-    if is_forbidden(file, options.budget, whole) {
+    if is_forbidden(alloc, file, options.budget, whole)? {
         let text = explain(alloc, file, options.budget, whole)?;
         return print_forbidden(text.as_str(), output);
     }
@@ -193,7 +210,7 @@ fn print_chosen<W: Write>(
     requires file { IsLitmusFile file.now }
     requires whole { IsSearched (content_in file.now) budget (length file.now.requirements.items) whole.now }
     ensures printed { WritesIfMemory (all_text ends (content_in file.now) whole.now.explored.places
-        (chosen_with (content_in file.now) (length file.now.requirements.items) whole.now.explored.runs.items))
+        (chosen_with (content_in file.now) (length file.now.requirements.items) whole.now.explored.runs))
         (W.contents output.old) (W.contents output.new) result }
     ensures unwritten { IsUnwritten output.old output.new result }
 {
@@ -215,7 +232,7 @@ fn ends_of(
     requires whole { IsSearched (content_in file.now) budget (length file.now.requirements.items) whole.now }
     ensures { IfOk result (λ text. string_bytes text ≡ all_text true (content_in file.now)
         whole.now.explored.places (chosen_with (content_in file.now) (length file.now.requirements.items)
-        whole.now.explored.runs.items)) }
+        whole.now.explored.runs)) }
 {
     let program = told_program(file, whole);
     let required = has_requirements(file);
@@ -239,7 +256,7 @@ fn print_each<W: Write>(
     requires file { IsLitmusFile file.now }
     requires whole { IsSearched (content_in file.now) budget (length file.now.requirements.items) whole.now }
     ensures printed { WritesIfMemory (all_text false (content_in file.now) whole.now.explored.places
-        (chosen_with (content_in file.now) (length file.now.requirements.items) whole.now.explored.runs.items))
+        (chosen_with (content_in file.now) (length file.now.requirements.items) whole.now.explored.runs))
         (W.contents output.old) (W.contents output.new) result }
     ensures unwritten { IsUnwritten output.old output.new result }
 {
@@ -389,12 +406,14 @@ fn can_meet(
 {
     if have_numbers_to(count, file.lines.as_slice()) {
         let conditions = conditions_with(alloc, count, file.conditions.as_slice())?;
-        let runs = whole.explored.runs.as_slice();
-        return Ok(is_some_chosen(whole.commands.as_slice(), conditions.as_slice(), runs));
+        let commands = whole.commands.as_slice();
+        let can = is_some_chosen(alloc, commands, conditions.as_slice(), &whole.explored)?;
+        return Ok(can);
     }
     let part = search(alloc, file, budget, count)?;
-    let runs = part.explored.runs.as_slice();
-    Ok(is_some_chosen(part.commands.as_slice(), part.conditions.as_slice(), runs))
+    let commands = part.commands.as_slice();
+    let can = is_some_chosen(alloc, commands, part.conditions.as_slice(), &part.explored)?;
+    Ok(can)
 }
 
 /// Whether the replies of all commands are among the first `count` requirements.

@@ -1,17 +1,19 @@
 //! The outcomes that are printed: those in which every command with a reply was done, and every condition holds.
 
-ghost use Rattle.std.specs.Prelude.{◌≡◌, length, option_map, slice_get};
+ghost use Rattle.std.specs.Prelude.{◌≡◌, IfOk, is_none, length, slice_get};
+ghost use Rattle.std.specs.List.{list_all};
 ghost use Rattle.stop_explorer.specs.Program.{own_turns};
 ghost use Rattle.stop_explorer.specs.Progress.{has_reply, is_quiet};
 ghost use Rattle.stop_explorer.specs.Replies.{done_from};
 ghost use Rattle.stop_explorer.specs.Search.{commands_in};
-ghost use Rattle.tracer_cli.specs.Chosen.{chosen_of, ending_numbered, has_come_true};
-ghost use Rattle.tracer_cli.specs.Chosen.{has_thread_come_true, have_come_true, is_chosen, was_done};
+ghost use Rattle.tracer_cli.specs.Chosen.{asks_nothing, chosen_of, ending_numbered, has_come_true, has_no_reply};
+ghost use Rattle.tracer_cli.specs.Chosen.{has_thread_come_true, have_come_true, is_chosen, lacks_replies, was_done};
 
 use super::condition::conditions_hold;
 use crate::litmus::required::Condition;
 use std::alloc::Allocator;
-use stop_explorer::{FoundRun, ThreadCommand, Turn, Voice, index_after};
+use stop_board::NoMemory;
+use stop_explorer::{Explored, FoundRun, ThreadCommand, Turn, Voice, index_after};
 
 /// The commands of a thread. There are none past the last thread.
 pub(crate) fn thread_commands<A: Allocator>(
@@ -114,43 +116,108 @@ pub(crate) fn is_chosen<A: Allocator>(
     have_come_true(commands, run.turns()) && conditions_hold(commands, conditions, run)
 }
 
-/// How many outcomes are printed.
-pub(crate) fn count_chosen<A: Allocator>(
+/// Whether no command has a reply, and there is no condition. Then every outcome is printed, and none has to be read to
+/// know that.
+pub(crate) fn asks_nothing<A: Allocator>(
     commands: &[Vec<ThreadCommand, A>],
     conditions: &[Condition],
-    runs: &[FoundRun<A>],
-) -> usize
-    ensures { result
-        ≡ length (chosen_of (length commands.now) (commands_in commands.now) conditions.now runs.now) }
+) -> bool
+    ensures { result ≡ asks_nothing commands.now conditions.now }
 {
+    conditions.is_empty() && lacks_replies(commands)
+}
+
+/// Whether no command of any thread has a reply.
+fn lacks_replies<A: Allocator>(commands: &[Vec<ThreadCommand, A>]) -> bool
+    ensures { result ≡ lacks_replies commands.now }
+{
+    commands.iter().all(|own| has_no_reply(own.as_slice()))
+}
+
+/// Whether no command of a thread has a reply.
+fn has_no_reply(commands: &[ThreadCommand]) -> bool
+    ensures { result ≡ has_no_reply commands.now }
+{
+    commands.iter().all(|command| command.wanted.is_none())
+}
+
+/// Whether an outcome is printed. `all`: every outcome is, as `asks_nothing` says.
+pub(crate) fn is_printed<A: Allocator>(
+    all: bool,
+    commands: &[Vec<ThreadCommand, A>],
+    conditions: &[Condition],
+    run: &FoundRun<A>,
+) -> bool
+    requires { all ≡ asks_nothing commands.now conditions.now }
+    ensures { result ≡ is_chosen (length commands.now) (commands_in commands.now) conditions.now run.now }
+{
+    all || is_chosen(commands, conditions, run)
+}
+
+/// How many outcomes are printed.
+pub(crate) fn count_chosen<A: Allocator + Copy>(
+    alloc: A,
+    commands: &[Vec<ThreadCommand, A>],
+    conditions: &[Condition],
+    explored: &Explored<A>,
+) -> Result<usize, NoMemory>
+    ensures { IfOk result (λ count. count
+        ≡ length (chosen_of (length commands.now) (commands_in commands.now) conditions.now explored.now.runs)) }
+{
+    if asks_nothing(commands, conditions) {
+        return Ok(explored.len());
+    }
+    let mut run = FoundRun::new(alloc);
     let mut count = 0;
-    for run in runs {
-        if is_chosen(commands, conditions, run) {
+    for number in 0..explored.len() {
+        explored.read(number, &mut run)?;
+        if is_chosen(commands, conditions, &run) {
             count += 1;
         }
     }
-    count
+    Ok(count)
 }
 
 /// The outcome that is printed with this number, if there is one.
-pub(crate) fn chosen_run<'r, A: Allocator>(
+pub(crate) fn chosen_run<A: Allocator + Copy>(
+    alloc: A,
     commands: &[Vec<ThreadCommand, A>],
     conditions: &[Condition],
-    runs: &'r [FoundRun<A>],
+    explored: &Explored<A>,
     number: usize,
-) -> Option<&'r FoundRun<A>>
-    ensures { option_map (λ run. run.now) result
-        ≡ ending_numbered number
-        (chosen_of (length commands.now) (commands_in commands.now) conditions.now runs.now) }
+) -> Result<Option<FoundRun<A>>, NoMemory>
+    ensures { IfOk result (λ found. found ≡ ending_numbered number
+        (chosen_of (length commands.now) (commands_in commands.now) conditions.now explored.now.runs)) }
 {
+    if asks_nothing(commands, conditions) {
+        return numbered_run(alloc, explored, number);
+    }
+    let mut run = FoundRun::new(alloc);
     let mut count = 0;
-    for run in runs {
-        if is_chosen(commands, conditions, run) {
+    for at in 0..explored.len() {
+        explored.read(at, &mut run)?;
+        if is_chosen(commands, conditions, &run) {
             count += 1;
             if count == number {
-                return Some(run);
+                return Ok(Some(run));
             }
         }
     }
-    None
+    Ok(None)
+}
+
+/// The outcome of this number, from 1 on, if there is one.
+fn numbered_run<A: Allocator + Copy>(
+    alloc: A,
+    explored: &Explored<A>,
+    number: usize,
+) -> Result<Option<FoundRun<A>>, NoMemory>
+    ensures { IfOk result (λ found. found ≡ ending_numbered number explored.now.runs) }
+{
+    if number == 0 || number > explored.len() {
+        return Ok(None);
+    }
+    let mut run = FoundRun::new(alloc);
+    explored.read(number - 1, &mut run)?;
+    Ok(Some(run))
 }

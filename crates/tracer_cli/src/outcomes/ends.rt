@@ -11,7 +11,7 @@ ghost use Rattle.tracer_cli.specs.OutcomeEnds.{is_first_end, last_state, last_st
 ghost use Rattle.tracer_cli.specs.OutcomeEnds.{tallies_of, tally_line, tally_lines, tally_of, waiting_words, who_waits};
 ghost use Rattle.tracer_cli.specs.OutcomeText.{name_at, thread_word};
 
-use super::chosen::is_chosen;
+use super::chosen::{asks_nothing, is_printed};
 use super::condition::waits_at_end;
 use super::text::{ToldProgram, name_at, write_end, write_thread_word};
 use crate::litmus::required::Condition;
@@ -199,18 +199,21 @@ fn end_texts<A: Allocator + Copy>(
     names: &[Option<&[u8]>],
     commands: &[Vec<ThreadCommand, A>],
     conditions: &[Condition],
-    runs: &[FoundRun<A>],
+    explored: &Explored<A>,
 ) -> Result<Vec<String<A>, A>, NoMemory>
     requires names { AreTexts names.now }
     requires few { length names.now < 2 ^ 32 }
     ensures { IfOk result (λ ends. map string_bytes ends.items
         ≡ map (outcome_end rows.now (names_kept names.now) (commands_in commands.now))
-        (chosen_of (length commands.now) (commands_in commands.now) conditions.now runs.now)) }
+        (chosen_of (length commands.now) (commands_in commands.now) conditions.now explored.now.runs)) }
 {
+    let all = asks_nothing(commands, conditions);
+    let mut run = FoundRun::new(alloc);
     let mut ends = Vec::new(alloc);
-    for run in runs {
-        if is_chosen(commands, conditions, run) {
-            ends.push(outcome_end(alloc, rows, names, commands, run)?)?;
+    for number in 0..explored.len() {
+        explored.read(number, &mut run)?;
+        if is_printed(all, commands, conditions, &run) {
+            ends.push(outcome_end(alloc, rows, names, commands, &run)?)?;
         }
     }
     Ok(ends)
@@ -399,9 +402,8 @@ pub(crate) fn ends_text<A: Allocator + Copy>(
     ensures { IfOk result (λ text. string_bytes text
         ≡ ends_text program.now.rows.now (names_kept program.now.names.now) (commands_in program.now.commands.now)
         required explored.now.places (chosen_of (length program.now.commands.now)
-        (commands_in program.now.commands.now) conditions.now explored.now.runs.items)) }
+        (commands_in program.now.commands.now) conditions.now explored.now.runs)) }
 {
-    let runs = explored.runs.as_slice();
     let rows = program.rows;
     let ends = end_texts(
         alloc,
@@ -409,11 +411,11 @@ pub(crate) fn ends_text<A: Allocator + Copy>(
         program.names,
         program.commands,
         conditions,
-        runs,
+        explored,
     )?;
     let tallies = tallies_of(alloc, ends.as_slice())?;
     let mut out = String::new(alloc);
     write_tallies(&mut out, ends.as_slice(), tallies.as_slice())?;
-    write_end(&mut out, ends.len(), explored.places, required)?;
+    write_end(&mut out, ends.len(), explored.places(), required)?;
     Ok(out)
 }

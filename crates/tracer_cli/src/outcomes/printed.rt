@@ -1,7 +1,7 @@
 //! Outcomes that are printed as their texts are made, through one buffer.
 
 ghost use Rattle.std.specs.Io.KnownBytes.{Appends};
-ghost use Rattle.std.specs.Prelude.{◌≡◌, ◌++◌, [], IfErr, OnOk, length, string_bytes};
+ghost use Rattle.std.specs.Prelude.{◌≡◌, ◌<◌, ◌++◌, [], IfErr, OnOk, Some, length, slice_get, string_bytes};
 ghost use Rattle.stop_explorer.specs.Search.{commands_in};
 ghost use Rattle.tracer_cli.specs.Chosen.{chosen_of};
 ghost use Rattle.tracer_cli.specs.CutOff.{IsCollected, IsCutOff};
@@ -10,7 +10,7 @@ ghost use Rattle.tracer_cli.specs.OutcomeText.{allowed_line, chosen_text, counts
 ghost use Rattle.tracer_cli.specs.Run.{IsUnwritten, WritesIfMemory};
 ghost use Rattle.tracer_cli.specs.TurnTexts.{AreTextsOf, text_source};
 
-use super::chosen::{count_chosen, is_chosen};
+use super::chosen::{asks_nothing, count_chosen, is_printed};
 use super::text::{ToldProgram, write_end, write_outcome};
 use super::turn_texts::{LINE, TurnTexts};
 use crate::failure::Failure;
@@ -29,6 +29,14 @@ const ENOUGH: usize = 65_536;
 struct Printer<A: Allocator> {
     text: String<A>,
     texts: TurnTexts<A>,
+}
+
+/// What is printed: of the outcomes that were found those that are chosen, by these conditions too, and their number.
+#[derive(Clone, Copy)]
+struct Printed<'a, A: Allocator> {
+    conditions: &'a [Condition],
+    explored: &'a Explored<A>,
+    count: usize,
 }
 
 /// How many turns an outcome may have: a thread has no more turns than commands.
@@ -119,32 +127,66 @@ fn print_outcome<A: Allocator + Copy, W: Write>(
     }
 }
 
-/// Prints the outcomes that are chosen, numbered from 1.
+/// A run to read outcomes into, with room for each of them: all have as many rows, and the last one has the most turns.
+fn room_for_runs<A: Allocator + Copy>(
+    alloc: A,
+    explored: &Explored<A>,
+) -> Result<FoundRun<A>, NoMemory> {
+    let mut run = FoundRun::new(alloc);
+    if !explored.is_empty() {
+        explored.read(explored.len() - 1, &mut run)?;
+    }
+    Ok(run)
+}
+
+/// Reads the outcome of a number. If memory were refused, in spite of the room, what is printed would end there.
+fn read_outcome<A: Allocator>(
+    explored: &Explored<A>,
+    number: usize,
+    run: &mut FoundRun<A>,
+) -> Result<(), CutOff>
+    requires { number < length explored.now.runs }
+    ensures { OnOk result (slice_get explored.now.runs number ≡ Some run.new) }
+{
+    match explored.read(number, run) {
+        Ok(()) => Ok(()),
+        Err(_) => Err(CutOff),
+    }
+}
+
+/// Prints the outcomes that are chosen, numbered from 1. Each is read into `run`, and none after the last one.
 fn print_chosen<A: Allocator + Copy, W: Write>(
     printer: &mut Printer<A>,
     output: &mut W,
     program: &ToldProgram<'_, '_, A>,
-    conditions: &[Condition],
-    count: usize,
-    runs: &[FoundRun<A>],
+    printed: &Printed<'_, A>,
+    run: &mut FoundRun<A>,
 ) -> Result<(), CutOff>
     requires names { AreTexts program.now.names.now }
     requires texts { AreTextsOf (text_source program.now) printer.old.texts }
+    requires counted { printed.now.count ≡ length (chosen_of (length program.now.commands.now)
+        (commands_in program.now.commands.now) printed.now.conditions.now printed.now.explored.now.runs) }
     ensures ok { OnOk result (IsCollected (W.contents output.old) (W.contents output.new)
         (string_bytes printer.old.text)
         (outcome_texts program.now.rows.now (names_kept program.now.names.now) program.now.voices.now
-        (commands_in program.now.commands.now) 1 count (chosen_of (length program.now.commands.now)
-        (commands_in program.now.commands.now) conditions.now runs.now)) (string_bytes printer.new.text)) }
+        (commands_in program.now.commands.now) 1 printed.now.count (chosen_of (length program.now.commands.now)
+        (commands_in program.now.commands.now) printed.now.conditions.now printed.now.explored.now.runs))
+        (string_bytes printer.new.text)) }
     ensures cut_off { IfErr result (λ _. IsCutOff (W.contents output.old) (W.contents output.new)
         (string_bytes printer.old.text ++ outcome_texts program.now.rows.now (names_kept program.now.names.now)
-        program.now.voices.now (commands_in program.now.commands.now) 1 count
-        (chosen_of (length program.now.commands.now) (commands_in program.now.commands.now) conditions.now
-        runs.now))) }
+        program.now.voices.now (commands_in program.now.commands.now) 1 printed.now.count
+        (chosen_of (length program.now.commands.now) (commands_in program.now.commands.now)
+        printed.now.conditions.now printed.now.explored.now.runs))) }
 {
+    let all = asks_nothing(program.commands, printed.conditions);
     let mut before = 0;
-    for run in runs {
-        if is_chosen(program.commands, conditions, run) {
-            print_outcome(printer, output, program, before + 1, count, run)?;
+    for number in 0..printed.explored.len() {
+        if before == printed.count {
+            return Ok(());
+        }
+        read_outcome(printed.explored, number, run)?;
+        if is_printed(all, program.commands, printed.conditions, run) {
+            print_outcome(printer, output, program, before + 1, printed.count, run)?;
             before += 1;
         }
     }
@@ -176,33 +218,34 @@ fn print_all<A: Allocator + Copy, W: Write>(
     printer: &mut Printer<A>,
     output: &mut W,
     program: &ToldProgram<'_, '_, A>,
-    conditions: &[Condition],
+    printed: &Printed<'_, A>,
     required: bool,
-    explored: &Explored<A>,
+    run: &mut FoundRun<A>,
 ) -> Result<(), CutOff>
     requires names { AreTexts program.now.names.now }
     requires texts { AreTextsOf (text_source program.now) printer.old.texts }
     requires begin { string_bytes printer.old.text ≡ [] }
+    requires counted { printed.now.count ≡ length (chosen_of (length program.now.commands.now)
+        (commands_in program.now.commands.now) printed.now.conditions.now printed.now.explored.now.runs) }
     ensures ok { OnOk result (Appends (W.contents output.old) (W.contents output.new)
         (chosen_text program.now.rows.now (names_kept program.now.names.now) program.now.voices.now
-        (commands_in program.now.commands.now) required explored.now.places
-        (chosen_of (length program.now.commands.now) (commands_in program.now.commands.now) conditions.now
-        explored.now.runs.items))) }
+        (commands_in program.now.commands.now) required printed.now.explored.now.places
+        (chosen_of (length program.now.commands.now) (commands_in program.now.commands.now)
+        printed.now.conditions.now printed.now.explored.now.runs))) }
     ensures cut_off { IfErr result (λ _. IsCutOff (W.contents output.old) (W.contents output.new)
         (chosen_text program.now.rows.now (names_kept program.now.names.now) program.now.voices.now
-        (commands_in program.now.commands.now) required explored.now.places
-        (chosen_of (length program.now.commands.now) (commands_in program.now.commands.now) conditions.now
-        explored.now.runs.items))) }
+        (commands_in program.now.commands.now) required printed.now.explored.now.places
+        (chosen_of (length program.now.commands.now) (commands_in program.now.commands.now)
+        printed.now.conditions.now printed.now.explored.now.runs))) }
 {
-    let runs = explored.runs.as_slice();
-    let count = count_chosen(program.commands, conditions, runs);
-    print_chosen(printer, output, program, conditions, count, runs)?;
-    print_end(&mut printer.text, output, count, explored.places, required)
+    print_chosen(printer, output, program, printed, run)?;
+    let places = printed.explored.places();
+    print_end(&mut printer.text, output, printed.count, places, required)
 }
 
 /// Prints what was explored: the outcomes that have each reply, and in which each condition holds, and how many they
 /// and the places are. `required`: the file has replies or conditions. Each thread has a name, or none. The room for
-/// the text is made before the first byte is written.
+/// the text, and for the outcome that is read, is made before the first byte is written.
 pub(crate) fn print_outcomes<A: Allocator + Copy, W: Write>(
     alloc: A,
     program: &ToldProgram<'_, '_, A>,
@@ -215,21 +258,21 @@ pub(crate) fn print_outcomes<A: Allocator + Copy, W: Write>(
     ensures written { WritesIfMemory (chosen_text program.now.rows.now (names_kept program.now.names.now)
         program.now.voices.now (commands_in program.now.commands.now) required explored.now.places
         (chosen_of (length program.now.commands.now) (commands_in program.now.commands.now) conditions.now
-        explored.now.runs.items)) (W.contents output.old) (W.contents output.new) result }
+        explored.now.runs)) (W.contents output.old) (W.contents output.new) result }
     ensures unwritten { IsUnwritten output.old output.new result }
 {
     let turns = most_turns(program);
     let text = String::with_capacity(alloc, room(program, turns))?;
     let texts = TurnTexts::new(alloc, program, turns)?;
+    let mut run = room_for_runs(alloc, explored)?;
+    let count = count_chosen(alloc, program.commands, conditions, explored)?;
     let mut printer = Printer { text, texts };
-    match print_all(
-        &mut printer,
-        output,
-        program,
+    let printed = Printed {
         conditions,
-        required,
         explored,
-    ) {
+        count,
+    };
+    match print_all(&mut printer, output, program, &printed, required, &mut run) {
         Ok(()) => Ok(()),
         Err(CutOff) => Err(Failure::CannotWrite),
     }

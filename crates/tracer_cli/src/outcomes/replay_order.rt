@@ -107,12 +107,12 @@ pub(crate) fn outcome_replay<A: Allocator + Copy>(
     requires { HaveTracers (commands_in commands.now) }
     ensures { IfOk result (λ found. option_map string_bytes found
         ≡ outcome_replay rows.now (commands_in commands.now) number
-        (chosen_of (length commands.now) (commands_in commands.now) conditions.now explored.now.runs.items)) }
+        (chosen_of (length commands.now) (commands_in commands.now) conditions.now explored.now.runs)) }
 {
-    let Some(run) = chosen_run(commands, conditions, explored.runs.as_slice(), number) else {
+    let Some(run) = chosen_run(alloc, commands, conditions, explored, number)? else {
         return Ok(None);
     };
     let mut out = String::new(alloc);
-    write_as_replay(&mut out, rows, commands, run)?;
+    write_as_replay(&mut out, rows, commands, &run)?;
     Ok(Some(out))
 }

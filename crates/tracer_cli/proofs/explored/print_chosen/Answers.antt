@@ -11,7 +11,7 @@ returns-then-ends-clause-printed g c =
     let file = c.args.file.now in
     let found = c.args.whole.now.explored in
     let content = content_in file in
-    let chosen = chosen_with content (length file.requirements.items) found.runs.items in
+    let chosen = chosen_with content (length file.requirements.items) found.runs in
     let before = g.W.Write.contents c.args.output.now in
     let after = g.W.Write.contents c.print.new.output in
     subst (λ (ends : Bool). WritesIfMemory (all_text ends content found.places chosen) before after c.print.result)
@@ -25,7 +25,7 @@ returns-clause-printed g c =
     let file = c.args.file.now in
     let found = c.args.whole.now.explored in
     let content = content_in file in
-    let chosen = chosen_with content (length file.requirements.items) found.runs.items in
+    let chosen = chosen_with content (length file.requirements.items) found.runs in
     subst (λ (ends : Bool). WritesIfMemory (all_text ends content found.places chosen)
     (g.W.Write.contents c.args.output.now) (g.W.Write.contents c.print_each.new.output) c.print_each.result)
     (sym c.if-ends.false) c.print_each.ensures.printed

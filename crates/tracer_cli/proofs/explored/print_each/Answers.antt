@@ -13,7 +13,7 @@ returns-clause-printed g c =
     let whole = c.args.whole.now in
     printed_are (content_in file) (length told.commands.now) whole.explored.places
     (commands_in told.commands.now) c.as_slice-conditions.result.now told.rows.now (names_kept told.names.now)
-    told.voices.now c.has_requirements-required.result whole.explored.runs.items (g.W.Write.contents c.args.output.now)
+    told.voices.now c.has_requirements-required.result whole.explored.runs (g.W.Write.contents c.args.output.now)
     (g.W.Write.contents c.print_outcomes.new.output) c.print_outcomes.result is.rows (ap names_kept is.names) is.voices
     (ap length is.commands ∙ c.requires.whole.threads)
     (λ thread. ap (λ lists. commands_in lists thread) is.commands ∙ c.requires.whole.commands thread)

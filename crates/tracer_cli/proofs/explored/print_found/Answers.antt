@@ -12,19 +12,19 @@ pub explain-requires-clause-unmet : goal.explain-requires-clause-unmet
 explain-requires-clause-unmet g c =
     let file = c.args.file.now in
     let whole = c.args.whole.now in
-    forbidden_unmet (content_in file) (length file.requirements.items) whole.explored.places whole.explored.runs.items
-    (known_of file c.requires.file) c.requires.whole.all (sym c.is_forbidden.ensures ∙ c.if-is_forbidden.true)
+    forbidden_unmet (content_in file) (length file.requirements.items) whole.explored.places whole.explored.runs
+    (known_of file c.requires.file) c.requires.whole.all (sym c.in_ok-is_forbidden.ensures ∙ c.if-branch.true)
 
-pub returns-then-is_forbidden-clause-printed : goal.returns-then-is_forbidden-clause-printed
-returns-then-is_forbidden-clause-printed g c =
+pub returns-then-branch-clause-printed : goal.returns-then-branch-clause-printed
+returns-then-branch-clause-printed g c =
     let file = c.args.file.now in
     let whole = c.args.whole.now in
     forbidden_printed c.args.options (content_in file) (string_bytes c.in_ok-text.text)
     (g.W.Write.contents c.args.output.now) (g.W.Write.contents c.print_forbidden.new.output) c.print_forbidden.result
     (forbidden_shown c.args.options (content_in file) (string_bytes c.in_ok-text.text) c.requires.all c.requires.few
     (forbidden_unmet (content_in file) (length file.requirements.items) whole.explored.places
-    whole.explored.runs.items (known_of file c.requires.file) c.requires.whole.all
-    (sym c.is_forbidden.ensures ∙ c.if-is_forbidden.true))
+    whole.explored.runs (known_of file c.requires.file) c.requires.whole.all
+    (sym c.in_ok-is_forbidden.ensures ∙ c.if-branch.true))
     c.in_ok-text.ensures)
     (subst (λ t. WritesShown t true (g.W.Write.contents c.args.output.now)
     (g.W.Write.contents c.print_forbidden.new.output) c.print_forbidden.result) c.as_str.ensures.value
@@ -36,12 +36,12 @@ returns-clause-printed g c =
     let whole = c.args.whole.now in
     let content = content_in file in
     let text = all_text (shows_ends c.args.options.listing) content whole.explored.places
-    (chosen_with content (length file.requirements.items) whole.explored.runs.items) in
+    (chosen_with content (length file.requirements.items) whole.explored.runs) in
     let before = g.W.Write.contents c.args.output.now in
     let after = g.W.Write.contents c.print_chosen.new.output in
     shown_printed c.args.options content text before after c.print_chosen.result
     (all_shown c.args.options content whole text c.requires.whole c.requires.all
-    (sym c.is_forbidden.ensures ∙ c.if-is_forbidden.false) refl)
+    (sym c.in_ok-is_forbidden.ensures ∙ c.if-branch.false) refl)
     (subst (λ ends. WritesIfMemory (all_text ends content whole.explored.places
-    (chosen_with content (length file.requirements.items) whole.explored.runs.items)) before after c.print_chosen.result)
+    (chosen_with content (length file.requirements.items) whole.explored.runs)) before after c.print_chosen.result)
     c.shows_ends-ends.ensures c.print_chosen.ensures.printed)

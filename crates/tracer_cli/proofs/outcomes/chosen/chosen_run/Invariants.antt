@@ -4,10 +4,10 @@ use Rattle.stop_explorer.specs.Search.{commands_in}
 use Rattle.tracer_cli.specs.Chosen.{chosen_of, ending_numbered}
 use Rattle.tracer_cli.proofs.outcomes.chosen.chosen_run.Given as goal
 
-abbrev pub invariant-loop-run : goal.invariant-loop-run
-invariant-loop-run g l = record {
-  few : l.count ≤ l.run-index;
+abbrev pub invariant-loop-at : goal.invariant-loop-at
+invariant-loop-at g l = record {
+  few : l.count ≤ l.at;
   found : ending_numbered (l.number - l.count)
-      (chosen_of (length l.commands) (commands_in l.commands) l.conditions (drop l.run-index l.runs))
-      ≡ ending_numbered l.number (chosen_of (length l.commands) (commands_in l.commands) l.conditions l.runs);
+      (chosen_of (length l.commands) (commands_in l.commands) l.conditions (drop l.at l.explored.runs))
+      ≡ ending_numbered l.number (chosen_of (length l.commands) (commands_in l.commands) l.conditions l.explored.runs);
 }

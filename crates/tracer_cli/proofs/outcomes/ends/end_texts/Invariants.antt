@@ -6,10 +6,10 @@ use Rattle.tracer_cli.specs.LitmusDraft.{names_kept}
 use Rattle.tracer_cli.specs.OutcomeEnds.{outcome_end}
 use Rattle.tracer_cli.proofs.outcomes.ends.end_texts.Given as goal
 
-abbrev pub invariant-loop-run : goal.invariant-loop-run
-invariant-loop-run g l =
+abbrev pub invariant-loop-number : goal.invariant-loop-number
+invariant-loop-number g l =
     map string_bytes l.ends.items
     ++ map (outcome_end l.rows (names_kept l.names) (commands_in l.commands))
-    (chosen_of (length l.commands) (commands_in l.commands) l.conditions (drop l.run-index l.runs))
+    (chosen_of (length l.commands) (commands_in l.commands) l.conditions (drop l.number l.explored.runs))
     ≡ map (outcome_end l.rows (names_kept l.names) (commands_in l.commands))
-    (chosen_of (length l.commands) (commands_in l.commands) l.conditions l.runs)
+    (chosen_of (length l.commands) (commands_in l.commands) l.conditions l.explored.runs)

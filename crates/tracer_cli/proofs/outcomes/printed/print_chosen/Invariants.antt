@@ -1,5 +1,5 @@
 -- What is written and collected, and the outcomes that are left, are what was collected before and all outcomes.
-use Rattle.std.proofs.Common.{◌≤◌, ◌+◌, drop, length, string_bytes}
+use Rattle.std.proofs.Common.{◌≡◌, ◌≤◌, ◌+◌, drop, length, string_bytes}
 use Rattle.stop_explorer.specs.Search.{commands_in}
 use Rattle.tracer_cli.specs.Chosen.{chosen_of}
 use Rattle.tracer_cli.specs.LitmusDraft.{names_kept}
@@ -8,17 +8,22 @@ use Rattle.tracer_cli.specs.TurnTexts.{AreTextsOf, text_source}
 use Rattle.tracer_cli.proofs.Printing.{IsSoFar}
 use Rattle.tracer_cli.proofs.outcomes.printed.print_chosen.Given as goal
 
-abbrev pub invariant-loop-run : goal.invariant-loop-run
-invariant-loop-run g l = record {
-  few : l.before ≤ l.run-index;
+abbrev pub invariant-loop-number : goal.invariant-loop-number
+invariant-loop-number g l = record {
+  few : l.before ≤ l.number;
+  counted : l.before
+      + length (chosen_of (length l.program.commands.now) (commands_in l.program.commands.now) l.printed.conditions.now
+      (drop l.number l.printed.explored.now.runs))
+      ≡ l.printed.count;
   texts : AreTextsOf (text_source l.program) l.printer.texts;
   so_far : IsSoFar (g.W.Write.contents l.fn.output) (g.W.Write.contents l.output) (string_bytes l.fn.printer.text)
       (outcome_texts l.program.rows.now (names_kept l.program.names.now) l.program.voices.now
-      (commands_in l.program.commands.now) 1 l.count
-      (chosen_of (length l.program.commands.now) (commands_in l.program.commands.now) l.conditions l.runs))
+      (commands_in l.program.commands.now) 1 l.printed.count
+      (chosen_of (length l.program.commands.now) (commands_in l.program.commands.now) l.printed.conditions.now
+      l.printed.explored.now.runs))
       (string_bytes l.printer.text)
       (outcome_texts l.program.rows.now (names_kept l.program.names.now) l.program.voices.now
-      (commands_in l.program.commands.now) (l.before + 1) l.count
-      (chosen_of (length l.program.commands.now) (commands_in l.program.commands.now) l.conditions
-      (drop l.run-index l.runs)));
+      (commands_in l.program.commands.now) (l.before + 1) l.printed.count
+      (chosen_of (length l.program.commands.now) (commands_in l.program.commands.now) l.printed.conditions.now
+      (drop l.number l.printed.explored.now.runs)));
 }

@@ -3,6 +3,7 @@ pub mod AllOf
 pub mod CameTrue
 pub mod Commands
 pub mod DoneTurns
+pub mod EqualStates
 pub mod ExploredFiles
 pub mod FirstOf
 pub mod Guesses

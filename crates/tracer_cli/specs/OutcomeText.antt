@@ -1,6 +1,6 @@
 -- The text of outcomes: what each thread was answered, and the command that it waits at; the last states of the
 -- tracees; and one order that leads there.
-use Rattle.std.specs.Prelude.{◌+◌, ◌++◌, ◌∷◌, [], ℕ, Bool, true, false, List, length, zip, flat_map}
+use Rattle.std.specs.Prelude.{◌≡◌, ◌+◌, ◌++◌, ◌∷◌, [], ℕ, Bool, true, false, List, length, zip, flat_map}
 use Rattle.std.specs.Prelude.{Option, Some, None, slice_get, slice_index_or, codes, decimal}
 use Rattle.stop_history.specs.declared.roster.Row.{Row}
 use Rattle.stop_history.specs.declared.state.State.{State}
@@ -81,6 +81,14 @@ tracee_line tracee = decimal tracee.0.tid ++ codes " " ++ (state_text tracee.1 +
 
 abbrev pub tracees_text : List Row → List State → List ℕ
 tracees_text rows states = codes "tracees\n" ++ flat_map tracee_line (zip rows states)
+
+-- states of the tracees, and a text
+pub record StatesText : Type 0 where
+  pub states : List State
+  pub text : List ℕ
+
+abbrev pub IsTextOfStates : List Row → StatesText → Type 0
+IsTextOfStates rows kept = kept.text ≡ tracees_text rows kept.states
 
 -- ---- the order
 

@@ -9,5 +9,6 @@ pub(crate) mod printed;
 pub(crate) mod replay_order;
 mod replay_text;
 pub(crate) mod text;
+mod tracees_text;
 mod turn_texts;
 mod waiting;

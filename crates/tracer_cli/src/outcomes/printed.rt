@@ -6,12 +6,14 @@ ghost use Rattle.stop_explorer.specs.Search.{commands_in};
 ghost use Rattle.tracer_cli.specs.Chosen.{chosen_of};
 ghost use Rattle.tracer_cli.specs.CutOff.{IsCollected, IsCutOff};
 ghost use Rattle.tracer_cli.specs.LitmusDraft.{AreTexts, names_kept};
-ghost use Rattle.tracer_cli.specs.OutcomeText.{allowed_line, chosen_text, counts_line, outcome_text, outcome_texts};
+ghost use Rattle.tracer_cli.specs.OutcomeText.{IsTextOfStates, allowed_line, chosen_text, counts_line};
+ghost use Rattle.tracer_cli.specs.OutcomeText.{outcome_text, outcome_texts};
 ghost use Rattle.tracer_cli.specs.Run.{IsUnwritten, WritesIfMemory};
 ghost use Rattle.tracer_cli.specs.TurnTexts.{AreTextsOf, text_source};
 
 use super::chosen::{asks_nothing, count_chosen, is_printed};
 use super::text::{ToldProgram, write_end, write_outcome};
+use super::tracees_text::TraceesText;
 use super::turn_texts::{LINE, TurnTexts};
 use crate::failure::Failure;
 use crate::litmus::required::Condition;
@@ -24,11 +26,13 @@ use stop_explorer::{Explored, FoundRun};
 /// From how many bytes on what is collected is written.
 const ENOUGH: usize = 65_536;
 
-/// What outcomes are printed by: the text that is collected, and the texts of the turns of the outcome before.
+/// What outcomes are printed by: the text that is collected, and of the outcome before the texts of the turns, and that of
+/// the tracees' states.
 #[derive(Drop)]
 struct Printer<A: Allocator> {
     text: String<A>,
     texts: TurnTexts<A>,
+    tracees: TraceesText<A>,
 }
 
 /// What is printed: of the outcomes that were found those that are chosen, by these conditions too, and their number.
@@ -83,12 +87,15 @@ fn collect_outcome<A: Allocator + Copy>(
 ) -> Result<(), NoMemory>
     requires names { AreTexts program.now.names.now }
     requires texts { AreTextsOf (text_source program.now) printer.old.texts }
+    requires tracees { IsTextOfStates program.now.rows.now printer.old.tracees }
     ensures text { OnOk result (string_bytes printer.new.text ≡ string_bytes printer.old.text
         ++ outcome_text program.now.rows.now (names_kept program.now.names.now) program.now.voices.now
         (commands_in program.now.commands.now) number count run.now) }
     ensures texts { OnOk result (AreTextsOf (text_source program.now) printer.new.texts) }
+    ensures tracees { OnOk result (IsTextOfStates program.now.rows.now printer.new.tracees) }
 {
     printer.texts.set_turns(program, run.turns())?;
+    printer.tracees.set_states(program.rows, run.states())?;
     write_outcome(
         &mut printer.text,
         program,
@@ -96,6 +103,7 @@ fn collect_outcome<A: Allocator + Copy>(
         count,
         run,
         &printer.texts,
+        printer.tracees.text(),
     )
 }
 
@@ -111,11 +119,13 @@ fn print_outcome<A: Allocator + Copy, W: Write>(
 ) -> Result<(), CutOff>
     requires names { AreTexts program.now.names.now }
     requires texts { AreTextsOf (text_source program.now) printer.old.texts }
+    requires tracees { IsTextOfStates program.now.rows.now printer.old.tracees }
     ensures ok { OnOk result (IsCollected (W.contents output.old) (W.contents output.new)
         (string_bytes printer.old.text)
         (outcome_text program.now.rows.now (names_kept program.now.names.now) program.now.voices.now
         (commands_in program.now.commands.now) number count run.now) (string_bytes printer.new.text)) }
     ensures texts { OnOk result (AreTextsOf (text_source program.now) printer.new.texts) }
+    ensures tracees { OnOk result (IsTextOfStates program.now.rows.now printer.new.tracees) }
     ensures cut_off { IfErr result (λ _. IsCutOff (W.contents output.old) (W.contents output.new)
         (string_bytes printer.old.text
         ++ outcome_text program.now.rows.now (names_kept program.now.names.now) program.now.voices.now
@@ -164,6 +174,7 @@ fn print_chosen<A: Allocator + Copy, W: Write>(
 ) -> Result<(), CutOff>
     requires names { AreTexts program.now.names.now }
     requires texts { AreTextsOf (text_source program.now) printer.old.texts }
+    requires tracees { IsTextOfStates program.now.rows.now printer.old.tracees }
     requires counted { printed.now.count ≡ length (chosen_of (length program.now.commands.now)
         (commands_in program.now.commands.now) printed.now.conditions.now printed.now.explored.now.runs) }
     ensures ok { OnOk result (IsCollected (W.contents output.old) (W.contents output.new)
@@ -224,6 +235,7 @@ fn print_all<A: Allocator + Copy, W: Write>(
 ) -> Result<(), CutOff>
     requires names { AreTexts program.now.names.now }
     requires texts { AreTextsOf (text_source program.now) printer.old.texts }
+    requires tracees { IsTextOfStates program.now.rows.now printer.old.tracees }
     requires begin { string_bytes printer.old.text ≡ [] }
     requires counted { printed.now.count ≡ length (chosen_of (length program.now.commands.now)
         (commands_in program.now.commands.now) printed.now.conditions.now printed.now.explored.now.runs) }
@@ -266,7 +278,12 @@ pub(crate) fn print_outcomes<A: Allocator + Copy, W: Write>(
     let texts = TurnTexts::new(alloc, program, turns)?;
     let mut run = room_for_runs(alloc, explored)?;
     let count = count_chosen(alloc, program.commands, conditions, explored)?;
-    let mut printer = Printer { text, texts };
+    let tracees = TraceesText::new(alloc, program.rows)?;
+    let mut printer = Printer {
+        text,
+        texts,
+        tracees,
+    };
     let printed = Printed {
         conditions,
         explored,

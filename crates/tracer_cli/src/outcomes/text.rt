@@ -182,7 +182,7 @@ fn write_tracee<A: Allocator>(out: &mut String<A>, row: &Row, state: State) -> R
 }
 
 /// Writes the tracees and their states.
-fn write_tracees<A: Allocator>(
+pub(super) fn write_tracees<A: Allocator>(
     out: &mut String<A>,
     rows: &[Row],
     states: &[State],
@@ -220,11 +220,16 @@ fn write_outcome_line<A: Allocator>(
 ) -> Result<(), NoMemory>
     ensures { OnOk result (string_bytes out.new ≡ string_bytes out.old ++ outcome_line number count) }
 {
-    write!(out, "outcome {number} of {count}\n")?;
+    out.push_str("outcome ")?;
+    write_decimal(out, number)?;
+    out.push_str(" of ")?;
+    write_decimal(out, count)?;
+    out.push_str("\n")?;
     Ok(())
 }
 
-/// Writes an outcome, with its number and how many there are, and an empty line after it.
+/// Writes an outcome, with its number and how many there are, and an empty line after it. `tracees` is the text of the
+/// states of its rows.
 #[tactic(auto, using(crate::proofs::Written::in_five))]
 pub(crate) fn write_outcome<A: Allocator>(
     out: &mut String<A>,
@@ -233,16 +238,18 @@ pub(crate) fn write_outcome<A: Allocator>(
     count: usize,
     run: &FoundRun<A>,
     texts: &TurnTexts<A>,
+    tracees: &str,
 ) -> Result<(), NoMemory>
     requires texts { AreTextsOf (text_source program.now) texts.now }
     requires turns { turns_written texts.now.turns ≡ run.now.turns }
+    requires tracees { tracees.now ≡ tracees_text program.now.rows.now run.now.states }
     ensures { OnOk result (string_bytes out.new ≡ string_bytes out.old
         ++ outcome_text program.now.rows.now (names_kept program.now.names.now) program.now.voices.now
         (commands_in program.now.commands.now) number count run.now) }
 {
     write_outcome_line(out, number, count)?;
     write_threads(out, program, run, texts)?;
-    write_tracees(out, program.rows, run.states())?;
+    out.push_str(tracees)?;
     out.push_str(texts.order())?;
     out.push_str("\n")?;
     Ok(())

@@ -4,7 +4,7 @@ use Rattle.std.proofs.lemmas.List.{nil_from_length}
 use Rattle.stop_explorer.specs.Search.{commands_in}
 use Rattle.tracer_cli.specs.Chosen.{chosen_of}
 use Rattle.tracer_cli.specs.LitmusDraft.{names_kept}
-use Rattle.tracer_cli.specs.OutcomeText.{outcome_text, outcome_texts}
+use Rattle.tracer_cli.specs.OutcomeText.{IsTextOfStates, outcome_text, outcome_texts}
 use Rattle.tracer_cli.specs.TurnTexts.{AreTextsOf, text_source}
 use Rattle.tracer_cli.proofs.OutcomeLines.{chosen_here, chosen_not_here, chosen_over, outcomes_more, outcomes_over}
 use Rattle.tracer_cli.proofs.OutcomeLines.{outcomes_some}
@@ -90,6 +90,8 @@ loop-number-preserved g c =
             counted = omega (arith, w.before-is, ap length next, c.loop-number.invariant.counted);
             texts = subst (λ printer. AreTextsOf (text_source program) printer.texts) (sym w.printer-is)
                 w.in_ok-print_outcome.ensures.texts;
+            tracees = subst (λ printer. IsTextOfStates rows printer.tracees) (sym w.printer-is)
+                w.in_ok-print_outcome.ensures.tracees;
             so_far = so_far_as start (g.W.Write.contents w.print_outcome.new.output)
                 (g.W.Write.contents c.if-is_printed.output) old all (string_bytes w.print_outcome.new.printer.text)
                 (string_bytes c.if-is_printed.printer.text)
@@ -112,6 +114,8 @@ loop-number-preserved g c =
             counted = omega (arith, w.before-is, ap length gone, c.loop-number.invariant.counted);
             texts = subst (λ printer. AreTextsOf (text_source program) printer.texts) (sym w.printer-is)
                 c.loop-number.invariant.texts;
+            tracees = subst (λ printer. IsTextOfStates rows printer.tracees) (sym w.printer-is)
+                c.loop-number.invariant.tracees;
             so_far = so_far_as start (g.W.Write.contents c.loop-number.output)
                 (g.W.Write.contents c.if-is_printed.output) old all (string_bytes c.loop-number.printer.text)
                 (string_bytes c.if-is_printed.printer.text) here after (ap g.W.Write.contents w.output-is)

@@ -3,7 +3,7 @@ use Rattle.std.proofs.Common.{◌≡◌, ◌≤◌, ◌+◌, drop, length, strin
 use Rattle.stop_explorer.specs.Search.{commands_in}
 use Rattle.tracer_cli.specs.Chosen.{chosen_of}
 use Rattle.tracer_cli.specs.LitmusDraft.{names_kept}
-use Rattle.tracer_cli.specs.OutcomeText.{outcome_texts}
+use Rattle.tracer_cli.specs.OutcomeText.{IsTextOfStates, outcome_texts}
 use Rattle.tracer_cli.specs.TurnTexts.{AreTextsOf, text_source}
 use Rattle.tracer_cli.proofs.Printing.{IsSoFar}
 use Rattle.tracer_cli.proofs.outcomes.printed.print_chosen.Given as goal
@@ -16,6 +16,7 @@ invariant-loop-number g l = record {
       (drop l.number l.printed.explored.now.runs))
       ≡ l.printed.count;
   texts : AreTextsOf (text_source l.program) l.printer.texts;
+  tracees : IsTextOfStates l.program.rows.now l.printer.tracees;
   so_far : IsSoFar (g.W.Write.contents l.fn.output) (g.W.Write.contents l.output) (string_bytes l.fn.printer.text)
       (outcome_texts l.program.rows.now (names_kept l.program.names.now) l.program.voices.now
       (commands_in l.program.commands.now) 1 l.printed.count

@@ -141,7 +141,7 @@ fn has_no_reply(commands: &[ThreadCommand]) -> bool
     commands.iter().all(|command| command.wanted.is_none())
 }
 
-/// Whether an outcome is printed. `all`: every outcome is, as `asks_nothing` says.
+/// Whether an outcome is printed. `all` is what `asks_nothing` answers.
 pub(crate) fn is_printed<A: Allocator>(
     all: bool,
     commands: &[Vec<ThreadCommand, A>],
@@ -178,7 +178,7 @@ pub(crate) fn count_chosen<A: Allocator + Copy>(
     Ok(count)
 }
 
-/// The outcome that is printed with this number, if there is one.
+/// The outcome that is printed with this number, from 1 on, if there is one.
 pub(crate) fn chosen_run<A: Allocator + Copy>(
     alloc: A,
     commands: &[Vec<ThreadCommand, A>],

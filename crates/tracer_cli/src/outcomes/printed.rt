@@ -26,8 +26,8 @@ use stop_explorer::{Explored, FoundRun};
 /// From how many bytes on what is collected is written.
 const ENOUGH: usize = 65_536;
 
-/// What outcomes are printed by: the text that is collected, and of the outcome before the texts of the turns, and that of
-/// the tracees' states.
+/// What outcomes are printed by: the text that is not written yet, and, kept from the outcome before, the texts of its
+/// turns and that of its tracees' states.
 #[derive(Drop)]
 struct Printer<A: Allocator> {
     text: String<A>,
@@ -137,7 +137,8 @@ fn print_outcome<A: Allocator + Copy, W: Write>(
     }
 }
 
-/// A run to read outcomes into, with room for each of them: all have as many rows, and the last one has the most turns.
+/// A run to read outcomes into, with room for each of them: all have as many rows, and the last one has the most turns,
+/// by the order of outcomes, which is only tested.
 fn room_for_runs<A: Allocator + Copy>(
     alloc: A,
     explored: &Explored<A>,
@@ -149,7 +150,8 @@ fn room_for_runs<A: Allocator + Copy>(
     Ok(run)
 }
 
-/// Reads the outcome of a number. If memory were refused, in spite of the room, what is printed would end there.
+/// Reads the outcome of a number. If memory were refused, in spite of the room, what is printed would end there, and
+/// the program would say that it cannot write.
 fn read_outcome<A: Allocator>(
     explored: &Explored<A>,
     number: usize,
@@ -164,7 +166,8 @@ fn read_outcome<A: Allocator>(
     }
 }
 
-/// Prints the outcomes that are chosen, numbered from 1. Each is read into `run`, and none after the last one.
+/// Prints the outcomes that are chosen, numbered from 1. Each is read into `run`, and nothing is read after the last
+/// one.
 fn print_chosen<A: Allocator + Copy, W: Write>(
     printer: &mut Printer<A>,
     output: &mut W,

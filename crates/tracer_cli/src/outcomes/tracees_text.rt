@@ -1,5 +1,5 @@
-//! The text of the tracees' states, kept from one outcome to the next: outcomes that follow one another often end in the
-//! same states.
+//! The text of the tracees' states, kept from one outcome to the next: outcomes that follow one another often end in
+//! the same states.
 
 ghost use Rattle.std.specs.Prelude.{◌≡◌, IfOk, OnOk};
 ghost use Rattle.tracer_cli.specs.OutcomeText.{IsTextOfStates};
@@ -27,7 +27,7 @@ impl<A: Allocator> Model for TraceesText<A> {
 }
 
 impl<A: Allocator + Copy> TraceesText<A> {
-    /// The text of no states. Room is made for a line of each row.
+    /// The line `tracees` alone, for no states. Room is made for a line of each row.
     pub(super) fn new(alloc: A, rows: &[Row]) -> Result<TraceesText<A>, NoMemory>
         ensures { IfOk result (IsTextOfStates rows.now) }
     {
@@ -40,7 +40,7 @@ impl<A: Allocator + Copy> TraceesText<A> {
 }
 
 impl<A: Allocator> TraceesText<A> {
-    /// Sets the states to these. Where they are the same, nothing is written.
+    /// Sets the states to these. Where they are the same, the text is kept.
     pub(super) fn set_states(&mut self, rows: &[Row], states: &[State]) -> Result<(), NoMemory>
         requires { IsTextOfStates rows.now self.old }
         ensures text { OnOk result (IsTextOfStates rows.now self.new) }

@@ -50,7 +50,7 @@ has_no_reply commands = list_all (λ command. is_none command.wanted) commands
 abbrev pub lacks_replies : {Z : Type 0} → (lists : List (Vec ThreadCommand Z)) → Bool
 lacks_replies lists = list_all (λ own. has_no_reply own.items) lists
 
--- and there is no condition: nothing is asked of an outcome
+-- no command of any thread has a reply, and there is no condition
 abbrev pub asks_nothing : {Z : Type 0} → (lists : List (Vec ThreadCommand Z)) → List Condition → Bool
 asks_nothing lists conditions = length conditions == 0 && lacks_replies lists
 

@@ -116,8 +116,8 @@ pub(crate) fn is_chosen<A: Allocator>(
     have_come_true(commands, run.turns()) && conditions_hold(commands, conditions, run)
 }
 
-/// Whether no command has a reply, and there is no condition. Then every outcome is printed, and none has to be read to
-/// know that.
+/// Whether no command has a reply and there is no condition. Every outcome is printed then, so outcomes need not be
+/// read to be counted.
 pub(crate) fn asks_nothing<A: Allocator>(
     commands: &[Vec<ThreadCommand, A>],
     conditions: &[Condition],

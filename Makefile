@@ -48,7 +48,7 @@ scarce-memory:
 # PROGRAM=FILE is the program, which is built already. It needs a C compiler, and so is no part of the gate.
 refused-memory: PROGRAM ?= bin/tracer
 refused-memory:
-	@echo "refused-memory: running $(PROGRAM) on examples with each allocation refused in turn (half a minute)"
+	@echo "refused-memory: running $(PROGRAM) on examples with each allocation refused in turn (a few minutes)"
 	@$(PYTHON) tools/refused_memory.py $(PROGRAM)
 
 man-page: kit

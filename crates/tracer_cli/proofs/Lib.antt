@@ -1,5 +1,6 @@
 pub mod AllChosen
 pub mod AllOf
+pub mod Beginnings
 pub mod CameTrue
 pub mod Commands
 pub mod DoneTurns
@@ -8,6 +9,7 @@ pub mod ExploredFiles
 pub mod FirstOf
 pub mod Guesses
 pub mod Halving
+pub mod KeptLines
 pub mod LinesBack
 pub mod LitmusCopies
 pub mod LitmusFiles

@@ -2,7 +2,7 @@
 use Rattle.std.proofs.Common.{refl, ◌≡◌, ◌++◌, ◌∷◌, [], ℕ, Bool, true, false, List, Option, Some, None}
 use Rattle.std.proofs.Common.{◌<◌, ◌≤◌, ◌+◌, ◌-◌, length, get_or, take, slice_get, slice_set, codes, ◌∙◌, ap, sym, subst}
 use Rattle.std.proofs.Common.{append_assoc, append-nil, arith, inl, inr, if◌then◌else◌}
-use Rattle.std.proofs.lemmas.List.{length-append, length-set, length_push, map-append, set_past, take_more_same, get_or-map, length-map}
+use Rattle.std.proofs.lemmas.List.{length-append, length-set, length_push, map-append, set_past}
 use Rattle.std.proofs.lemmas.Option.{same_Some, slice_get_within}
 use Rattle.std.proofs.Math.Seq.{get_or-append_seam, take-append_seam}
 use Rattle.std.proofs.lemmas.Bool.{cases_lt}
@@ -20,6 +20,7 @@ use Rattle.tracer_workers.proofs.TurnEnds.{get_set_other, set_there}
 use Rattle.tracer_cli.specs.declared.outcomes.turn_texts.WrittenTurn.{WrittenTurn}
 use Rattle.tracer_cli.specs.AnswerText.{answer_text}
 use Rattle.tracer_cli.specs.CommandText.{command_text}
+use Rattle.tracer_cli.specs.KeptLines.{AreLinesKept}
 use Rattle.tracer_cli.specs.OutcomeText.{command_of_turn, done_line, name_at, order_lines, order_text, quiet_line}
 use Rattle.tracer_cli.specs.OutcomeText.{thread_head, thread_lines, thread_text, thread_word, told_lines, turn_line}
 use Rattle.tracer_cli.specs.OutcomeText.{waiting_line}
@@ -146,15 +147,17 @@ first_more t threads first are is = λ thread within.
 
 pub texts_none : (t : TextSource) (told : TextsOfTurns) → told.turns ≡ [] → AreBeforeTurns t told.threads
     → told.order ≡ codes "order\n" → length t.names ≤ length told.threads
-    → ((thread : ℕ) → length told.threads ≤ thread → t.commands thread ≡ []) → AreTextsOf t told
+    → ((thread : ℕ) → length told.threads ≤ thread → t.commands thread ≡ [])
+    → AreLinesKept t.rows t.names t.commands told.lines → AreTextsOf t told
 unfolding AreWrittenTurns order_lines
-texts_none t told no_turns first order names others = record {
+texts_none t told no_turns first order names others lines = record {
   turns = subst (AreWrittenTurns t (length told.threads) []) (sym no_turns) tt;
   threads = λ thread within.
       first thread within ∙ ap (λ turns. Some (thread_so_far t thread (own_turns thread (turns_written turns)))) (sym no_turns);
   order = order ∙ ap (λ turns. order_text t.rows t.names t.commands (turns_written turns)) (sym no_turns);
   names = names;
   others = others;
+  lines = lines;
 }
 
 -- after a turn more
@@ -163,8 +166,9 @@ pub texts_more : (t : TextSource) (old new : TextsOfTurns) (kept : WrittenTurn) 
     → IsWrittenTurn t (length old.threads) (turns_written old.turns) kept
     → (kept.turn.thread < length old.threads
     → owner ≡ thread_so_far t kept.turn.thread (own_turns kept.turn.thread (turns_written old.turns) ++ kept.turn ∷ []))
-    → new.order ≡ order_text t.rows t.names t.commands (turns_written old.turns ++ kept.turn ∷ []) → AreTextsOf t new
-texts_more t old new kept owner told turns_are threads_are is_kept own order_is =
+    → new.order ≡ order_text t.rows t.names t.commands (turns_written old.turns ++ kept.turn ∷ [])
+    → AreLinesKept t.rows t.names t.commands new.lines → AreTextsOf t new
+texts_more t old new kept owner told turns_are threads_are is_kept own order_is lines =
     let log = turns_written old.turns in
     let more : turns_written new.turns ≡ log ++ kept.turn ∷ [] = ap turns_written turns_are ∙ turns_one old.turns kept in
     let count : length new.threads ≡ length old.threads =
@@ -196,13 +200,14 @@ texts_more t old new kept owner told turns_are threads_are is_kept own order_is 
       order = order_is ∙ ap (order_text t.rows t.names t.commands) (sym more);
       names = subst (λ n. length t.names ≤ n) (sym count) told.names;
       others = λ thread past. told.others thread (subst (λ n. n ≤ thread) count past);
+      lines = lines;
     }
 
 -- of a thread that the program does not have
 pub texts_past : (t : TextSource) (old new : TextsOfTurns) (kept : WrittenTurn) → AreTextsOf t old
     → new.turns ≡ old.turns ++ kept ∷ [] → new.threads ≡ old.threads → new.order ≡ old.order
-    → kept.order_len ≡ length old.order → length old.threads ≤ kept.turn.thread → AreTextsOf t new
-texts_past t old new kept told turns_are threads_are order_is long past =
+    → kept.order_len ≡ length old.order → length old.threads ≤ kept.turn.thread → new.lines ≡ old.lines → AreTextsOf t new
+texts_past t old new kept told turns_are threads_are order_is long past lines_are =
     let log = turns_written old.turns in
     let owner = kept.turn.thread in
     let any : ThreadText = record { text = []; next = 0 } in
@@ -217,6 +222,7 @@ texts_past t old new kept told turns_are threads_are order_is long past =
     ∙ ap (λ did. order_text t.rows t.names t.commands log ++ turn_line t.rows (name_at t.names owner) kept.turn did)
     (ap (λ commands. slice_get commands (index_from (t.commands owner) 0 (own_turns owner log))) (told.others owner past))
     ∙ append-nil (order_text t.rows t.names t.commands log)))
+    (subst (AreLinesKept t.rows t.names t.commands) (sym lines_are) told.lines)
 
 -- a thread without a next command
 pub thread_same : (quiet : Bool) (commands : List ThreadCommand) (turn : Turn) (told : ThreadText)
@@ -235,9 +241,10 @@ pub texts_done : (t : TextSource) (old new : TextsOfTurns) (kept : WrittenTurn) 
     → did ≡ slice_get (t.commands kept.turn.thread) before.next
     → after ≡ thread_after_turn (is_quiet t.voices kept.turn.thread) (t.commands kept.turn.thread) kept.turn
     (done_line t.rows kept.turn did) before
-    → new.order ≡ old.order ++ turn_line t.rows (name_at t.names kept.turn.thread) kept.turn did → AreTextsOf t new
+    → new.order ≡ old.order ++ turn_line t.rows (name_at t.names kept.turn.thread) kept.turn did
+    → AreLinesKept t.rows t.names t.commands new.lines → AreTextsOf t new
 texts_done t old new kept before after did told turns_are threads_are before_is order_is text_is next_is did_is after_is
-    new_order =
+    new_order lines =
     let log = turns_written old.turns in
     let owner = kept.turn.thread in
     let own = own_turns owner log in
@@ -256,14 +263,15 @@ texts_done t old new kept before after did told turns_are threads_are before_is 
     (new_order
     ∙ (λ i. told.order i ++ turn_line t.rows (name_at t.names owner) kept.turn (done i))
     ∙ sym (order_one t log kept.turn))
+    lines
 
 -- with the last one taken back
 pub texts_less : (t : TextSource) (old new : TextsOfTurns) (kept : WrittenTurn) (before : ThreadText) → AreTextsOf t old
     → old.turns ≡ new.turns ++ kept ∷ []
     → new.threads ≡ slice_set old.threads kept.turn.thread (record { text = take kept.text_len before.text; next = kept.next })
     → (kept.turn.thread < length old.threads → slice_get old.threads kept.turn.thread ≡ Some before)
-    → new.order ≡ take kept.order_len old.order → AreTextsOf t new
-texts_less t old new kept before told turns_are threads_are is order_is =
+    → new.order ≡ take kept.order_len old.order → new.lines ≡ old.lines → AreTextsOf t new
+texts_less t old new kept before told turns_are threads_are is order_is lines_are =
     let log = turns_written new.turns in
     let more : turns_written old.turns ≡ log ++ kept.turn ∷ [] = ap turns_written turns_are ∙ turns_one new.turns kept in
     let kepts = kept_last t (length old.threads) [] new.turns kept
@@ -308,6 +316,7 @@ texts_less t old new kept before told turns_are threads_are is order_is =
           ∙ take-append_seam (order_text t.rows t.names t.commands log) told_line;
       names = subst (λ n. length t.names ≤ n) (sym count) told.names;
       others = λ thread past. told.others thread (subst (λ n. n ≤ thread) count past);
+      lines = subst (AreLinesKept t.rows t.names t.commands) (sym lines_are) told.lines;
     }
 
 -- ---- lines end in a line feed
@@ -452,12 +461,3 @@ pub thread_whole : (t : TextSource) (thread : ℕ) (ending : EndedRun)
     ≡ thread_text t.rows t.voices t.commands ending thread (name_at t.names thread)
 thread_whole t thread ending =
     by_voice t thread ending (is_quiet t.voices thread) (thread_head (thread + 1) (name_at t.names thread))
-
--- ---- the turns that are the same
-
-pub same_more : (told : List WrittenTurn) (turns : Log) (at : ℕ) (any : WrittenTurn) (d : Turn) → at < length told
-    → at < length turns → (get_or told at any).turn ≡ get_or turns at d → take at (turns_written told) ≡ take at turns
-    → take (at + 1) (turns_written told) ≡ take (at + 1) turns
-same_more told turns at any d first second same so_far =
-    take_more_same (turns_written told) turns at d (subst (λ n. at < n) (sym (length-map told (λ it. it.turn))) first)
-    second so_far (get_or-map (λ (it : WrittenTurn). it.turn) told at any d first ∙ same)

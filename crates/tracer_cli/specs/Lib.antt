@@ -11,6 +11,7 @@ pub mod Failure
 pub mod File
 pub mod Grammar
 pub mod Job
+pub mod KeptLines
 pub mod LitmusCondition
 pub mod LitmusDraft
 pub mod LitmusFile

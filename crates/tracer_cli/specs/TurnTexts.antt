@@ -12,6 +12,7 @@ use Rattle.stop_explorer.specs.Progress.{is_quiet}
 use Rattle.stop_explorer.specs.Search.{commands_in}
 use Rattle.tracer_cli.specs.declared.outcomes.text.ToldProgram.{ToldProgram}
 use Rattle.tracer_cli.specs.declared.outcomes.turn_texts.WrittenTurn.{WrittenTurn}
+use Rattle.tracer_cli.specs.KeptLines.{AreLinesKept, LineText}
 use Rattle.tracer_cli.specs.LitmusDraft.{names_kept}
 use Rattle.tracer_cli.specs.OutcomeText.{done_line, name_at, order_text, quiet_line, thread_head}
 use Rattle.tracer_cli.specs.OutcomeText.{waiting_line}
@@ -36,11 +37,12 @@ pub record ThreadText : Type 0 where
   pub text : List ℕ
   pub next : ℕ
 
--- the texts of all threads, and the order, with their turns
+-- the texts of all threads, and the order, with their turns; and lines of turns that were written before
 pub record TextsOfTurns : Type 0 where
   pub turns : List WrittenTurn
   pub threads : List ThreadText
   pub order : List ℕ
+  pub lines : List LineText
 
 abbrev pub turns_written : List WrittenTurn → Log
 turns_written turns = map (λ written. written.turn) turns
@@ -105,6 +107,7 @@ pub record AreTextsOf (t : TextSource) (texts : TextsOfTurns) : Type 0 where
   -- each thread that has a name is among them, and no other thread has a command
   pub names : length t.names ≤ length texts.threads
   pub others : (thread : ℕ) → length texts.threads ≤ thread → t.commands thread ≡ []
+  pub lines : AreLinesKept t.rows t.names t.commands texts.lines
 
 -- the same, of some rows, names, voices and commands
 abbrev pub AreTextsOfAny : TextsOfTurns → Type 0

@@ -5,6 +5,7 @@ pub(crate) mod chosen;
 mod command_text;
 mod condition;
 pub(crate) mod ends;
+mod kept_lines;
 pub(crate) mod printed;
 pub(crate) mod replay_order;
 mod replay_text;

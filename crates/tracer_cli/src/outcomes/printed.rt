@@ -1,7 +1,8 @@
 //! Outcomes that are printed as their texts are made, through one buffer.
 
 ghost use Rattle.std.specs.Io.KnownBytes.{Appends};
-ghost use Rattle.std.specs.Prelude.{◌≡◌, ◌<◌, ◌++◌, [], IfErr, OnOk, Some, length, slice_get, string_bytes};
+ghost use Rattle.std.specs.Prelude.{◌≡◌, ◌<◌, ◌≤◌, ◌++◌, [], IfErr, IfOk, OnOk, Some, length, slice_get, string_bytes};
+ghost use Rattle.stop_explorer.specs.OutcomeReader.{BeginAlike};
 ghost use Rattle.stop_explorer.specs.Search.{commands_in};
 ghost use Rattle.tracer_cli.specs.Chosen.{chosen_of};
 ghost use Rattle.tracer_cli.specs.CutOff.{IsCollected, IsCutOff};
@@ -9,7 +10,7 @@ ghost use Rattle.tracer_cli.specs.LitmusDraft.{AreTexts, names_kept};
 ghost use Rattle.tracer_cli.specs.OutcomeText.{IsTextOfStates, allowed_line, chosen_text, counts_line};
 ghost use Rattle.tracer_cli.specs.OutcomeText.{outcome_text, outcome_texts};
 ghost use Rattle.tracer_cli.specs.Run.{IsUnwritten, WritesIfMemory};
-ghost use Rattle.tracer_cli.specs.TurnTexts.{AreTextsOf, text_source};
+ghost use Rattle.tracer_cli.specs.TurnTexts.{AreTextsOf, text_source, turns_written};
 
 use super::chosen::{asks_nothing, count_chosen, is_printed};
 use super::text::{ToldProgram, write_end, write_outcome};
@@ -21,7 +22,7 @@ use crate::parts::{CutOff, write_part};
 use std::alloc::Allocator;
 use std::io::Write;
 use stop_board::NoMemory;
-use stop_explorer::{Explored, FoundRun};
+use stop_explorer::{Explored, FoundRun, OutcomeReader};
 
 /// From how many bytes on what is collected is written.
 const ENOUGH: usize = 65_536;
@@ -77,24 +78,28 @@ fn write_enough<A: Allocator, W: Write>(out: &mut String<A>, output: &mut W) -> 
     Ok(())
 }
 
-/// Adds the text of an outcome to what is collected.
+/// Adds the text of an outcome to what is collected. As many of its turns at the beginning as `same` are those of the
+/// outcome before.
 fn collect_outcome<A: Allocator + Copy>(
     printer: &mut Printer<A>,
     program: &ToldProgram<'_, '_, A>,
     number: usize,
     count: usize,
     run: &FoundRun<A>,
+    same: usize,
 ) -> Result<(), NoMemory>
     requires names { AreTexts program.now.names.now }
     requires texts { AreTextsOf (text_source program.now) printer.old.texts }
     requires tracees { IsTextOfStates program.now.rows.now printer.old.tracees }
+    requires same { BeginAlike same (turns_written printer.old.texts.turns) run.now.turns }
     ensures text { OnOk result (string_bytes printer.new.text ≡ string_bytes printer.old.text
         ++ outcome_text program.now.rows.now (names_kept program.now.names.now) program.now.voices.now
         (commands_in program.now.commands.now) number count run.now) }
     ensures texts { OnOk result (AreTextsOf (text_source program.now) printer.new.texts) }
+    ensures turns { OnOk result (turns_written printer.new.texts.turns ≡ run.now.turns) }
     ensures tracees { OnOk result (IsTextOfStates program.now.rows.now printer.new.tracees) }
 {
-    printer.texts.set_turns(program, run.turns())?;
+    printer.texts.set_turns(program, run.turns(), same)?;
     printer.tracees.set_states(program.rows, run.states())?;
     write_outcome(
         &mut printer.text,
@@ -116,68 +121,83 @@ fn print_outcome<A: Allocator + Copy, W: Write>(
     number: usize,
     count: usize,
     run: &FoundRun<A>,
+    same: usize,
 ) -> Result<(), CutOff>
     requires names { AreTexts program.now.names.now }
     requires texts { AreTextsOf (text_source program.now) printer.old.texts }
     requires tracees { IsTextOfStates program.now.rows.now printer.old.tracees }
+    requires same { BeginAlike same (turns_written printer.old.texts.turns) run.now.turns }
     ensures ok { OnOk result (IsCollected (W.contents output.old) (W.contents output.new)
         (string_bytes printer.old.text)
         (outcome_text program.now.rows.now (names_kept program.now.names.now) program.now.voices.now
         (commands_in program.now.commands.now) number count run.now) (string_bytes printer.new.text)) }
     ensures texts { OnOk result (AreTextsOf (text_source program.now) printer.new.texts) }
+    ensures turns { OnOk result (turns_written printer.new.texts.turns ≡ run.now.turns) }
     ensures tracees { OnOk result (IsTextOfStates program.now.rows.now printer.new.tracees) }
     ensures cut_off { IfErr result (λ _. IsCutOff (W.contents output.old) (W.contents output.new)
         (string_bytes printer.old.text
         ++ outcome_text program.now.rows.now (names_kept program.now.names.now) program.now.voices.now
         (commands_in program.now.commands.now) number count run.now)) }
 {
-    match collect_outcome(printer, program, number, count, run) {
+    match collect_outcome(printer, program, number, count, run, same) {
         Ok(()) => write_enough(&mut printer.text, output),
         Err(_) => Err(CutOff),
     }
 }
 
-/// A run to read outcomes into, with room for each of them: all have as many rows, and the last one has the most turns,
-/// by the order of outcomes, which is only tested.
-fn room_for_runs<A: Allocator + Copy>(
+/// A reader of the outcomes, with room for each of them: all have as many rows, and the last one has the most turns, by
+/// the order of outcomes, which is only tested.
+fn reader_with_room<A: Allocator + Copy>(
     alloc: A,
     explored: &Explored<A>,
-) -> Result<FoundRun<A>, NoMemory> {
-    let mut run = FoundRun::new(alloc);
+) -> Result<OutcomeReader<'_, A>, NoMemory>
+    ensures { IfOk result (λ reader. reader.runs ≡ explored.now.runs) }
+{
+    let mut reader = explored.reader(alloc);
     if !explored.is_empty() {
-        explored.read(explored.len() - 1, &mut run)?;
+        reader.read(explored.len() - 1)?;
     }
-    Ok(run)
+    Ok(reader)
 }
 
 /// Reads the outcome of a number. If memory were refused, in spite of the room, what is printed would end there, and
 /// the program would say that it cannot write.
 fn read_outcome<A: Allocator>(
-    explored: &Explored<A>,
+    reader: &mut OutcomeReader<'_, A>,
     number: usize,
-    run: &mut FoundRun<A>,
-) -> Result<(), CutOff>
-    requires { number < length explored.now.runs }
-    ensures { OnOk result (slice_get explored.now.runs number ≡ Some run.new) }
+) -> Result<usize, CutOff>
+    requires { number < length reader.old.runs }
+    ensures runs { reader.new.runs ≡ reader.old.runs }
+    ensures run { OnOk result (slice_get reader.old.runs number ≡ Some reader.new.run) }
+    ensures kept { IfOk result (λ kept. BeginAlike kept reader.old.run.turns reader.new.run.turns) }
 {
-    match explored.read(number, run) {
-        Ok(()) => Ok(()),
+    match reader.read(number) {
+        Ok(kept) => Ok(kept),
         Err(_) => Err(CutOff),
     }
 }
 
-/// Prints the outcomes that are chosen, numbered from 1. Each is read into `run`, and nothing is read after the last
-/// one.
+/// The lesser of two numbers of turns.
+fn lesser(one: usize, other: usize) -> usize
+    ensures first { result ≤ one }
+    ensures second { result ≤ other }
+{
+    one.min(other)
+}
+
+/// Prints the outcomes that are chosen, numbered from 1. Nothing is read after the last one. `same` is the number of
+/// turns at the beginning that the outcome which is read has in common with the one that was printed before.
 fn print_chosen<A: Allocator + Copy, W: Write>(
     printer: &mut Printer<A>,
     output: &mut W,
     program: &ToldProgram<'_, '_, A>,
     printed: &Printed<'_, A>,
-    run: &mut FoundRun<A>,
+    reader: &mut OutcomeReader<'_, A>,
 ) -> Result<(), CutOff>
     requires names { AreTexts program.now.names.now }
     requires texts { AreTextsOf (text_source program.now) printer.old.texts }
     requires tracees { IsTextOfStates program.now.rows.now printer.old.tracees }
+    requires runs { reader.old.runs ≡ printed.now.explored.now.runs }
     requires counted { printed.now.count ≡ length (chosen_of (length program.now.commands.now)
         (commands_in program.now.commands.now) printed.now.conditions.now printed.now.explored.now.runs) }
     ensures ok { OnOk result (IsCollected (W.contents output.old) (W.contents output.new)
@@ -194,13 +214,25 @@ fn print_chosen<A: Allocator + Copy, W: Write>(
 {
     let all = asks_nothing(program.commands, printed.conditions);
     let mut before = 0;
+    let mut same = 0;
     for number in 0..printed.explored.len() {
         if before == printed.count {
             return Ok(());
         }
-        read_outcome(printed.explored, number, run)?;
+        let kept = read_outcome(reader, number)?;
+        same = lesser(same, kept);
+        let run = reader.run();
         if is_printed(all, program.commands, printed.conditions, run) {
-            print_outcome(printer, output, program, before + 1, printed.count, run)?;
+            print_outcome(
+                printer,
+                output,
+                program,
+                before + 1,
+                printed.count,
+                run,
+                same,
+            )?;
+            same = run.turns().len();
             before += 1;
         }
     }
@@ -234,12 +266,13 @@ fn print_all<A: Allocator + Copy, W: Write>(
     program: &ToldProgram<'_, '_, A>,
     printed: &Printed<'_, A>,
     required: bool,
-    run: &mut FoundRun<A>,
+    reader: &mut OutcomeReader<'_, A>,
 ) -> Result<(), CutOff>
     requires names { AreTexts program.now.names.now }
     requires texts { AreTextsOf (text_source program.now) printer.old.texts }
     requires tracees { IsTextOfStates program.now.rows.now printer.old.tracees }
     requires begin { string_bytes printer.old.text ≡ [] }
+    requires runs { reader.old.runs ≡ printed.now.explored.now.runs }
     requires counted { printed.now.count ≡ length (chosen_of (length program.now.commands.now)
         (commands_in program.now.commands.now) printed.now.conditions.now printed.now.explored.now.runs) }
     ensures ok { OnOk result (Appends (W.contents output.old) (W.contents output.new)
@@ -253,7 +286,7 @@ fn print_all<A: Allocator + Copy, W: Write>(
         (chosen_of (length program.now.commands.now) (commands_in program.now.commands.now)
         printed.now.conditions.now printed.now.explored.now.runs))) }
 {
-    print_chosen(printer, output, program, printed, run)?;
+    print_chosen(printer, output, program, printed, reader)?;
     let places = printed.explored.places();
     print_end(&mut printer.text, output, printed.count, places, required)
 }
@@ -279,7 +312,7 @@ pub(crate) fn print_outcomes<A: Allocator + Copy, W: Write>(
     let turns = most_turns(program);
     let text = String::with_capacity(alloc, room(program, turns))?;
     let texts = TurnTexts::new(alloc, program, turns)?;
-    let mut run = room_for_runs(alloc, explored)?;
+    let mut reader = reader_with_room(alloc, explored)?;
     let count = count_chosen(alloc, program.commands, conditions, explored)?;
     let tracees = TraceesText::new(alloc, program.rows)?;
     let mut printer = Printer {
@@ -292,7 +325,14 @@ pub(crate) fn print_outcomes<A: Allocator + Copy, W: Write>(
         explored,
         count,
     };
-    match print_all(&mut printer, output, program, &printed, required, &mut run) {
+    match print_all(
+        &mut printer,
+        output,
+        program,
+        &printed,
+        required,
+        &mut reader,
+    ) {
         Ok(()) => Ok(()),
         Err(CutOff) => Err(Failure::CannotWrite),
     }

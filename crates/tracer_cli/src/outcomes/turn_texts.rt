@@ -3,18 +3,15 @@
 
 ghost use Rattle.std.specs.Prelude.{◌≡◌, ◌+◌, ◌++◌, ◌-◌, ◌∷◌, ◌<◌, ◌≤◌, [], IfOk, OnOk, Some, codes, length};
 ghost use Rattle.std.specs.Prelude.{slice_get, string_bytes, take};
-ghost use Rattle.std.specs.Bool.{Decides};
-ghost use Rattle.stop_explorer.specs.declared.turn.Turn.{Turn};
-ghost use Rattle.tracer_cli.specs.declared.outcomes.turn_texts.WrittenTurn.{WrittenTurn};
+ghost use Rattle.stop_explorer.specs.OutcomeReader.{BeginAlike};
 ghost use Rattle.tracer_cli.specs.LitmusDraft.{AreTexts, names_kept};
-ghost use Rattle.tracer_cli.specs.OutcomeText.{done_line, name_at, thread_word};
+ghost use Rattle.tracer_cli.specs.OutcomeText.{name_at, thread_word};
 ghost use Rattle.tracer_cli.specs.TurnTexts.{AreBeforeTurns, AreTextsOf, AreTextsOfAny, EndsLine, TextSource};
 ghost use Rattle.tracer_cli.specs.TurnTexts.{text_source, thread_after_turn, turns_written};
 
-use super::answer_text::write_answer;
 use super::chosen::{is_quiet, thread_commands};
-use super::command_text::write_command;
-use super::text::{ToldProgram, name_at, write_thread_head, write_thread_word};
+use super::kept_lines::{DoneAt, KeptLines};
+use super::text::{ToldProgram, name_at, write_thread_head};
 use std::alloc::Allocator;
 use std::marker::Model;
 use stop_board::{NoMemory, Row};
@@ -95,14 +92,14 @@ pub(crate) struct WrittenTurn {
 }
 
 /// The texts of the turns of the outcome that was written before; at first, of no turns. Outcomes that follow one
-/// another often begin with the same turns: then only the turns after these are taken back, which saves time. `line` is
-/// a buffer for the line of one turn.
+/// another often begin with the same turns: then only the turns after these are taken back, which saves time. `lines`
+/// are lines of turns that were written before.
 #[derive(Drop)]
 pub(crate) struct TurnTexts<A: Allocator> {
     turns: Vec<WrittenTurn, A>,
     threads: Vec<ThreadSoFar<A>, A>,
     order: String<A>,
-    line: String<A>,
+    lines: KeptLines<A>,
 }
 
 impl<A: Allocator> Model for TurnTexts<A> {
@@ -115,6 +112,7 @@ impl<A: Allocator> Model for TurnTexts<A> {
       turns = t.turns.items;
       threads = t.threads.items;
       order = string_bytes t.order;
+      lines = t.lines;
     } };
 }
 
@@ -131,31 +129,33 @@ impl<A: Allocator + Copy> TurnTexts<A> {
     {
         let count = program.names.len().max(program.commands.len());
         let threads = threads_before_turns(alloc, program, count)?;
-        let line = String::with_capacity(alloc, LINE)?;
+        let lines = KeptLines::new(alloc)?;
         let mut order = String::with_capacity(alloc, turns.saturating_add(1).saturating_mul(LINE))?;
         order.push_str("order\n")?;
         Ok(TurnTexts {
             turns: Vec::with_capacity(alloc, turns)?,
             threads,
             order,
-            line,
+            lines,
         })
     }
 }
 
 impl<A: Allocator> TurnTexts<A> {
-    /// Takes back turns, and adds others, so that the turns are these. Turns at the beginning that are the same stay.
+    /// Takes back turns, and adds others, so that the turns are these. As many turns at the beginning as `same` are the
+    /// same already, and stay.
     pub(crate) fn set_turns(
         &mut self,
         program: &ToldProgram<'_, '_, A>,
         turns: &[Turn],
+        same: usize,
     ) -> Result<(), NoMemory>
         requires names { AreTexts program.now.names.now }
         requires texts { AreTextsOf (text_source program.now) self.old }
+        requires same { BeginAlike same (turns_written self.old.turns) turns.now }
         ensures texts { OnOk result (AreTextsOf (text_source program.now) self.new) }
         ensures turns { OnOk result (turns_written self.new.turns ≡ turns.now) }
     {
-        let same = count_same(self.written(), turns);
         self.keep(same);
         for at in same..turns.len() {
             self.add(program, turns[at])?;
@@ -205,19 +205,16 @@ impl<A: Allocator> TurnTexts<A> {
         })?;
         let own = thread_commands(program.commands, thread);
         if let Some(command) = so_far.next_of(own) {
-            set_line(&mut self.line, program.rows, &turn, &command)?;
-            so_far.add(
-                is_quiet(program.voices, thread),
-                own,
-                &turn,
-                self.line.as_str(),
-            )?;
-            add_order_line(
-                &mut self.order,
-                program.names,
-                turn.thread,
-                self.line.as_str(),
-            )?;
+            let done = DoneAt {
+                turn,
+                at: so_far.next,
+            };
+            let slot = self
+                .lines
+                .find(program.rows, program.names, done, &command)?;
+            let quiet = is_quiet(program.voices, thread);
+            so_far.add(quiet, own, &turn, self.lines.line(slot))?;
+            self.order.push_str(self.lines.named(slot))?;
         }
         Ok(())
     }
@@ -267,53 +264,6 @@ fn cut_after_line<A: Allocator>(text: &mut String<A>, end: usize)
     }
 }
 
-/// Writes a command that was done, and its answer.
-#[tactic(auto, using(crate::proofs::Written::in_three))]
-fn write_done<A: Allocator>(
-    out: &mut String<A>,
-    rows: &[Row],
-    turn: &Turn,
-    command: &ThreadCommand,
-) -> Result<(), NoMemory>
-    ensures { OnOk result (string_bytes out.new
-        ≡ string_bytes out.old ++ done_line rows.now turn.now (Some command.now)) }
-{
-    write_command(out, rows, command)?;
-    out.push_str(": ")?;
-    write_answer(out, rows, command, turn)
-}
-
-/// Sets `line` to the line of a turn that did this command.
-fn set_line<A: Allocator>(
-    line: &mut String<A>,
-    rows: &[Row],
-    turn: &Turn,
-    command: &ThreadCommand,
-) -> Result<(), NoMemory>
-    ensures { OnOk result (string_bytes line.new ≡ done_line rows.now turn.now (Some command.now)) }
-{
-    line.clear();
-    write_done(line, rows, turn, command)
-}
-
-/// Adds a line to the order: the thread's name, or its number if it has none, a space, and the line of the turn.
-#[tactic(auto, using(crate::proofs::Written::in_three))]
-fn add_order_line<A: Allocator>(
-    order: &mut String<A>,
-    names: &[Option<&[u8]>],
-    thread: u32,
-    line: &str,
-) -> Result<(), NoMemory>
-    requires { AreTexts names.now }
-    ensures { OnOk result (string_bytes order.new ≡ string_bytes order.old
-        ++ (thread_word (thread + 1) (name_at (names_kept names.now) thread) ++ codes " " ++ line.now)) }
-{
-    write_thread_word(order, thread as usize + 1, name_at(names, thread as usize))?;
-    order.push_str(" ")?;
-    order.push_str(line)?;
-    Ok(())
-}
-
 /// The texts of the threads before any turn: their heads.
 fn threads_before_turns<A: Allocator + Copy>(
     alloc: A,
@@ -333,28 +283,4 @@ fn threads_before_turns<A: Allocator + Copy>(
         threads.push(ThreadSoFar { text, next: 0 })?;
     }
     Ok(threads)
-}
-
-/// Whether a turn that is written is the same as this one.
-fn is_same_turn(written: &WrittenTurn, turn: &Turn) -> bool
-    ensures { Decides result (written.now.turn ≡ turn.now) }
-{
-    written.turn == *turn
-}
-
-/// How many turns at the beginning are the same in both lists, as many as there are.
-fn count_same(written: &[WrittenTurn], turns: &[Turn]) -> usize
-    ensures within { result ≤ length written.now }
-    ensures shorter { result ≤ length turns.now }
-    ensures same { take result (turns_written written.now) ≡ take result turns.now }
-    ensures most { (one : WrittenTurn) (other : Turn) → slice_get written.now result ≡ Some one →
-        slice_get turns.now result ≡ Some other → ¬ one.turn ≡ other }
-{
-    let most = written.len().min(turns.len());
-    for at in 0..most {
-        if !is_same_turn(&written[at], &turns[at]) {
-            return at;
-        }
-    }
-    most
 }

@@ -1,11 +1,14 @@
 -- The next outcome is printed with the next number, or is left out.
-use Rattle.std.proofs.Common.{◌∙◌, ◌+◌, ap, arith, drop, length, string_bytes, subst, sym}
+use Rattle.std.proofs.Common.{◌≡◌, ◌∙◌, ◌+◌, Some, ap, arith, drop, length, slice_get, string_bytes, subst, sym}
 use Rattle.std.proofs.lemmas.List.{nil_from_length}
+use Rattle.stop_explorer.specs.OutcomeReader.{BeginAlike}
+use Rattle.stop_explorer.specs.Run.{EndedRun}
 use Rattle.stop_explorer.specs.Search.{commands_in}
 use Rattle.tracer_cli.specs.Chosen.{chosen_of}
 use Rattle.tracer_cli.specs.LitmusDraft.{names_kept}
 use Rattle.tracer_cli.specs.OutcomeText.{IsTextOfStates, outcome_text, outcome_texts}
-use Rattle.tracer_cli.specs.TurnTexts.{AreTextsOf, text_source}
+use Rattle.tracer_cli.specs.TurnTexts.{AreTextsOf, text_source, turns_written}
+use Rattle.tracer_cli.proofs.Beginnings.{all_alike, both_alike}
 use Rattle.tracer_cli.proofs.OutcomeLines.{chosen_here, chosen_not_here, chosen_over, outcomes_more, outcomes_over}
 use Rattle.tracer_cli.proofs.OutcomeLines.{outcomes_some}
 use Rattle.tracer_cli.proofs.Printing.{at_last, cut_before, cut_there, one_more, so_far_as}
@@ -36,8 +39,8 @@ returns-then-before-printed-clause-ok g c =
     (nil_from_length left (omega (arith, c.loop-number.invariant.counted, c.if-before-printed.true))))
 
 -- one that is chosen is left
-pub returns-in_err-read_outcome-clause-cut_off : goal.returns-in_err-read_outcome-clause-cut_off
-returns-in_err-read_outcome-clause-cut_off g c =
+pub returns-in_err-kept-clause-cut_off : goal.returns-in_err-kept-clause-cut_off
+returns-in_err-kept-clause-cut_off g c =
     let program = c.args.program.now in
     let threads = length program.commands.now in
     let commands = commands_in program.commands.now in
@@ -59,6 +62,17 @@ returns-in_err-read_outcome-clause-cut_off g c =
     (outcomes_some rows names voices commands (before + 1) count left
     (omega (arith, c.loop-number.invariant.counted, c.if-before-printed.false))))
 
+-- what the printed outcome before, the one read before and this one begin with
+pub print_outcome-requires-clause-same : goal.print_outcome-requires-clause-same
+print_outcome-requires-clause-same g c =
+    let log = turns_written c.loop-number.printer.texts.turns in
+    let same = c.loop-number.same in
+    let kept = c.in_ok-kept.kept in
+    let least = c.lesser-same.result in
+    subst (λ (run : EndedRun). BeginAlike least log run.turns) (sym c.run-run.ensures)
+    (both_alike least same kept log c.loop-number.reader.run.turns c.read_outcome.new.reader.run.turns
+    c.lesser-same.ensures.first c.lesser-same.ensures.second c.loop-number.invariant.same c.in_ok-kept.ensures.kept)
+
 pub loop-number-preserved : goal.loop-number-preserved
 loop-number-preserved g c =
     let program = c.args.program.now in
@@ -72,7 +86,10 @@ loop-number-preserved g c =
     let voices = program.voices.now in
     let number = c.loop-number.number in
     let before = c.loop-number.before in
-    let run = c.read_outcome.new.run in
+    let run = c.run-run.result.now in
+    let here_is : slice_get runs number ≡ Some run =
+    ap (λ rs. slice_get rs number) (sym c.loop-number.invariant.runs) ∙ c.in_ok-kept.ensures.run
+    ∙ ap Some (sym c.run-run.ensures) in
     let rest = chosen_of threads commands conditions (drop (number + 1) runs) in
     let start = g.W.Write.contents c.args.output.now in
     let old = string_bytes c.args.printer.now.text in
@@ -81,9 +98,14 @@ loop-number-preserved g c =
     (chosen_of threads commands conditions (drop number runs)) in
     let after = outcome_texts rows names voices commands (c.if-is_printed.before + 1) count rest in
     let told = sym c.is_printed.ensures in
+    let turns = c.read_outcome.new.reader.run.turns in
+    let turns_are = ap (λ (run : EndedRun). run.turns) c.run-run.ensures in
+    let same = c.loop-number.same in
+    let kept = c.in_ok-kept.kept in
+    let least = c.lesser-same.result in
     elim c.if-is_printed.branch [
       | then-is_printed+in_ok-print_outcome w ↦
-          let next = chosen_here threads commands conditions runs number run c.in_ok-read_outcome.ensures
+          let next = chosen_here threads commands conditions runs number run here_is
           (told ∙ w.if-is_printed.true) in
           record {
             few = omega (arith, w.before-is, c.loop-number.invariant.few);
@@ -92,6 +114,12 @@ loop-number-preserved g c =
                 w.in_ok-print_outcome.ensures.texts;
             tracees = subst (λ printer. IsTextOfStates rows printer.tracees) (sym w.printer-is)
                 w.in_ok-print_outcome.ensures.tracees;
+            runs = c.read_outcome.ensures.runs ∙ c.loop-number.invariant.runs;
+            same = subst (λ n. BeginAlike n (turns_written c.if-is_printed.printer.texts.turns) turns)
+                (sym (w.same-is ∙ ap length (w.turns-same.ensures ∙ turns_are)))
+                (subst (λ printer. BeginAlike (length turns) (turns_written printer.texts.turns) turns) (sym w.printer-is)
+                (all_alike (turns_written w.print_outcome.new.printer.texts.turns) turns
+                (w.in_ok-print_outcome.ensures.turns ∙ turns_are)));
             so_far = so_far_as start (g.W.Write.contents w.print_outcome.new.output)
                 (g.W.Write.contents c.if-is_printed.output) old all (string_bytes w.print_outcome.new.printer.text)
                 (string_bytes c.if-is_printed.printer.text)
@@ -107,7 +135,7 @@ loop-number-preserved g c =
                 (string_bytes w.print_outcome.new.printer.text) w.in_ok-print_outcome.ensures.ok);
           }
       | else-is_printed w ↦
-          let gone = chosen_not_here threads commands conditions runs number run c.in_ok-read_outcome.ensures
+          let gone = chosen_not_here threads commands conditions runs number run here_is
           (told ∙ w.if-is_printed.false) in
           record {
             few = omega (arith, w.before-is, c.loop-number.invariant.few);
@@ -116,6 +144,12 @@ loop-number-preserved g c =
                 c.loop-number.invariant.texts;
             tracees = subst (λ printer. IsTextOfStates rows printer.tracees) (sym w.printer-is)
                 c.loop-number.invariant.tracees;
+            runs = c.read_outcome.ensures.runs ∙ c.loop-number.invariant.runs;
+            same = subst (λ n. BeginAlike n (turns_written c.if-is_printed.printer.texts.turns) turns) (sym w.same-is)
+                (subst (λ printer. BeginAlike least (turns_written printer.texts.turns) turns) (sym w.printer-is)
+                (both_alike least same kept (turns_written c.loop-number.printer.texts.turns)
+                c.loop-number.reader.run.turns turns c.lesser-same.ensures.first c.lesser-same.ensures.second
+                c.loop-number.invariant.same c.in_ok-kept.ensures.kept));
             so_far = so_far_as start (g.W.Write.contents c.loop-number.output)
                 (g.W.Write.contents c.if-is_printed.output) old all (string_bytes c.loop-number.printer.text)
                 (string_bytes c.if-is_printed.printer.text) here after (ap g.W.Write.contents w.output-is)
@@ -139,7 +173,10 @@ returns-in_err-print_outcome-clause-cut_off g c =
     let voices = program.voices.now in
     let number = c.loop-number.number in
     let before = c.loop-number.before in
-    let run = c.read_outcome.new.run in
+    let run = c.run-run.result.now in
+    let here_is : slice_get runs number ≡ Some run =
+    ap (λ rs. slice_get rs number) (sym c.loop-number.invariant.runs) ∙ c.in_ok-kept.ensures.run
+    ∙ ap Some (sym c.run-run.ensures) in
     let rest = chosen_of threads commands conditions (drop (number + 1) runs) in
     let start = g.W.Write.contents c.args.output.now in
     let old = string_bytes c.args.printer.now.text in
@@ -151,7 +188,7 @@ returns-in_err-print_outcome-clause-cut_off g c =
     (string_bytes c.loop-number.printer.text) here (outcome_text rows names voices commands (before + 1) count run)
     (outcome_texts rows names voices commands (before + 1 + 1) count rest) c.loop-number.invariant.so_far
     (outcomes_more rows names voices commands (before + 1) count _ run rest
-    (chosen_here threads commands conditions runs number run c.in_ok-read_outcome.ensures
+    (chosen_here threads commands conditions runs number run here_is
     (sym c.is_printed.ensures ∙ c.if-is_printed.true))) c.in_err-print_outcome.ensures.cut_off)
 
 pub returns-clause-ok : goal.returns-clause-ok

@@ -1,10 +1,11 @@
 -- What is written and collected, and the outcomes that are left, are what was collected before and all outcomes.
 use Rattle.std.proofs.Common.{◌≡◌, ◌≤◌, ◌+◌, drop, length, string_bytes}
+use Rattle.stop_explorer.specs.OutcomeReader.{BeginAlike}
 use Rattle.stop_explorer.specs.Search.{commands_in}
 use Rattle.tracer_cli.specs.Chosen.{chosen_of}
 use Rattle.tracer_cli.specs.LitmusDraft.{names_kept}
 use Rattle.tracer_cli.specs.OutcomeText.{IsTextOfStates, outcome_texts}
-use Rattle.tracer_cli.specs.TurnTexts.{AreTextsOf, text_source}
+use Rattle.tracer_cli.specs.TurnTexts.{AreTextsOf, text_source, turns_written}
 use Rattle.tracer_cli.proofs.Printing.{IsSoFar}
 use Rattle.tracer_cli.proofs.outcomes.printed.print_chosen.Given as goal
 
@@ -17,6 +18,8 @@ invariant-loop-number g l = record {
       ≡ l.printed.count;
   texts : AreTextsOf (text_source l.program) l.printer.texts;
   tracees : IsTextOfStates l.program.rows.now l.printer.tracees;
+  runs : l.reader.runs ≡ l.printed.explored.now.runs;
+  same : BeginAlike l.same (turns_written l.printer.texts.turns) l.reader.run.turns;
   so_far : IsSoFar (g.W.Write.contents l.fn.output) (g.W.Write.contents l.output) (string_bytes l.fn.printer.text)
       (outcome_texts l.program.rows.now (names_kept l.program.names.now) l.program.voices.now
       (commands_in l.program.commands.now) 1 l.printed.count

@@ -3,14 +3,16 @@ use Rattle.std.proofs.Common.{◌≡◌, ◌≤◌, ◌++◌, ◌∙◌, ap, ari
 use Rattle.std.proofs.Math.Nat.{le-max_left, le-max_right}
 use Rattle.std.proofs.lemmas.List.{length-map}
 use Rattle.std.proofs.lemmas.Option.{slice_get_past}
-use Rattle.stop_explorer.specs.Search.{items_in}
+use Rattle.stop_explorer.specs.Search.{commands_in, items_in}
 use Rattle.tracer_cli.specs.LitmusDraft.{names_kept}
 use Rattle.tracer_cli.specs.TurnTexts.{text_source}
+use Rattle.tracer_cli.proofs.KeptLines.{empty_lines}
 use Rattle.tracer_cli.proofs.TurnTexts.{texts_none}
 use Rattle.tracer_cli.proofs.outcomes.turn_texts.TurnTexts.new.Goals as goal
 
 pub returns-clause-texts : goal.returns-clause-texts
 returns-clause-texts g c =
+    let program = c.args.program.now in
     let names = c.args.program.now.names.now in
     let lists = c.args.program.now.commands.now in
     texts_none (text_source c.args.program.now) _ c.in_ok-with_capacity.ensures.items c.in_ok-threads.ensures.each
@@ -22,3 +24,4 @@ returns-clause-texts g c =
     let most = le-max_right (length names) (length lists) in
     let after : length lists ≤ thread = omega (arith, past, most, c.max-count.ensures, c.in_ok-threads.ensures.long) in
     ap items_in (slice_get_past lists thread after))
+    (empty_lines program.rows.now (names_kept names) (commands_in lists) _ c.in_ok-lines.ensures)

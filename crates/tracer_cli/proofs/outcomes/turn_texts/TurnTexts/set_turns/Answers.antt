@@ -1,19 +1,22 @@
 -- The next turn is written.
-use Rattle.std.proofs.Common.{List, ◌++◌, ◌∷◌, [], ◌∙◌, ap, get_or, sym, take}
-use Rattle.std.proofs.lemmas.List.{take-map, take_all, take_more}
+use Rattle.std.proofs.Common.{◌≤◌, ◌++◌, ◌∷◌, [], ◌∙◌, ap, get_or, subst, sym}
+use Rattle.std.proofs.lemmas.List.{length-map, take-map, take_all, take_more}
 use Rattle.tracer_cli.specs.declared.outcomes.turn_texts.WrittenTurn.{WrittenTurn}
 use Rattle.tracer_cli.specs.TurnTexts.{text_source, turns_written}
 use Rattle.tracer_cli.proofs.outcomes.turn_texts.TurnTexts.set_turns.Goals as goal
 
+pub keep-requires-clause-count : goal.keep-requires-clause-count
+keep-requires-clause-count g c =
+    subst (λ n. c.args.same ≤ n) (length-map c.args.self.now.turns (λ (written : WrittenTurn). written.turn))
+    c.requires.same.first
+
 pub loop-at-init : goal.loop-at-init
 loop-at-init g c =
-    let same = c.count_same-same.result in
     record {
       texts = c.keep.ensures.texts (text_source c.args.program.now) c.requires.texts;
       turns = ap turns_written c.keep.ensures.turns
-          ∙ sym (take-map (λ (written : WrittenTurn). written.turn) same c.args.self.now.turns)
-          ∙ ap (λ (written : List WrittenTurn). take same (turns_written written)) (sym c.written.ensures)
-          ∙ c.count_same-same.ensures.same;
+          ∙ sym (take-map (λ (written : WrittenTurn). written.turn) c.args.same c.args.self.now.turns)
+          ∙ c.requires.same.same;
     }
 
 pub loop-at-preserved : goal.loop-at-preserved

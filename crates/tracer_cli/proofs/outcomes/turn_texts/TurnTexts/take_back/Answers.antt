@@ -44,7 +44,8 @@ returns-clause-texts g c = λ t are.
           rw (w.self-inside-is)
           (texts_less t c.args.self.now _ c.in-Some.last owner are turns_are
           (λ i. slice_set (c.self.view_is i).threads thread (w.take_back.ensures i))
-          (λ within. ap (λ (s : TextsOfTurns). slice_get s.threads thread) (sym c.self.view_is) ∙ is) order_is)
+          (λ within. ap (λ (s : TextsOfTurns). slice_get s.threads thread) (sym c.self.view_is) ∙ is) order_is
+          (ap (λ (s : TextsOfTurns). s.lines) c.self.view_is))
       | in_default-get_mut w ↦
           let any : ThreadText = record { text = []; next = 0 } in
           let cut_off : ThreadText = record { text = take c.in-Some.last.text_len []; next = c.in-Some.last.next } in
@@ -59,5 +60,5 @@ returns-clause-texts g c = λ t are.
           (λ within.
           let less : thread < length threads.items =
           subst (λ (s : TextsOfTurns). thread < length s.threads) (sym c.self.view_is) within in
-          absurd (omega (arith, less, past))) order_is)
+          absurd (omega (arith, less, past))) order_is (ap (λ (s : TextsOfTurns). s.lines) c.self.view_is))
     ]

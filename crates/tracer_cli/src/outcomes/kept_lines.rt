@@ -4,7 +4,7 @@ ghost use Rattle.std.specs.Prelude.{◌≡◌, ◌++◌, ◌+◌, ◌<◌, ℕ, 
 ghost use Rattle.std.specs.Bool.{OnTrue};
 ghost use Rattle.std.specs.List.{All};
 ghost use Rattle.stop_explorer.specs.declared.command.ThreadCommand.{ThreadCommand};
-ghost use Rattle.tracer_cli.specs.KeptLines.{AreLinesKept, IsEmptyLine, IsLineKept, LineText, kept_text};
+ghost use Rattle.tracer_cli.specs.KeptLines.{AreLinesKept, IsEmptyLine, IsLineKept, kept_text};
 ghost use Rattle.tracer_cli.specs.LitmusDraft.{AreTexts, names_kept};
 ghost use Rattle.tracer_cli.specs.OutcomeText.{done_line, name_at, thread_word};
 
@@ -56,41 +56,62 @@ impl<A: Allocator> KeptLine<A> {
         }
     }
 
-    /// Sets it to the line of a turn, which did this command. A line that is this one already stays.
+    /// The line.
+    pub(super) fn line(&self) -> &str
+        ensures { result.now ≡ self.now.line }
+    {
+        self.line.as_str()
+    }
+
+    /// The line with its thread.
+    pub(super) fn named(&self) -> &str
+        ensures { result.now ≡ self.now.named }
+    {
+        self.named.as_str()
+    }
+
+    /// Sets it to the line of a turn, which did this command, the one at an index. A line that is this one already
+    /// stays.
     fn set(
         &mut self,
         rows: &[Row],
         names: &[Option<&[u8]>],
-        done: DoneAt,
+        turn: &Turn,
+        at: usize,
         command: &ThreadCommand,
     ) -> Result<(), NoMemory>
         requires { AreTexts names.now }
         ensures { OnOk result ((commands : ℕ → List ThreadCommand) →
-            slice_get (commands done.turn.thread) done.at ≡ Some command.now →
+            slice_get (commands turn.now.thread) at ≡ Some command.now →
             IsLineKept rows.now (names_kept names.now) commands self.old →
-            self.new ≡ kept_text rows.now (names_kept names.now) done command.now) }
+            self.new ≡ kept_text rows.now (names_kept names.now) (record { turn = turn.now; at = at }) command.now) }
     {
-        if self.is_of(&done.turn, done.at) {
+        if self.is_of(turn, at) {
             return Ok(());
         }
-        self.make(rows, names, done, command)
+        self.make(rows, names, turn, at, command)
     }
 
-    /// Makes it the line of a turn that did the command at an index, which is this one.
+    /// Makes it the line of a turn that did the command at an index, which is this one. Few lines are made: it is kept
+    /// out of the way of those that are there.
+    #[cold]
+    #[inline(never)]
     fn make(
         &mut self,
         rows: &[Row],
         names: &[Option<&[u8]>],
-        done: DoneAt,
+        turn: &Turn,
+        at: usize,
         command: &ThreadCommand,
     ) -> Result<(), NoMemory>
         requires { AreTexts names.now }
-        ensures { OnOk result (self.new ≡ kept_text rows.now (names_kept names.now) done command.now) }
+        ensures { OnOk result (self.new
+            ≡ kept_text rows.now (names_kept names.now) (record { turn = turn.now; at = at }) command.now) }
     {
         self.made = None;
-        set_line(&mut self.line, rows, &done.turn, command)?;
-        set_named(&mut self.named, names, done.turn.thread, self.line.as_str())?;
-        self.made = Some(done);
+        set_line(&mut self.line, rows, turn, command)?;
+        set_named(&mut self.named, names, turn.thread, self.line.as_str())?;
+        self.made = Some(DoneAt { turn: *turn, at });
         Ok(())
     }
 }
@@ -131,44 +152,39 @@ impl<A: Allocator + Copy> KeptLines<A> {
 }
 
 impl<A: Allocator> KeptLines<A> {
-    /// The slot that has the line of a turn. It is made if it is not there. `command` is the one that the turn did.
+    /// The slot that has the line of a turn, which did the command at an index. It is made if it is not there.
+    /// `command` is the one that the turn did.
     pub(super) fn find(
         &mut self,
         rows: &[Row],
         names: &[Option<&[u8]>],
-        done: DoneAt,
+        turn: &Turn,
+        at: usize,
         command: &ThreadCommand,
     ) -> Result<usize, NoMemory>
         requires { AreTexts names.now }
         ensures kept { IfOk result (λ _. (commands : ℕ → List ThreadCommand) →
-            slice_get (commands done.turn.thread) done.at ≡ Some command.now →
+            slice_get (commands turn.now.thread) at ≡ Some command.now →
             AreLinesKept rows.now (names_kept names.now) commands self.old →
             AreLinesKept rows.now (names_kept names.now) commands self.new) }
         ensures line { IfOk result (λ slot. (commands : ℕ → List ThreadCommand) →
-            slice_get (commands done.turn.thread) done.at ≡ Some command.now →
+            slice_get (commands turn.now.thread) at ≡ Some command.now →
             AreLinesKept rows.now (names_kept names.now) commands self.old →
-            slice_get self.new slot ≡ Some (kept_text rows.now (names_kept names.now) done command.now)) }
+            slice_get self.new slot ≡ Some (kept_text rows.now (names_kept names.now)
+            (record { turn = turn.now; at = at }) command.now)) }
         ensures within { IfOk result (λ slot. slot < length self.new) }
     {
-        let slot = slot_of(&done.turn, done.at, self.slots.len());
-        self.slots[slot].set(rows, names, done, command)?;
+        let slot = slot_of(turn, at, self.slots.len());
+        self.slots[slot].set(rows, names, turn, at, command)?;
         Ok(slot)
     }
 
     /// The line in a slot.
-    pub(super) fn line(&self, slot: usize) -> &str
+    pub(super) fn kept(&self, slot: usize) -> &KeptLine<A>
         requires { slot < length self.now }
-        ensures { (kept : LineText) → slice_get self.now slot ≡ Some kept → result.now ≡ kept.line }
+        ensures { slice_get self.now slot ≡ Some result.now }
     {
-        self.slots[slot].line.as_str()
-    }
-
-    /// The line in a slot, with its thread.
-    pub(super) fn named(&self, slot: usize) -> &str
-        requires { slot < length self.now }
-        ensures { (kept : LineText) → slice_get self.now slot ≡ Some kept → result.now ≡ kept.named }
-    {
-        self.slots[slot].named.as_str()
+        &self.slots[slot]
     }
 }
 

@@ -1,7 +1,7 @@
 //! The text of outcomes: what each thread was answered, the states of the tracees, and one order that leads there.
 
-ghost use Rattle.std.specs.Prelude.{◌≡◌, ◌++◌, IfOk, IfSome, IsUtf8, OnOk, Some, decimal, option_map};
-ghost use Rattle.std.specs.Prelude.{string_bytes};
+ghost use Rattle.std.specs.Prelude.{◌≡◌, ◌++◌, IfOk, IfSome, IsUtf8, OnOk, Some, decimal};
+ghost use Rattle.std.specs.Prelude.{option_copied, option_map, string_bytes};
 ghost use Rattle.stop_explorer.specs.Program.{own_turns};
 ghost use Rattle.stop_explorer.specs.Run.{EndedRun};
 ghost use Rattle.stop_explorer.specs.Search.{commands_in};
@@ -109,10 +109,10 @@ fn write_closing_line<A: Allocator>(
     rows: &[Row],
     states: &[State],
     quiet: bool,
-    next: Option<ThreadCommand>,
+    next: Option<&ThreadCommand>,
 ) -> Result<(), NoMemory>
-    ensures { OnOk result (string_bytes out.new
-        ≡ string_bytes out.old ++ closing_line rows.now states.now quiet next) }
+    ensures { OnOk result (string_bytes out.new ≡ string_bytes out.old
+        ++ closing_line rows.now states.now quiet (option_copied next.entry)) }
 {
     match next {
         None => {
@@ -121,7 +121,7 @@ fn write_closing_line<A: Allocator>(
             }
             Ok(())
         }
-        Some(command) => write_waiting(out, rows, states, &command),
+        Some(command) => write_waiting(out, rows, states, command),
     }
 }
 

@@ -2,7 +2,7 @@
 //! and the order.
 
 ghost use Rattle.std.specs.Prelude.{◌≡◌, ◌+◌, ◌++◌, ◌-◌, ◌∷◌, ◌<◌, ◌≤◌, [], IfOk, OnOk, Some, codes, length};
-ghost use Rattle.std.specs.Prelude.{slice_get, string_bytes, take};
+ghost use Rattle.std.specs.Prelude.{option_copied, slice_get, string_bytes, take};
 ghost use Rattle.stop_explorer.specs.OutcomeReader.{BeginAlike};
 ghost use Rattle.tracer_cli.specs.LitmusDraft.{AreTexts, names_kept};
 ghost use Rattle.tracer_cli.specs.OutcomeText.{name_at, thread_word};
@@ -10,7 +10,7 @@ ghost use Rattle.tracer_cli.specs.TurnTexts.{AreBeforeTurns, AreTextsOf, AreText
 ghost use Rattle.tracer_cli.specs.TurnTexts.{text_source, thread_after_turn, turns_written};
 
 use super::chosen::{is_quiet, thread_commands};
-use super::kept_lines::{DoneAt, KeptLines};
+use super::kept_lines::KeptLines;
 use super::text::{ToldProgram, name_at, write_thread_head};
 use std::alloc::Allocator;
 use std::marker::Model;
@@ -46,10 +46,10 @@ impl<A: Allocator> ThreadSoFar<A> {
     }
 
     /// The thread's next command, if it has one. `own` are the commands of the thread.
-    pub(super) fn next_of(&self, own: &[ThreadCommand]) -> Option<ThreadCommand>
-        ensures { result ≡ slice_get own.now self.now.next }
+    pub(super) fn next_of<'c>(&self, own: &'c [ThreadCommand]) -> Option<&'c ThreadCommand>
+        ensures { option_copied result ≡ slice_get own.now self.now.next }
     {
-        own.get(self.next).copied()
+        own.get(self.next)
     }
 
     /// Adds a turn of the thread: its line, unless the thread is quiet. The next command is then the one at which the
@@ -63,10 +63,10 @@ impl<A: Allocator> ThreadSoFar<A> {
     ) -> Result<(), NoMemory>
         ensures { OnOk result (self.new ≡ thread_after_turn quiet own.now turn.now line.now self.old) }
     {
+        self.next = index_after(own, self.next, &turn.answer);
         if !quiet {
             self.text.push_str(line)?;
         }
-        self.next = index_after(own, self.next, &turn.answer);
         Ok(())
     }
 
@@ -158,7 +158,7 @@ impl<A: Allocator> TurnTexts<A> {
     {
         self.keep(same);
         for at in same..turns.len() {
-            self.add(program, turns[at])?;
+            self.add(program, &turns[at])?;
         }
         Ok(())
     }
@@ -179,18 +179,18 @@ impl<A: Allocator> TurnTexts<A> {
     }
 
     /// Adds a turn. If its thread has no next command, no line is written.
-    fn add(&mut self, program: &ToldProgram<'_, '_, A>, turn: Turn) -> Result<(), NoMemory>
+    fn add(&mut self, program: &ToldProgram<'_, '_, A>, turn: &Turn) -> Result<(), NoMemory>
         requires names { AreTexts program.now.names.now }
         requires texts { AreTextsOf (text_source program.now) self.old }
         ensures texts { OnOk result (AreTextsOf (text_source program.now) self.new) }
-        ensures turns { OnOk result (turns_written self.new.turns ≡ turns_written self.old.turns ++ turn ∷ []) }
+        ensures turns { OnOk result (turns_written self.new.turns ≡ turns_written self.old.turns ++ turn.now ∷ []) }
     {
         let thread = turn.thread as usize;
         let order_len = self.order.len();
         let Some(so_far) = self.threads.get_mut(thread) else {
             // A thread that the program does not have has no text.
             self.turns.push(WrittenTurn {
-                turn,
+                turn: *turn,
                 next: 0,
                 text_len: 0,
                 order_len,
@@ -198,23 +198,20 @@ impl<A: Allocator> TurnTexts<A> {
             return Ok(());
         };
         self.turns.push(WrittenTurn {
-            turn,
+            turn: *turn,
             next: so_far.next,
             text_len: so_far.text.len(),
             order_len,
         })?;
         let own = thread_commands(program.commands, thread);
         if let Some(command) = so_far.next_of(own) {
-            let done = DoneAt {
-                turn,
-                at: so_far.next,
-            };
             let slot = self
                 .lines
-                .find(program.rows, program.names, done, &command)?;
+                .find(program.rows, program.names, turn, so_far.next, command)?;
+            let kept = self.lines.kept(slot);
             let quiet = is_quiet(program.voices, thread);
-            so_far.add(quiet, own, &turn, self.lines.line(slot))?;
-            self.order.push_str(self.lines.named(slot))?;
+            so_far.add(quiet, own, turn, kept.line())?;
+            self.order.push_str(kept.named())?;
         }
         Ok(())
     }

@@ -1,5 +1,6 @@
 -- The text of the thread, and its last line.
 use Rattle.std.proofs.Common.{◌≡◌, ◌++◌, ◌∙◌, List, OnOk, ap, append_assoc, slice_get, string_bytes, subst}
+use Rattle.std.specs.Option.{option_copied}
 use Rattle.stop_explorer.specs.declared.command.ThreadCommand.{ThreadCommand}
 use Rattle.stop_explorer.specs.Progress.{is_quiet}
 use Rattle.tracer_cli.specs.OutcomeText.{name_at, thread_text}
@@ -13,7 +14,7 @@ returns g c = λ ending states_are told_is.
     let thread = c.args.thread in
     let so_far = c.args.so_far.now in
     let old = string_bytes c.args.out.now in
-    let last : List _ = closing_line t.rows c.args.states.now c.is_quiet.result c.next_of-next.result in
+    let last : List _ = closing_line t.rows c.args.states.now c.is_quiet.result (option_copied c.next_of-next.result) in
     let next_is = c.next_of-next.ensures ∙ ap (λ (own : List ThreadCommand). slice_get own so_far.next) c.thread_commands.ensures in
     let last_is : last ≡ closing_line t.rows ending.states (is_quiet t.voices thread) (slice_get (t.commands thread) so_far.next) =
     λ i. closing_line t.rows (states_are i) (c.is_quiet.ensures i) (next_is i) in

@@ -2,10 +2,11 @@
 use Rattle.std.proofs.Common.{◌≡◌, ◌≤◌, ◌++◌, ◌∷◌, [], ◌∙◌, List, None, Some, ap, append-nil, arith}
 use Rattle.std.proofs.Common.{inl, inr, length, refl, slice_get, slice_set, subst, sym}
 use Rattle.std.proofs.lemmas.Bool.{cases_lt}
-use Rattle.std.proofs.lemmas.Option.{slice_get_read}
+use Rattle.std.proofs.lemmas.Option.{same_Some, slice_get_read}
+use Rattle.std.specs.Option.{option_copied}
 use Rattle.stop_explorer.specs.declared.command.ThreadCommand.{ThreadCommand}
 use Rattle.tracer_cli.specs.declared.outcomes.turn_texts.WrittenTurn.{WrittenTurn}
-use Rattle.tracer_cli.specs.KeptLines.{AreLinesKept}
+use Rattle.tracer_cli.specs.KeptLines.{AreLinesKept, LineText, kept_text}
 use Rattle.tracer_cli.specs.OutcomeText.{done_line, name_at, turn_line}
 use Rattle.tracer_cli.specs.TurnTexts.{TextsOfTurns, ThreadText, text_source, thread_after_turn}
 use Rattle.tracer_cli.proofs.TurnTexts.{texts_done, texts_past, thread_same}
@@ -13,7 +14,7 @@ use Rattle.tracer_cli.proofs.outcomes.turn_texts.TurnTexts.add.Goals as goal
 
 pub returns-in_default-clause-texts : goal.returns-in_default-clause-texts
 returns-in_default-clause-texts g c =
-    let turn = c.args.turn in
+    let turn = c.args.turn.now in
     let threads = c.self.inside.threads in
     let view_is = c.self.view_is in
     let kept : WrittenTurn = record { turn = turn; next = 0; text_len = 0; order_len = c.len-order_len.result } in
@@ -30,11 +31,11 @@ returns-in_default-clause-texts g c =
 
 pub returns-in_ok-push_str-clause-texts : goal.returns-in_ok-push_str-clause-texts
 returns-in_ok-push_str-clause-texts g c =
-    let turn = c.args.turn in
+    let turn = c.args.turn.now in
     let threads = c.self.inside.threads in
     let view_is = c.self.view_is in
     let before = c.in-Some.so_far.now in
-    let command = c.in-Some-next_of.command in
+    let command = c.in-Some-next_of.command.now in
     let kept : WrittenTurn = record {
       turn = turn;
       next = c.so_far.inside.next;
@@ -46,16 +47,19 @@ returns-in_ok-push_str-clause-texts g c =
     slice_get_read threads.items threads.len turn.thread before threads.ok.0 less c.in-Some.ensures.value in
     let t = text_source c.args.program.now in
     let did_is : Some command ≡ slice_get (t.commands turn.thread) before.next =
-    sym c.in-Some-next_of.is ∙ c.next_of.ensures
+    ap option_copied (sym c.in-Some-next_of.is) ∙ c.next_of.ensures
     ∙ ap (λ (own : List ThreadCommand). slice_get own before.next) c.thread_commands-own.ensures in
     let at_is : slice_get (t.commands turn.thread) c.so_far.inside.next ≡ Some command =
     ap (λ (b : ThreadText). slice_get (t.commands turn.thread) b.next) c.so_far.view_is ∙ sym did_is in
     let lines_are = subst (λ (s : TextsOfTurns). AreLinesKept t.rows t.names t.commands s.lines) (sym view_is)
     c.requires.texts.lines in
-    let kept_is = c.in_ok-slot.ensures.line t.commands at_is lines_are in
-    let line_is : c.line.result.now ≡ done_line t.rows turn (Some command) = c.line.ensures _ kept_is in
+    let lines = kept_text t.rows t.names (record { turn = turn; at = c.so_far.inside.next }) command in
+    let kept_is : c.kept-kept.result.now ≡ lines =
+    same_Some _ _ (sym c.kept-kept.ensures ∙ c.in_ok-slot.ensures.line t.commands at_is lines_are) in
+    let line_is : c.line.result.now ≡ done_line t.rows turn (Some command) =
+    c.line.ensures ∙ ap (λ (k : LineText). k.line) kept_is in
     let named_is : c.named.result.now ≡ turn_line t.rows (name_at t.names turn.thread) turn (Some command) =
-    c.named.ensures _ kept_is in
+    c.named.ensures ∙ ap (λ (k : LineText). k.named) kept_is in
     texts_done t c.args.self.now _ kept before c.add.new.self (Some command) c.requires.texts
     (c.in_ok-push-2.ensures.items ∙ ap (λ (s : TextsOfTurns). s.turns ++ kept ∷ []) view_is)
     (ap (λ (s : TextsOfTurns). slice_set s.threads turn.thread c.add.new.self) view_is)
@@ -71,7 +75,7 @@ returns-in_ok-push_str-clause-texts g c =
 
 pub returns-in_default-next_of-clause-texts : goal.returns-in_default-next_of-clause-texts
 returns-in_default-next_of-clause-texts g c =
-    let turn = c.args.turn in
+    let turn = c.args.turn.now in
     let threads = c.self.inside.threads in
     let view_is = c.self.view_is in
     let t = text_source c.args.program.now in
@@ -86,7 +90,7 @@ returns-in_default-next_of-clause-texts g c =
     let is : slice_get threads.items turn.thread ≡ Some before =
     slice_get_read threads.items threads.len turn.thread before threads.ok.0 less c.in-Some.ensures.value in
     let did_is : None ≡ slice_get (t.commands turn.thread) before.next =
-    sym c.in_default-next_of.is ∙ c.next_of.ensures
+    ap option_copied (sym c.in_default-next_of.is) ∙ c.next_of.ensures
     ∙ ap (λ (own : List ThreadCommand). slice_get own before.next) c.thread_commands-own.ensures in
     texts_done t c.args.self.now _ kept before before None c.requires.texts
     (c.in_ok-push-2.ensures.items ∙ ap (λ (s : TextsOfTurns). s.turns ++ kept ∷ []) view_is)

@@ -70,8 +70,8 @@ impl<A: Allocator> KeptLine<A> {
         self.named.as_str()
     }
 
-    /// Sets it to the line of a turn, which did this command, the one at an index. A line that is this one already
-    /// stays.
+    /// Sets it to the line of a turn that did the command at an index, which is this one. If it has that line already,
+    /// it stays.
     fn set(
         &mut self,
         rows: &[Row],
@@ -92,8 +92,8 @@ impl<A: Allocator> KeptLine<A> {
         self.make(rows, names, turn, at, command)
     }
 
-    /// Makes it the line of a turn that did the command at an index, which is this one. Few lines are made: it is kept
-    /// out of the way of those that are there.
+    /// Makes it the line of a turn that did the command at an index, which is this one. It is not inlined, since few
+    /// lines are made, and most are there.
     #[cold]
     #[inline(never)]
     fn make(

@@ -115,7 +115,8 @@ def crates_of(root):
 
 
 def link(source, to):
-    """A second name for a file that nobody writes to, or a copy of it on another disk."""
+    """A second name for a file that is replaced and never written to, as rt does with what it keeps and builds; or a
+    copy of it on another disk. What a large crate keeps takes a gigabyte and more, and each check would copy it."""
     try:
         os.link(source, to)
     except OSError:
@@ -135,7 +136,7 @@ def copied(crate, room, *kept):
     folder = room / "crates" / crate.name
     for part in (*PARTS, *kept):
         if (crate.folder / part).is_dir():
-            shutil.copytree(crate.folder / part, folder / part)
+            shutil.copytree(crate.folder / part, folder / part, copy_function=shutil.copy2 if part in PARTS else link)
     return folder
 
 

@@ -135,6 +135,19 @@ class WrongBodies(unittest.TestCase):
         self.assertEqual(said.split("\n")[-2], "3 passed, 3 failed", said)
         self.assertEqual((self.root / "tools" / "wrong_bodies.tried").read_text(), "")
 
+    def test_a_check_of_a_wrong_body_leaves_what_was_kept_as_it_is(self):
+        crate = wrong_bodies.crates_of(self.root)["sample"]
+        self.assertTrue(wrong_bodies.is_proved(crate, True, 1))
+        kept = self.contents_of(self.crate / wrong_bodies.KEPT)
+        wrong = SOURCE.replace("let first = x;", "let first = 0;")
+        status, said = wrong_bodies.checked(crate, {"src/lib.rt": wrong})
+        self.assertEqual(status, 1, said)
+        self.assertTrue(kept)
+        self.assertEqual(self.contents_of(self.crate / wrong_bodies.KEPT), kept)
+
+    def contents_of(self, folder):
+        return {str(it): it.read_bytes() for it in folder.rglob("*") if it.is_file()}
+
     def test_nothing_is_tried_above_a_crate_that_is_not_proved(self):
         (self.root / "crates.txt").write_text("sample:\nupper: sample\n")
         shutil.copytree(self.crate, self.root / "crates" / "upper")

@@ -116,7 +116,7 @@ def crates_of(root):
 
 def link(source, to):
     """A second name for a file, or a copy of it on another disk. What rt keeps and builds it writes as new files, as far
-    as was seen, and of the crates below it only reads: so no check changes what another one reads (the test sees to it).
+    as was seen, and of the crates below it only reads: so no check changes what another one reads (for what is kept, a test).
     What a large crate keeps takes a gigabyte and more, and each check would copy it."""
     try:
         os.link(source, to)

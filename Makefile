@@ -214,10 +214,14 @@ bench-large: tools all
 
 # The program that finds all outcomes, beside a plain search for them.
 bench-explore: tools all
-	@echo "bench-explore: timing bin/tracer explore and a plain Rust program in turn on 37,440 outcomes (a minute)"
+	@echo "bench-explore: timing bin/tracer explore and a plain Rust program in turn on 37,440 outcomes, and on one outcome"
+	@echo "bench-explore: of two threads of 990 different commands each (a minute)"
 	@mkdir -p $(OUT)
 	@$(RUSTC) -O --edition 2024 -o $(OUT)/plain_explore bench/plain_explore.rs
+	@$(RUSTC) -O --edition 2024 -o $(OUT)/generate_litmus bench/generate_litmus.rs
+	@$(OUT)/generate_litmus > $(OUT)/commands.litmus
 	@$(PYTHON) bench/compare.py --runs 9 "bin/tracer explore" $(OUT)/plain_explore bench/explore.litmus
+	@$(PYTHON) bench/compare.py --runs 9 "bin/tracer explore" $(OUT)/plain_explore $(OUT)/commands.litmus
 
 tools:
 	@for command in $(RUSTC) $(PYTHON); do \

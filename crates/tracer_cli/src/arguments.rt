@@ -3,10 +3,10 @@
 ghost use Rattle.std.specs.Prelude.{◌≡◌, ◌≤◌, IfErr, IfOk, IsTrue, Some, false, map, true};
 ghost use Rattle.clap.specs.Words.{app_of, found_of, kind_of, one_text, rows_of, rule_of, subcommand_rows_of, takes};
 ghost use Rattle.clap.specs.declared.builder.command.Command.TheViews.{out-Command};
-ghost use Rattle.tracer_cli.specs.Arguments.{AreAskedOptions, AreOptions, IsAskedBy, IsExploreRequest, IsFailureBy, IsHelp};
-ghost use Rattle.tracer_cli.specs.Arguments.{IsNamedBy, IsNumber, IsOptionalNumber, IsTakenBy, budget_rule, ends_rule};
-ghost use Rattle.tracer_cli.specs.Arguments.{explore_app, file_rule, follow_rule, limit_rule, listing_of, names_rule};
-ghost use Rattle.tracer_cli.specs.Arguments.{outcome_rule, replay_app};
+ghost use Rattle.tracer_cli.specs.Arguments.{AreAskedOptions, AreOptions, IsAskedBy, IsExploreRequest, IsFailureBy};
+ghost use Rattle.tracer_cli.specs.Arguments.{IsHelp, IsNamedBy, IsNumber, IsOptionalNumber, IsTakenBy, budget_rule};
+ghost use Rattle.tracer_cli.specs.Arguments.{ends_rule, explore_app, file_rule, follow_rule, limit_rule, listing_of};
+ghost use Rattle.tracer_cli.specs.Arguments.{names_rule, outcome_rule, replay_app};
 ghost use Rattle.tracer_cli.specs.Arguments.{run_app, seccomp_rule, shows_text, tracer_app, workers_rule};
 
 use crate::failure::Failure;

@@ -31,7 +31,8 @@ Exit status:
   0  done
   1  the file is refused
   2  the command line is wrong, or -e names an unknown call
-  3  out of memory, or something cannot be read or written
+  3  out of memory, the file or standard input cannot be read, standard output cannot be
+     written, a thread cannot be started, or a litmus file has more places than the budget
   4  no order of the commands has the replies and the conditions, or no outcome has the number
 
 The formats of case files, replay files and litmus files: docs/FORMATS.md";

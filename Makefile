@@ -28,8 +28,9 @@ kit:
 		echo "make: proved with a kit of $(KIT), but $(RT) is $$($(RT) --version): a proof may fail";; esac
 
 demo: kit
-	@echo "demo: running the program on five files of examples/, without the proofs (a minute)"
-	@RT="$(RT)" $(PYTHON) tools/cases.py demo replay/first replay/refused run/fork.case run/signal.case run/shown.case
+	@echo "demo: running the program on seven files of examples/, without the proofs (a minute)"
+	@RT="$(RT)" $(PYTHON) tools/cases.py demo replay/first replay/refused run/fork.case run/signal.case run/shown.case \
+		explore/race.litmus explore/double_claim.litmus
 
 # PROGRAM=FILE runs a program that is built already, as bin/tracer: some seconds.
 examples: kit

@@ -17,6 +17,7 @@
 | the messages of a run | crates/tracer_cli/specs/Failure.antt | failure.rt, run_error.rt, FORMATS.md, man/tracer.1 |
 | the causes of a refusal | crates/trace_script/src/cause.rt | FORMATS.md, case-files.md, man/tracer.1 |
 | the limits | limits.rt of stop_history and trace_script, pages.rt | README.md, docs/, man/tracer.1, bench/ |
+| those of litmus files, the budgets | draft.rt, grammar.rt and arguments.rt of tracer_cli | the same, the help |
 | the bits of a word | layout.rt and Layout.antt of stop_history | its word.rt, docs/formats/layouts.md |
 | the word of an example | docs/formats/layouts.md | docs/definitions/words.md |
 """
@@ -35,7 +36,8 @@ ARGUMENTS, SYSCALLS = "crates/tracer_cli/src/arguments.rt", "crates/trace_option
 OPTIONS, OPTION_BITS = "crates/trace_options/specs/Options.antt", "crates/trace_options/src/options.rt"
 MESSAGES, FAILURE = "crates/tracer_cli/specs/Failure.antt", "crates/tracer_cli/src/failure.rt"
 RUN_ERROR = "crates/tracer_workers/src/run_error.rt"
-LIMITS = ("crates/stop_history/src/limits.rt", "crates/trace_script/src/limits.rt", "crates/trace_pages/src/pages.rt")
+LIMITS = ("crates/stop_history/src/limits.rt", "crates/trace_script/src/limits.rt", "crates/trace_pages/src/pages.rt",
+          "crates/tracer_cli/src/litmus/draft.rt", "crates/tracer_cli/src/litmus/grammar.rt", ARGUMENTS)
 WAIT_FLAGS, EVENTS = "crates/trace_options/src/wait_flags.rt", "crates/trace_options/src/event.rt"
 WORD, CAUSES = "crates/stop_history/src/word.rt", "crates/trace_script/src/cause.rt"
 CASE_FILES, LAYOUTS = "docs/formats/case-files.md", "docs/formats/layouts.md"
@@ -43,6 +45,7 @@ LITMUS_FILES = "docs/formats/litmus-files.md"
 WORDS = "docs/definitions/words.md"
 WIDTHS, TRACER_WIDTH = "crates/stop_history/src/word/layout.rt", "crates/stop_history/specs/Layout.antt"
 PLAIN, PLAIN_CASE, PLAIN_LITMUS = "bench/plain.rs", "bench/plain_case.rs", "bench/plain_litmus.rs"
+PLAIN_EXPLORE, PROVED = "bench/plain_explore.rs", "docs/proofs/program.md"
 
 # What is said of the limits, and where: a name stands for its number, with :, as 16,777,215, with :_ as 16_777_215.
 SAID = [
@@ -75,6 +78,28 @@ SAID = [
     (PLAIN_LITMUS, "const LAST_NUMBER: u32 = {LAST_NUMBER:_};"),
     (PLAIN_LITMUS, "const LAST_ID: u32 = {LAST_ID:_};"),
     (PLAIN_LITMUS, "const LAST_TRACER: u32 = {LAST_TRACER};"),
+    (README, "A litmus file has at most {MOST_THREADS} threads and {MOST_COMMANDS:,} commands;"),
+    (LITMUS_FILES, "N times, 1 to {MOST_REPEATS};"),
+    (LITMUS_FILES, "a letter, and at most {NAME_LESS_ONE} letters, digits,"),
+    (LITMUS_FILES, "repeats written out, are at most {MOST_COMMANDS:,}."),
+    (LITMUS_FILES, "the {THREADS_AND_ONE}th thread, at its line; the {COMMANDS_AND_ONE:,}th command,"),
+    (PAGE, "A litmus file has at most {MOST_THREADS} threads, and {MOST_COMMANDS:,} commands in all."),
+    (PAGE, "are done N times, 1 to {MOST_REPEATS}."),
+    (PROVED, "at most {MOST_THREADS} threads and {MOST_COMMANDS:,} commands, a thread's name {LONGEST_NAME} bytes,"),
+    (PROVED, "a repeat is done at most {MOST_REPEATS} times."),
+    (PLAIN_LITMUS, "const MOST_THREADS: usize = {MOST_THREADS};"),
+    (PLAIN_LITMUS, "const MOST_COMMANDS: usize = {MOST_COMMANDS};"),
+    (PLAIN_LITMUS, "const LONGEST_NAME: usize = {LONGEST_NAME};"),
+    (ARGUMENTS, "How many places are searched at most, 1 to {MOST_PLACES}\""),
+    (ARGUMENTS, "Print the order of outcome K, 1 to {MOST_PLACES}, as"),
+    (FORMATS, "| `--budget N` | 1 to {MOST_PLACES} | {BUDGET} |"),
+    (FORMATS, "| `--replay K` | 1 to {MOST_PLACES} |"),
+    (PAGE, "places, 1 to {MOST_PLACES}; with more nothing"),
+    (PAGE, "The default is {BUDGET}."),
+    (PAGE, "1 to {MOST_PLACES}, as a replay file,"),
+    (PROVED, "`explore` has a budget of {BUDGET:,} places,"),
+    (PROVED, "of `--budget` and `--replay` {MOST_PLACES:,}."),
+    (PLAIN_EXPLORE, "const MOST_PLACES: usize = {BUDGET:_};"),
 ]
 
 
@@ -176,9 +201,14 @@ def message_faults(read):
 
 
 def limit_faults(read):
-    found = [it for path in LIMITS for it in re.findall(r"^pub const (\w+): u\w+ = ([\d_]+);", read(path), re.M)]
+    constant = r"^(?:pub(?:\(crate\))? )?const (\w+): u\w+ = ([\d_]+);"
+    found = [it for path in LIMITS for it in re.findall(constant, read(path), re.M)]
     limits = {name: int(number) for name, number in found}
     limits |= {"ROWS_AND_ONE": limits["MOST_ROWS"] + 1, "LAST_TRACER": limits["TRACERS"] - 1}
+    limits |= {"THREADS_AND_ONE": limits["MOST_THREADS"] + 1, "COMMANDS_AND_ONE": limits["MOST_COMMANDS"] + 1}
+    limits |= {"NAME_LESS_ONE": limits["LONGEST_NAME"] - 1}
+    budget = read(ARGUMENTS).split('Arg::new(alloc, "budget")')[1]
+    limits |= {"BUDGET": int(re.search(r'default_value\("(\d+)"\)', budget)[1])}
     for page, text in SAID:
         wanted = text.format(**limits)
         if wanted not in read(page):
@@ -246,6 +276,22 @@ CHANGES = [
     (PAGE, "and 256 tracees.", "and 64 tracees."),
     (PLAIN, "LAST_TRACER: u32 = 15;", "LAST_TRACER: u32 = 16;"),
     (PLAIN_CASE, "MOST_ROWS: usize = 256;", "MOST_ROWS: usize = 64;"),
+    (README, "at most 64 threads and 4,096 commands;", "at most 64 threads and 4,095 commands;"),
+    (LITMUS_FILES, "N times, 1 to 64;", "N times, 0 to 64;"),
+    (LITMUS_FILES, "at most 31 letters, digits", "at most 32 letters, digits"),
+    (LITMUS_FILES, "are at most 4,096.", "are at most 4,097."),
+    (LITMUS_FILES, "the 65th thread", "the 64th thread"),
+    (PAGE, "A litmus file has at most 64 threads", "A litmus file has at most 16 threads"),
+    (PAGE, "N times, 1 to 64.", "N times, 1 to 65."),
+    (PROVED, "name 32 bytes", "name 31 bytes"),
+    (PROVED, "at most 64 times.", "at most 63 times."),
+    (PLAIN_LITMUS, "MOST_COMMANDS: usize = 4096;", "MOST_COMMANDS: usize = 4095;"),
+    (ARGUMENTS, "places are searched at most, 1 to 100000000", "places are searched at most, 1 to 1000000000"),
+    (FORMATS, "| 1 to 100000000 | 1000000 |", "| 1 to 100000000 | 100000 |"),
+    (PAGE, "The default is 1000000.", "The default is 100000."),
+    (PAGE, "1 to 100000000, as a replay file", "0 to 100000000, as a replay file"),
+    (PROVED, "a budget of 1,000,000 places", "a budget of 1,000,001 places"),
+    (PLAIN_EXPLORE, "MOST_PLACES: usize = 1_000_000;", "MOST_PLACES: usize = 1_000_001;"),
     (WORD, "| 3 to 10 | births", "| 3 to 8 | births"),
     (LAYOUTS, "| 59 to 62 | tracer", "| 57 to 60 | tracer"),
     (WORDS, "0x0004002800000803", "0x0001000a00000203"),

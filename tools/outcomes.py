@@ -3,8 +3,11 @@
 - With `--budget M`, M being its number of places, it prints the same; with one less there are too many places.
 - `--replay K` prints the order of its outcome K as a replay file, for each K; one more than there are is named.
 - `tracer replay` answers that file with the replies that the order lists: for a look or a peek with the state.
+- Of a forbidden example litmus.py says how many places there are, and which budget the searches for its line need: with
+  that budget it prints the same; with one less, if there are not too many places then, `forbidden` without a line.
 
-Where the example has options, they stay; of one with `--ends` there are no orders.
+Where the example has options, they stay. Of one with `--ends` litmus.py says what is printed without it: that is run
+too, and its orders are replayed.
 """
 
 import re
@@ -50,17 +53,34 @@ def replay(rows, order):
     return tuple("".join(f"{line}\n" for line in it).encode() for it in (lines, replies))
 
 
+def too_few(options, given, places):
+    """A run with a budget of one place less than there are, if there are more than one."""
+    if places > 1:
+        yield ["explore", *options, "--budget", str(places - 1)], given, b"", b"tracer: too many places\n", 3
+
+
+def follow_forbidden(options, given, text):
+    """What is run of a forbidden example."""
+    places, with_line = litmus.budgets(given.decode())
+    yield ["explore", *options, "--budget", str(with_line)], given, text, b"", 4
+    if with_line > places:
+        yield ["explore", *options, "--budget", str(with_line - 1)], given, b"forbidden\n", b"", 4
+    yield from too_few(options, given, places)
+
+
 def follow(options, given, text):
     """What is run, and what comes of it: the words, the input, the two streams and the status."""
     last = LAST.search(text)
+    if text.startswith(b"forbidden"):
+        yield from follow_forbidden(options, given, text)
     if not last:
         return
     count, places = int(last[1]), int(last[2])
     yield ["explore", *options, "--budget", str(places)], given, text, b"", 0
-    if places > 1:
-        yield ["explore", *options, "--budget", str(places - 1)], given, b"", b"tracer: too many places\n", 3
+    yield from too_few(options, given, places)
     if "--ends" in options:
-        return
+        text = litmus.explore(given.decode())[0].encode()
+        yield ["explore"], given, text, b"", 0
     rows = [line for line in given.decode().split("\n") if line.startswith("row ")]
     for number, order in enumerate(orders(text), 1):
         file, replies = replay(rows, order)
@@ -83,16 +103,42 @@ outcomes 1, places 7
 """
 FILE = b"row 7 7 7 0\npublish 7 start\nstate 7\nstate 7\nclaim 7 0\nresume 7 0 cont 0\n"
 REPLIES = b"published 1\nstopped 1 0x80057f\nstopped 1 0x80057f\nstop 1 0x80057f\nresumed\n"
+# An example with `--ends`, and what is printed without it.
+ENDING = b"row 7 7 7 0\nthread a\npublish 7 start\n"
+ENDS = b"1 outcomes, first 1: 7 stopped; nobody waits\noutcomes 1, places 2\n"
+WHOLE = b"""outcome 1 of 1
+thread a
+publish 7 start: published 1
+tracees
+7 stopped 1 0x80057f
+order
+a publish 7 start: published 1
+
+outcomes 1, places 2
+"""
+# A forbidden example, which has one place more with its first reply alone.
+UNMET = b"row 7 7 7 0\nthread a\npublish 7 start = published 1\nwait 7 0 = stop 2 *\n"
+NO_RUN = b"forbidden: line 4\n"
+TOO_MANY = b"tracer: too many places\n"
 
 
 def is_right():
-    """Whether what follows from an outcome that was written by hand is what should."""
-    found = [(" ".join(words[1:]), given, stdout, stderr, status) for words, given, stdout, stderr, status
-             in follow([], GIVEN, TEXT)]
+    """Whether what follows from outcomes that were written by hand is what should."""
+    tried = [([], GIVEN, TEXT), (["--ends"], ENDING, ENDS), ([], UNMET, NO_RUN)]
+    found = [(" ".join(words), *of_it) for example in tried for words, *of_it in follow(*example)]
     return found == [
-        ("--budget 7", GIVEN, TEXT, b"", 0),
-        ("--budget 6", GIVEN, b"", b"tracer: too many places\n", 3),
-        ("--replay 1", GIVEN, FILE, b"", 0),
-        ("", FILE, REPLIES, b"", 0),
-        ("--replay 2", GIVEN, b"", b"tracer: no outcome 2\n", 4),
+        ("explore --budget 7", GIVEN, TEXT, b"", 0),
+        ("explore --budget 6", GIVEN, b"", TOO_MANY, 3),
+        ("explore --replay 1", GIVEN, FILE, b"", 0),
+        ("replay", FILE, REPLIES, b"", 0),
+        ("explore --replay 2", GIVEN, b"", b"tracer: no outcome 2\n", 4),
+        ("explore --ends --budget 2", ENDING, ENDS, b"", 0),
+        ("explore --ends --budget 1", ENDING, b"", TOO_MANY, 3),
+        ("explore", ENDING, WHOLE, b"", 0),
+        ("explore --replay 1", ENDING, b"row 7 7 7 0\npublish 7 start\n", b"", 0),
+        ("replay", b"row 7 7 7 0\npublish 7 start\n", b"published 1\n", b"", 0),
+        ("explore --replay 2", ENDING, b"", b"tracer: no outcome 2\n", 4),
+        ("explore --budget 3", UNMET, NO_RUN, b"", 4),
+        ("explore --budget 2", UNMET, b"forbidden\n", b"", 4),
+        ("explore --budget 1", UNMET, b"", TOO_MANY, 3),
     ]

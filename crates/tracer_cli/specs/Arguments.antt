@@ -1,9 +1,9 @@
 -- The command line, as clap's definitions read it: `tracer replay [FILE]`,
--- `tracer run [-f] [--seccomp-bpf] [-w N] [-s N] [-e NAMES] [FILE]`, `tracer explore [--budget N] [--replay K] [--ends] [FILE]`,
--- and `tracer --version`.
+-- `tracer run [-f] [--seccomp-bpf] [-w N] [-s N] [-e NAMES] [FILE]`,
+-- `tracer explore [--budget N] [--replay K] [--ends] [FILE]`, and `tracer --version`.
 use Rattle.std.specs.Borrow.{Bor}
-use Rattle.std.specs.Prelude.{◌≡◌, ◌≢◌, ◌≤◌, ◌⊎◌, ◌∷◌, [], ℕ, Bool, true, false, IsTrue, IsFalse, List, Option, Some, None}
-use Rattle.std.specs.Prelude.{Result, Ok, Err, codes, option_map, pos}
+use Rattle.std.specs.Prelude.{◌≡◌, ◌≢◌, ◌≤◌, ◌⊎◌, ◌∷◌, [], ℕ, Bool, true, false, IsTrue, IsFalse, List}
+use Rattle.std.specs.Prelude.{Option, Some, None, Result, Ok, Err, codes, option_map, pos}
 use Rattle.std.specs.Option.{option_map_or}
 use Rattle.std.specs.Str.{bytes_eq}
 use Rattle.std.specs.Str.Parse.{digits_value, without_leading_plus}
@@ -89,7 +89,8 @@ run_app =
 
 abbrev pub explore_app : App
 explore_app =
-    with_rule (with_rule (with_rule (with_rule (new_app (codes "explore")) budget_rule) outcome_rule) ends_rule) file_rule
+    with_rule (with_rule (with_rule (with_rule (new_app (codes "explore")) budget_rule) outcome_rule) ends_rule)
+    file_rule
 
 abbrev pub has_version : App → App
 has_version app = record app { top = record app.top { has_version = true } }
@@ -144,7 +145,8 @@ pub record AreOptions (rows : List Row) (options : RunOptions) : Type 0 where
 -- a number from 1 that may be left out
 abbrev pub IsOptionalNumber : (most : ℕ) → Option Text → Option ℕ → Type 0
 IsOptionalNumber most None place = place ≡ None
-IsOptionalNumber most (Some text) place = IsUnsignedIn 1 most text → place ≡ Some (digits_value 10 (without_leading_plus text))
+IsOptionalNumber most (Some text) place =
+    IsUnsignedIn 1 most text → place ≡ Some (digits_value 10 (without_leading_plus text))
 
 -- what is printed, by the two options that say it, which do not go together
 abbrev pub listing_of : (ends : Bool) → (outcome : Option ℕ) → Option Listing

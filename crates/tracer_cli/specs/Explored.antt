@@ -1,4 +1,5 @@
--- What `tracer explore` prints of a litmus file: the outcomes of its program, how they end, or the order of one of them.
+-- What `tracer explore` prints of a litmus file: the outcomes of its program, how they end, or the order of one of
+-- them.
 use Rattle.std.specs.Prelude.{◌≡◌, ◌≤◌, ◌+◌, ◌-◌, ◌/◌, ◌&&◌, ◌==◌, ◌⊎◌, ℕ, Bool, true, false, not, nat_le, List, length}
 use Rattle.std.specs.Prelude.{Option, Some, None, Result, Ok, Err, IsOkAnd, slice_get, if◌then◌else◌}
 use Rattle.std.specs.Io.KnownBytes.{Appends}
@@ -51,8 +52,8 @@ all_required content = length content.requirements
 
 -- ---- what is found
 
--- the outcomes of a program: each run has one of them, each is a run's, and no two are one; and the number of the places
--- that its runs come by
+-- the outcomes of a program: each run has one of them, each is a run's, and no two are one; and the number of the
+-- places that its runs come by
 pub record AreOutcomes (content : LitmusContent) (count : ℕ) (found : List EndedRun) (places : ℕ) : Type 0 where
   pub complete : (run : Log) (last : History) → IsRun content.rows (commands_with content count) run last
       → HasOutcome (is_quiet content.voices) (commands_with content count) found (ended_run content.rows run last)
@@ -61,7 +62,8 @@ pub record AreOutcomes (content : LitmusContent) (count : ℕ) (found : List End
   pub counted : HasPlaces content.rows (is_quiet content.voices) (commands_with content count) places
 
 abbrev pub HasMorePlacesWith : LitmusContent → (count budget : ℕ) → Type 0
-HasMorePlacesWith content count budget = HasMorePlaces content.rows (is_quiet content.voices) (commands_with content count) budget
+HasMorePlacesWith content count budget =
+    HasMorePlaces content.rows (is_quiet content.voices) (commands_with content count) budget
 
 -- what a search keeps is what it found, beside the commands and the conditions that it found it of
 pub record IsSearched (content : LitmusContent) (budget count : ℕ) (searched : Searched) : Type 0 where
@@ -116,8 +118,8 @@ pub record IsAskedFrom (content : LitmusContent) (first last count : ℕ) : Type
 abbrev pub IsAsked : LitmusContent → (count : ℕ) → Type 0
 IsAsked content count = IsAskedFrom content 0 (all_required content) count
 
--- what is said where not all can be met: the line of the first one with which those down to it cannot; or no line, where
--- a search that halving asks for has more places than the budget, and only there
+-- what is said where not all can be met: the line of the first one with which those down to it cannot; or no line,
+-- where a search that halving asks for has more places than the budget, and only there
 abbrev pub IsForbiddenText : (budget : ℕ) → LitmusContent → (text : List ℕ) → Type 0
 IsForbiddenText budget content text =
     ((count : ℕ) × IsFirstUnmet content count
@@ -188,8 +190,8 @@ pub record HasNoOutcome (options : ExploreOptions) (content : LitmusContent) (nu
   pub asked : options.listing ≡ listing.Replay number
   pub none : asked_text options.listing content found places ≡ None
 
--- why nothing is shown of a file: it is refused by its first fault; its program has more places than are searched, or no
--- such outcome; or memory runs out
+-- why nothing is shown of a file: it is refused by its first fault; its program has more places than are searched, or
+-- no such outcome; or memory runs out
 abbrev pub IsUnshown : ExploreOptions → (read : Result LitmusContent CaseError) → Failure → Type 0
 IsUnshown options read (Refused error) = read ≡ Err error
 IsUnshown options read TooManyPlaces =

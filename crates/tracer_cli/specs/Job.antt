@@ -20,7 +20,8 @@ IsJob (Help text) input (job.Print told) = string_bytes told ≡ string_bytes te
 IsJob (Replay file) input (job.Replay bytes) = file ≡ None → IsReadOf input bytes.items
 IsJob (Run options file) input (job.Run config bytes) =
     (unknown_name options.names ≡ None) × HasConfig options config × (file ≡ None → IsReadOf input bytes.items)
-IsJob (Explore options file) input (job.Explore asked bytes) = (asked ≡ options) × (file ≡ None → IsReadOf input bytes.items)
+IsJob (Explore options file) input (job.Explore asked bytes) =
+    (asked ≡ options) × (file ≡ None → IsReadOf input bytes.items)
 IsJob request input other = ⊥
 
 -- why a request has no job: of a run, a name is unknown; all names are known, and the file cannot be read; or there is

@@ -1,8 +1,9 @@
 -- What a litmus file says: its rows, its threads, their commands with repeats written out, and what it requires; or
 -- its first fault, with its line. Lines are taken in order; within a line words and numbers come first, then what the
 -- lines before it refuse, in the order of causes. After the last line no repeat is open.
-use Rattle.std.specs.Prelude.{◌≡◌, ◌==◌, ◌+◌, ◌-◌, ◌++◌, ◌<◌, ◌≤◌, ◌∷◌, [], ℕ, suc, zero, nat_le, All, List, length, map}
-use Rattle.std.specs.Prelude.{Bool, IsUtf8, bytes_eq, decimal, find, not, slice_index_or, Option, Some, None, IfSome, is_some, Result, Ok, Err, if◌then◌else◌}
+use Rattle.std.specs.Prelude.{◌≡◌, ◌==◌, ◌+◌, ◌-◌, ◌++◌, ◌<◌, ◌≤◌, ◌∷◌, [], ℕ, suc, zero, nat_le, All, List, length}
+use Rattle.std.specs.Prelude.{Bool, IsUtf8, bytes_eq, decimal, find, map, not, slice_index_or, Option, Some, None}
+use Rattle.std.specs.Prelude.{IfSome, is_some, Result, Ok, Err, if◌then◌else◌}
 use Rattle.std.specs.List.{range_with_len}
 use Rattle.std.specs.Option.{ok_or}
 use Rattle.stop_explorer.specs.declared.command.ThreadCommand.{ThreadCommand}
@@ -231,7 +232,8 @@ condition_added n so_far word asked =
 -- ---- lines
 
 -- the words of a line are asked for the name of a thread alone
-abbrev pub litmus_line_added : (n : ℕ) → LitmusReading → (words : List (List ℕ)) → LitmusLine → Result LitmusReading Cause
+abbrev pub litmus_line_added : (n : ℕ) → LitmusReading → (words : List (List ℕ)) → LitmusLine
+    → Result LitmusReading Cause
 litmus_line_added n so_far words line.Nothing = Ok so_far
 litmus_line_added n so_far words (line.Row row) = litmus_row_added so_far row
 litmus_line_added n so_far words (line.Thread voice) = thread_added so_far voice (name_of_words words)
@@ -294,5 +296,6 @@ pub record IsLitmusReading (so_far : LitmusReading) : Type 0 where
   pub calls : All (λ numbered. IsLitmusCall numbered.line.command.call) so_far.lines
   pub threads : All (λ numbered. numbered.line.thread < length so_far.names) so_far.lines
   pub forward : GoForward (own_commands (plain_lines so_far.lines))
-  pub own : so_far.before + length (own_commands (plain_lines so_far.lines) (length so_far.names - 1)) ≤ length so_far.lines
+  pub own : so_far.before + length (own_commands (plain_lines so_far.lines) (length so_far.names - 1))
+      ≤ length so_far.lines
   pub body : IfSome so_far.repeat (λ repeat. AreLitmusCalls repeat.body)

@@ -1,9 +1,9 @@
 -- What a line of a litmus file says, by its words and by where it is: what it says, or its first fault in the order of
 -- causes. All words are tested (UnknownWord) before any number (BadNumber). What only the lines before it can refuse
 -- is left to the file.
-use Rattle.std.specs.Prelude.{◌==◌, ◌&&◌, ◌||◌, ◌<◌, ◌+◌, ◌∷◌, [], ℕ, Bool, true, false, nat_le, List, length, codes, drop}
-use Rattle.std.specs.Prelude.{IfSome, IsUtf8, Option, Some, None, position, Result, Ok, Err, slice_get, slice_index, take}
-use Rattle.std.specs.Prelude.{if◌then◌else◌}
+use Rattle.std.specs.Prelude.{◌==◌, ◌&&◌, ◌||◌, ◌<◌, ◌+◌, ◌∷◌, [], ℕ, Bool, true, false, nat_le, List, length}
+use Rattle.std.specs.Prelude.{IfSome, IsUtf8, Option, Some, None, codes, drop, position, Result, Ok, Err, slice_get}
+use Rattle.std.specs.Prelude.{slice_index, take, if◌then◌else◌}
 use Rattle.std.specs.Char.{is_ascii_alphabetic, is_ascii_alphanumeric}
 use Rattle.std.specs.List.{list_all}
 use Rattle.stop_explorer.specs.BoardCall.{IsBoardCall}
@@ -47,7 +47,8 @@ use Rattle.tracer_cli.specs.LitmusReply.{is_any_word, is_group_word, is_it_word,
 abbrev pub litmus_keywords : List (List ℕ × LitmusKeyword)
 litmus_keywords =
     (codes "row", keyword.Row) ∷ (codes "thread", keyword.Thread Loud) ∷ (codes "quiet", keyword.Thread Quiet)
-    ∷ (codes "repeat", keyword.Repeat) ∷ (codes "end", keyword.End) ∷ (codes "only", keyword.Only) ∷ (codes "publish", keyword.Command Publish) ∷ (codes "exit", keyword.Command Exit)
+    ∷ (codes "repeat", keyword.Repeat) ∷ (codes "end", keyword.End) ∷ (codes "only", keyword.Only)
+    ∷ (codes "publish", keyword.Command Publish) ∷ (codes "exit", keyword.Command Exit)
     ∷ (codes "state", keyword.Command State) ∷ (codes "claim", keyword.Command Claim)
     ∷ (codes "wait", keyword.Command Wait) ∷ (codes "look", keyword.Command Look)
     ∷ (codes "peek", keyword.Command Peek) ∷ (codes "resume", keyword.Command Resume) ∷ []

@@ -1,7 +1,7 @@
 -- How outcomes end, and how many end alike: the last states of the tracees, by their names alone, and the threads that
 -- wait. Outcomes end alike where this is written alike.
-use Rattle.std.specs.Prelude.{◌+◌, ◌==◌, ◌++◌, ◌∷◌, [], ℕ, zero, suc, Bool, not, List, length, map, filter, flat_map, zip}
-use Rattle.std.specs.Prelude.{Option, codes, decimal, bytes_eq, slice_index_or, count_by, if◌then◌else◌}
+use Rattle.std.specs.Prelude.{◌+◌, ◌==◌, ◌++◌, ◌∷◌, [], ℕ, zero, suc, Bool, not, List, length, map, filter, flat_map}
+use Rattle.std.specs.Prelude.{Option, codes, decimal, bytes_eq, slice_index_or, count_by, zip, if◌then◌else◌}
 use Rattle.std.specs.List.{list_any, range_with_len}
 use Rattle.stop_history.specs.declared.roster.Row.{Row}
 use Rattle.stop_history.specs.declared.state.State.{State}

@@ -116,8 +116,8 @@ ExploresNamed words text before after (Err NoMemory) = Unit {0}
 ExploresNamed words text before after result =
     (options : ExploreOptions) × AreExploreOptionsOf words options × Explores options text before after result
 
--- help is printed, or what standard input has is replayed, run or explored, where its bytes are known; of a file that is
--- named, some bytes are, since nothing is known of what it has
+-- help is printed, or what standard input has is replayed, run or explored, where its bytes are known; of a file that
+-- is named, some bytes are, since nothing is known of what it has
 abbrev pub AnswersRequest : Request → (input : Option (List ℕ)) → (before after : Option (List ℕ))
     → Result (Unit {0}) Failure → Type 0
 AnswersRequest (Help text) input before after result = Writes (string_bytes text) before after result

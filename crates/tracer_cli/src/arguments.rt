@@ -3,10 +3,10 @@
 ghost use Rattle.std.specs.Prelude.{◌≡◌, ◌≤◌, IfErr, IfOk, IsTrue, Some, false, map, true};
 ghost use Rattle.clap.specs.Words.{app_of, found_of, kind_of, one_text, rows_of, rule_of, subcommand_rows_of, takes};
 ghost use Rattle.clap.specs.declared.builder.command.Command.TheViews.{out-Command};
-ghost use Rattle.tracer_cli.specs.Arguments.{AreAskedOptions, AreOptions, IsAskedBy, IsExploreRequest, IsFailureBy, IsHelp};
-ghost use Rattle.tracer_cli.specs.Arguments.{IsNamedBy, IsNumber, IsOptionalNumber, IsTakenBy, budget_rule, ends_rule};
-ghost use Rattle.tracer_cli.specs.Arguments.{explore_app, file_rule, follow_rule, limit_rule, listing_of, names_rule};
-ghost use Rattle.tracer_cli.specs.Arguments.{outcome_rule, replay_app};
+ghost use Rattle.tracer_cli.specs.Arguments.{AreAskedOptions, AreOptions, IsAskedBy, IsExploreRequest, IsFailureBy};
+ghost use Rattle.tracer_cli.specs.Arguments.{IsHelp, IsNamedBy, IsNumber, IsOptionalNumber, IsTakenBy, budget_rule};
+ghost use Rattle.tracer_cli.specs.Arguments.{ends_rule, explore_app, file_rule, follow_rule, limit_rule, listing_of};
+ghost use Rattle.tracer_cli.specs.Arguments.{names_rule, outcome_rule, replay_app};
 ghost use Rattle.tracer_cli.specs.Arguments.{run_app, seccomp_rule, shows_text, tracer_app, workers_rule};
 
 use crate::failure::Failure;
@@ -31,7 +31,8 @@ Exit status:
   0  done
   1  the file is refused
   2  the command line is wrong, or -e names an unknown call
-  3  out of memory, or something cannot be read or written
+  3  out of memory, the file or standard input cannot be read, standard output cannot be
+     written, a thread cannot be started, or a litmus file has more places than the budget
   4  no order of the commands has the replies and the conditions, or no outcome has the number
 
 The formats of case files, replay files and litmus files: docs/FORMATS.md";

@@ -62,8 +62,9 @@ pub fn process<H: Files + AllocGlobal + Threads + Wait + Clock + Sync, R: Read, 
 
 /// Runs the program on its words, the program's name first, with standard input, output and error. Returns the exit
 /// status: 0 where it is done or help was asked for, 1 where the file is refused, 2 for a wrong command line, 4 where a
-/// program has no outcome with the replies and conditions of its file, or of the number asked for, 3 otherwise. A failed
-/// write to standard error does not change it, and is not tried again: a beginning of the message is written then.
+/// program has no outcome with the replies and conditions of its file, or of the number asked for, 3 otherwise. A
+/// failed write to standard error does not change it, and is not tried again: a beginning of the message is written
+/// then.
 pub fn program<H: Files + AllocGlobal + Threads + Wait + Clock + Sync, R: Read, W: Write, E: Write>(
     rt: &H,
     words: &[String],

@@ -3,8 +3,8 @@
 ghost use Rattle.std.specs.Prelude.{◌≡◌, ◌++◌, ◌≤◌, ◌∷◌, [], length, All, OnOk, codes, decimal, string_bytes};
 ghost use Rattle.tracer_cli.specs.Command.{IsOrder};
 ghost use Rattle.tracer_cli.specs.Replies.{at_status, done_text, got_text, history_after_command};
-ghost use Rattle.tracer_cli.specs.Replies.{published_text, refusal_name, refusal_text, replies, reply_text, state_details};
-ghost use Rattle.tracer_cli.specs.Replies.{state_text};
+ghost use Rattle.tracer_cli.specs.Replies.{published_text, refusal_name, refusal_text, replies, reply_text};
+ghost use Rattle.tracer_cli.specs.Replies.{state_details, state_text};
 ghost use Rattle.tracer_cli.specs.StateName.{state_word};
 ghost use Rattle.stop_history.specs.Roster.{row_at};
 ghost use Rattle.stop_history.specs.declared.limits.TheConstants.{MOST_ROWS, TRACERS};

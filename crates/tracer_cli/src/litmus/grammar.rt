@@ -10,9 +10,9 @@ ghost use Rattle.tracer_cli.specs.Grammar.{IsLine};
 ghost use Rattle.tracer_cli.specs.LitmusGrammar.{IsLitmusCall, IsLitmusCommand, IsLitmusLine, any_or_tid};
 ghost use Rattle.tracer_cli.specs.LitmusGrammar.{as_in_replay, asking, bare_command_of, claim_call, claim_command};
 ghost use Rattle.tracer_cli.specs.LitmusGrammar.{claim_of_words, command_of_words, does_wait, group_aim};
-ghost use Rattle.tracer_cli.specs.LitmusGrammar.{is_name_byte, is_thread_name, it_or_tid, litmus_line_of, litmus_rest_of};
-ghost use Rattle.tracer_cli.specs.LitmusGrammar.{name_of_words, repeat_line, replied_command, resume_command};
-ghost use Rattle.tracer_cli.specs.LitmusGrammar.{resume_of_words, thread_line};
+ghost use Rattle.tracer_cli.specs.LitmusGrammar.{is_name_byte, is_thread_name, it_or_tid, litmus_line_of};
+ghost use Rattle.tracer_cli.specs.LitmusGrammar.{litmus_rest_of, name_of_words, repeat_line, replied_command};
+ghost use Rattle.tracer_cli.specs.LitmusGrammar.{resume_command, resume_of_words, thread_line};
 
 use crate::command::Command;
 use crate::grammar::{KINDS, Line, ReplayKeyword, rest_of, tracer_of};

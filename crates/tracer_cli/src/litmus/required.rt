@@ -1,6 +1,6 @@
-//! What a file requires: its replies and its conditions, numbered from 1 in the order of its lines. A reply that is in a
-//! repeat is one of them, and each copy has its number. Between the program with all of them and the one with none are
-//! the programs with the first n.
+//! What a file requires: its replies and its conditions, numbered from 1 in the order of its lines. A reply that is in
+//! a repeat is one of them, and each copy has its number. Between the program with all of them and the one with none
+//! are the programs with the first n.
 
 ghost use Rattle.std.specs.Prelude.{◌≡◌, IfOk};
 ghost use Rattle.tracer_cli.specs.Required.{conditions_with, required_line, program_with};

@@ -60,7 +60,8 @@ fn done_word(asked: BoardCall) -> &'static str
     }
 }
 
-/// Writes the stop or the death that was got of a row, with its thread id before it where the command takes any row, or any of a group.
+/// Writes the stop or the death that was got of a row, with its thread id before it where the command takes any row, or
+/// any of a group.
 #[tactic(auto, using(crate::proofs::Written::in_line))]
 fn write_taken<A: Allocator>(
     out: &mut String<A>,

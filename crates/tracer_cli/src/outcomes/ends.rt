@@ -1,7 +1,8 @@
 //! How outcomes end, those that end alike on one line: the last states of the tracees, by their names alone, and the
 //! threads that wait.
 
-ghost use Rattle.std.specs.Prelude.{◌≡◌, ◌<◌, ◌+◌, ◌^◌, ◌++◌, length, IfOk, OnOk, bytes_eq, codes, filter, map, string_bytes, zip};
+ghost use Rattle.std.specs.Prelude.{◌≡◌, ◌<◌, ◌+◌, ◌^◌, ◌++◌, length, IfOk, OnOk, bytes_eq, codes, filter, map};
+ghost use Rattle.std.specs.Prelude.{string_bytes, zip};
 ghost use Rattle.std.specs.List.{All, list_any, range_with_len};
 ghost use Rattle.stop_explorer.specs.Search.{commands_in};
 ghost use Rattle.tracer_cli.specs.Chosen.{chosen_of};

@@ -1,6 +1,7 @@
 //! The lines of turns, kept for turns that come again: the outcomes of a program have few different ones.
 
-ghost use Rattle.std.specs.Prelude.{◌≡◌, ◌++◌, ◌+◌, ◌<◌, ℕ, IfOk, List, OnOk, Some, codes, length, slice_get, string_bytes};
+ghost use Rattle.std.specs.Prelude.{◌≡◌, ◌++◌, ◌+◌, ◌<◌, ℕ, IfOk, List, OnOk, Some, codes, length, slice_get};
+ghost use Rattle.std.specs.Prelude.{string_bytes};
 ghost use Rattle.std.specs.Bool.{OnTrue};
 ghost use Rattle.std.specs.List.{All};
 ghost use Rattle.stop_explorer.specs.declared.command.ThreadCommand.{ThreadCommand};

@@ -12,7 +12,7 @@ COMMA = ,
 
 .PHONY: all kit demo examples scarce-memory refused-memory man-page documents one-source one-meaning refused-code check \
 	wrong-bodies wrong-bodies-changed wrong-bodies-test test bench bench-case bench-cells bench-pages bench-fold bench-run \
-	bench-threads bench-large bench-explore tools install clean
+	bench-threads bench-large bench-explore bench-rounds tools install clean
 
 all: kit
 	@echo "make: proving the program and what it stands on, over what earlier runs kept (the first time: 45 minutes)"
@@ -143,6 +143,7 @@ bench: tools all
 	@$(MAKE) --no-print-directory bench-threads
 	@$(MAKE) --no-print-directory bench-large
 	@$(MAKE) --no-print-directory bench-explore
+	@$(MAKE) --no-print-directory bench-rounds
 
 # Builds a program of bench/, which is a crate of the repository for as long as that takes: the crate's name, its source,
 # the libraries that it uses, and the words or the input that it is run with.
@@ -223,6 +224,19 @@ bench-explore: tools all
 	@$(OUT)/generate_litmus > $(OUT)/commands.litmus
 	@$(PYTHON) bench/compare.py --runs 9 "bin/tracer explore" $(OUT)/plain_explore bench/explore.litmus
 	@$(PYTHON) bench/compare.py --runs 9 "bin/tracer explore" $(OUT)/plain_explore $(OUT)/commands.litmus
+
+# Which outcomes of a small program rounds of real threads had, and how often, in place of a time. Two tests of
+# thread_tests print it; each begins no round after 40 seconds.
+bench-rounds: kit
+	@echo "bench-rounds: running 100,000 rounds of two threads, and as many of three (two to four minutes)"
+	@mkdir -p $(OUT)
+	@(cd crates/thread_tests && $(RT) try --test --seconds 300 -- explored::rounds) > $(OUT)/rounds.txt 2>&1 \
+	  || { cat $(OUT)/rounds.txt; echo "bench-rounds: FAILED: a test of the rounds did not pass" >&2; exit 1; }
+	@sed -n 's/^    \(.*rounds\|outcome\)/\1/p' $(OUT)/rounds.txt
+	@test "$$(grep -c '^    rounds of [23] threads: ' $(OUT)/rounds.txt)" -eq 2 \
+	  || { echo "bench-rounds: FAILED: two tests were to say what was seen" >&2; exit 1; }
+	@! grep -q '^    fewer than' $(OUT)/rounds.txt \
+	  || echo "bench-rounds: this machine was too busy for 100,000 rounds of each"
 
 tools:
 	@for command in $(RUSTC) $(PYTHON); do \

@@ -5,3 +5,4 @@ mod places;
 mod programs;
 mod rounds;
 mod threads;
+mod words;

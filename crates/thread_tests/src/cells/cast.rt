@@ -52,7 +52,7 @@ impl<A: Allocator + Copy> Cast<A> {
         ensures table { IfOk result (λ t. t.tracee.table_id ≡ self.old.unused.table_id) }
         ensures same { self.new.unused.table_id ≡ self.old.unused.table_id }
     {
-        let roster = Roster::new(alloc, self.roster.rows())?;
+        let roster = Roster::copy(alloc, &self.roster)?;
         let Some(tracee) = self.ends.tracees.pop() else {
             return Err(Fail::new("no tracee is left"));
         };

@@ -1,11 +1,13 @@
 //! 100,000 rounds of two threads, and as many of three, or those that can be done in some seconds: where other programs
-//! have the processors, the threads of a round wait long for each other.
+//! have the processors, threads wait long for each other. What is printed says which outcomes were seen
+//! (`make bench-rounds`).
 
 use crate::cells::cast::{Cast, open_for};
 use crate::cells::runner::AtRest;
 use crate::compare::{holds, same};
 use crate::explored::programs::{NO_LOOKER, Round, of_three, of_two, outcomes};
 use crate::explored::threads::{Line, claim_and_wait, look_and_claim, run_tracees};
+use crate::explored::words::words_of;
 use crate::rows::roots;
 use std::alloc::Global;
 use std::process::Abort;
@@ -16,13 +18,17 @@ use std::thread::Threads;
 use std::time::{Clock, Instant};
 use stop_explorer::Voice;
 
-/// How many rows the cells have, a round for each, and how many cells are opened.
-const ROWS: u32 = 50;
+/// How many rows the cells have, a round for each, and how often cells are opened.
+const ROWS: u32 = 250;
 
-const TABLES: u32 = 2_000;
+const TABLES: u32 = 400;
 
-/// After how many seconds no further cells are opened.
-const SECONDS: u64 = 15;
+const ROUNDS: u32 = ROWS * TABLES;
+
+/// After how many seconds no further cells are opened, once the first few were: a test has 60 seconds.
+const SECONDS: u64 = 40;
+
+const LEAST_TABLES: u32 = 4;
 
 /// How often each outcome was seen, and how many rounds had none.
 #[derive(Drop)]
@@ -62,21 +68,42 @@ impl Tally {
         self.seen.iter().filter(|count| **count > 0).count()
     }
 
-    /// Prints how often each outcome was seen.
-    fn print(&self, rt: &HostRuntime, threads: u32) -> Result<(), Fail> {
+    /// Prints how often each outcome was seen, and what its threads are answered.
+    fn print(&self, rt: &HostRuntime, alloc: Global, threads: u32) -> Result<(), Fail> {
         let (kinds, all, rounds) = (self.kinds(), self.outcomes.len(), self.rounds());
-        let seen = self.seen.as_slice();
         println!(rt;
-            "of {all} outcomes {kinds} were seen in {rounds} rounds of {threads} threads: {seen:?}"
+            "rounds of {threads} threads: {rounds}, in which {kinds} of {all} outcomes were seen"
         )?;
+        if rounds < ROUNDS {
+            println!(rt; "fewer than {ROUNDS} rounds: after {SECONDS} seconds none was begun")?;
+        }
+        let mut number = 0u32;
+        for (outcome, seen) in self.outcomes.iter().zip(self.seen.iter()) {
+            number = number.wrapping_add(1);
+            let text = words_of(alloc, outcome, threads == 3)?;
+            println!(rt; "outcome {number}, seen {seen}: {text}")?;
+        }
         Ok(())
     }
 
     /// Tests that each round had an outcome.
     fn test<R: Abort>(&self, rt: &R) {
         same(rt, &self.strange, &0);
-        holds(rt, self.rounds() >= ROWS, "a round for each row, at least");
+        let least = ROWS * LEAST_TABLES;
+        holds(
+            rt,
+            self.rounds() >= least,
+            "the rounds of the first few cells, at least",
+        );
     }
+}
+
+/// Whether cells are to be opened once more, after this many.
+fn goes_on<R: Clock>(rt: &R, opened: u32, start: &Instant) -> Result<bool, Fail> {
+    if opened < LEAST_TABLES {
+        return Ok(true);
+    }
+    Ok(start.elapsed(rt)?.as_secs() < SECONDS)
 }
 
 /// The tracees of new cells, the last one first.
@@ -155,13 +182,13 @@ fn rounds_of_two_threads_have_an_outcome(rt: HostRuntime) -> Result<(), Fail> {
     let found = outcomes(alloc, &[Voice::Loud; 2], &of_two())?;
     let mut tally = Tally::new(alloc, found)?;
     let start = Instant::now(&rt)?;
-    for _ in 0..TABLES {
-        if start.elapsed(&rt)?.as_secs() < SECONDS {
+    for opened in 0..TABLES {
+        if goes_on(&rt, opened, &start)? {
             race_two(&rt, alloc, &mut tally)?;
         }
     }
     same(&rt, &tally.outcomes.len(), &2);
-    tally.print(&rt, 2)?;
+    tally.print(&rt, alloc, 2)?;
     tally.test(&rt);
     Ok(())
 }
@@ -172,12 +199,12 @@ fn rounds_of_three_threads_have_an_outcome(rt: HostRuntime) -> Result<(), Fail> 
     let found = outcomes(alloc, &[Voice::Loud; 3], &of_three())?;
     let mut tally = Tally::new(alloc, found)?;
     let start = Instant::now(&rt)?;
-    for _ in 0..TABLES {
-        if start.elapsed(&rt)?.as_secs() < SECONDS {
+    for opened in 0..TABLES {
+        if goes_on(&rt, opened, &start)? {
             race_three(&rt, alloc, &mut tally)?;
         }
     }
-    tally.print(&rt, 3)?;
+    tally.print(&rt, alloc, 3)?;
     tally.test(&rt);
     Ok(())
 }

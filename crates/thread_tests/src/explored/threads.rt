@@ -1,9 +1,9 @@
-//! The threads of the rounds. Each goes through the rows of its cells, the last one first, and does at each row what its
-//! thread of the program does.
+//! The threads of the rounds. Each goes over the rows of its cells, the last one first, and does at each row what its
+//! thread of the program does. Where it has to wait, it tries for a while, then leaves the row for later and goes on.
+//! So threads that run at once race for each row, and one that does not run is waited for once for all rows.
 
 use crate::cells::desk::{Answer as Claimed, Desk};
 use crate::cells::runner::AtRest;
-use crate::cells::stress::runs_on;
 use crate::explored::programs::{CODE, DEATH, LOOKER, TRACEE, WAITER};
 use std::alloc::{AllocError, Global};
 use std::sync::Wait;
@@ -19,10 +19,30 @@ const STARTED: u32 = 0x80057f;
 
 const EXITED: u32 = 0x300;
 
-/// How often a thread looks for the others before it lets others run.
-const LOOKS: u32 = 16;
+/// How often a thread looks whether the others have come to a round too, before it begins the round.
+const LOOKS: u32 = 128;
 
-/// Where threads wait for each other, so that they begin a round at once.
+/// How many lengths a pause may have, the first of them none, and how many looks the next longer one has more.
+const LENGTHS: u32 = 32;
+
+const PAUSE: u32 = 32;
+
+/// How often a thread tries what it waits for at a row, before it leaves the row for later, at most.
+const TRIES: u32 = 64;
+
+/// How often a thread tries at the next row, by whether it waited in vain at the last one: less and less often, while
+/// the others do not run.
+fn tries_after(tries: u32, in_vain: bool) -> u32 {
+    if !in_vain {
+        TRIES
+    } else if tries > 1 {
+        tries / 2
+    } else {
+        1
+    }
+}
+
+/// Where threads meet before each round.
 #[derive(Drop)]
 pub(crate) struct Line {
     here: AtomicU32,
@@ -37,52 +57,127 @@ impl Line {
         }
     }
 
-    /// Waits until each thread has come to this round, from 1.
-    fn wait<R: Wait>(&self, rt: &R, round: u32) {
+    /// Whether the threads have come as often as if each were at this meeting, from 1.
+    fn is_met(&self, meeting: u32) -> bool {
+        self.here.load(Ordering::SeqCst) >= self.threads.wrapping_mul(meeting)
+    }
+
+    /// The first meeting: waits until each thread is there.
+    fn wait<R: Wait>(&self, rt: &R) {
         self.here.fetch_add(1, Ordering::SeqCst);
         for _ in rt.forever() {
-            for _ in 0..LOOKS {
-                if self.here.load(Ordering::SeqCst) >= self.threads.wrapping_mul(round) {
-                    return;
-                }
+            if self.is_met(1) {
+                return;
             }
             thread::yield_now();
         }
         unreachable!()
     }
+
+    /// A later meeting: looks for the others for a while, so that threads that run begin a round at once.
+    fn meet(&self, meeting: u32) {
+        self.here.fetch_add(1, Ordering::SeqCst);
+        for _ in 0..LOOKS {
+            if self.is_met(meeting) {
+                return;
+            }
+        }
+    }
+
+    /// A pause in which the others may act first. Its length goes with the number.
+    fn pause(&self, number: u32) {
+        for _ in 0..(number % LENGTHS).wrapping_mul(PAUSE) {
+            let _here = self.here.load(Ordering::SeqCst);
+        }
+    }
 }
 
-/// A tracee's life: what its publish and its exit are answered.
-fn live<R: Wait>(rt: &R, tracee: AtRest) -> [Answer; TRACEE] {
-    let nothing = [Answer::Nothing; TRACEE];
+/// A tracee that has published its first stop, of this number.
+#[derive(Drop)]
+struct Published {
+    tracee: AtRest,
+    number: u32,
+}
+
+/// Publishes a tracee's first stop. None: it cannot.
+fn publish_first(tracee: AtRest) -> Option<Published> {
     let Ok(running) = tracee.take_up() else {
-        return nothing;
+        return None;
     };
     let number = running.record.number.wrapping_add(1);
-    let Some(stopped) = running.publish(Stop::Start, 0) else {
-        return nothing;
-    };
-    if runs_on(rt, stopped).exit(CODE).is_err() {
-        return nothing;
-    }
-    [Answer::Number(number), Answer::Done]
+    let tracee = running.publish(Stop::Start, 0)?;
+    Some(Published { tracee, number })
 }
 
-/// The lives of the tracees of some rows.
+/// Ends a tracee once it is resumed: what its publish and its exit are answered. It comes back if that takes too many
+/// tries.
+fn try_exit(published: Published, tries: u32) -> Result<[Answer; TRACEE], Published> {
+    let Published { mut tracee, number } = published;
+    for _ in 0..tries {
+        match tracee.take_up() {
+            Ok(running) => {
+                return match running.exit(CODE) {
+                    Ok(_) => Ok([Answer::Number(number), Answer::Done]),
+                    Err(_) => Ok([Answer::Number(number), Answer::Nothing]),
+                };
+            }
+            Err(back) => tracee = back,
+        }
+    }
+    Err(Published { tracee, number })
+}
+
+/// Ends a tracee, or leaves it for later.
+fn end(
+    published: Published,
+    tries: &mut u32,
+    rounds: &mut [[Answer; TRACEE]],
+    left: &mut Vec<Published>,
+) -> Result<(), AllocError> {
+    let row = published.tracee.row as usize;
+    let ended = try_exit(published, *tries);
+    *tries = tries_after(*tries, ended.is_err());
+    match ended {
+        Ok(told) => {
+            if let Some(round) = rounds.get_mut(row) {
+                *round = told;
+            }
+        }
+        Err(published) => left.push(published)?,
+    }
+    Ok(())
+}
+
+/// The lives of the tracees of some rows: what each is answered, in the order of the rows.
 pub(crate) fn run_tracees<R: Wait>(
     rt: &R,
     alloc: Global,
     line: &Line,
     tracees: Vec<AtRest>,
 ) -> Result<Vec<[Answer; TRACEE]>, AllocError> {
-    let mut rounds = Vec::with_capacity(alloc, tracees.len())?;
-    let mut round = 0u32;
+    let mut rounds = vec![in alloc; [Answer::Nothing; TRACEE]; tracees.len()]?;
+    let mut left = Vec::with_capacity(alloc, tracees.len())?;
+    let (mut tries, mut meeting) = (TRIES, 1u32);
+    line.wait(rt);
     for tracee in tracees {
-        round = round.wrapping_add(1);
-        line.wait(rt, round);
-        rounds.push(live(rt, tracee))?;
+        meeting = meeting.wrapping_add(1);
+        line.meet(meeting);
+        if let Some(published) = publish_first(tracee) {
+            end(published, &mut tries, rounds.as_mut_slice(), &mut left)?;
+        }
     }
-    Ok(rounds)
+    for _ in rt.forever() {
+        if left.is_empty() {
+            return Ok(rounds);
+        }
+        thread::yield_now();
+        let mut later = Vec::with_capacity(alloc, left.len())?;
+        for published in left {
+            end(published, &mut tries, rounds.as_mut_slice(), &mut later)?;
+        }
+        left = later;
+    }
+    unreachable!()
 }
 
 /// What a claim that gets nothing and the resume after it are answered.
@@ -104,19 +199,78 @@ fn told_of(claimed: Claimed) -> Option<[Answer; 2]> {
     }
 }
 
-/// Waits for a row, and resumes the stop that it gets.
-fn wait_for<R: Wait>(rt: &R, desk: &mut Desk, row: u32) -> [Answer; 2] {
-    for _ in rt.forever() {
+/// Waits for a row, and resumes the stop that it gets. None: it got nothing for a while.
+fn try_wait(desk: &mut Desk, row: u32, tries: u32) -> Option<[Answer; 2]> {
+    for _ in 0..tries {
         let claimed = desk.try_claim(row);
         if claimed == Claimed::Nothing(Shown::Reaped) {
-            return [Answer::NoChild, Answer::Nothing];
+            return Some([Answer::NoChild, Answer::Nothing]);
         }
         if let Some(told) = told_of(claimed) {
-            return told;
+            return Some(told);
         }
-        thread::yield_now();
     }
-    unreachable!()
+    None
+}
+
+/// What the tracer that claims and waits was answered at a row so far: by its claim, and by its first wait.
+#[derive(Clone, Copy)]
+struct Waiting {
+    row: u32,
+    early: [Answer; 2],
+    first: Option<[Answer; 2]>,
+}
+
+/// Claims a row at once.
+fn claim_early(desk: &mut Desk, row: u32) -> Waiting {
+    Waiting {
+        row,
+        early: told_of(desk.try_claim(row)).unwrap_or(TOO_EARLY),
+        first: None,
+    }
+}
+
+/// Waits for a row twice. Where a wait gets nothing for a while, it answers what it knows so far.
+fn wait_twice(desk: &mut Desk, waiting: Waiting, tries: u32) -> Result<[Answer; WAITER], Waiting> {
+    let Waiting { row, early, first } = waiting;
+    let known = match first {
+        Some(told) => Some(told),
+        None => try_wait(desk, row, tries),
+    };
+    let Some(told) = known else {
+        return Err(waiting);
+    };
+    let Some([second, _]) = try_wait(desk, row, tries) else {
+        return Err(Waiting {
+            row,
+            early,
+            first: Some(told),
+        });
+    };
+    let [claim, resume] = early;
+    let [first, next] = told;
+    Ok([claim, resume, first, next, second])
+}
+
+/// Waits for a row twice, or leaves it for later.
+fn wait_or_leave(
+    desk: &mut Desk,
+    waiting: Waiting,
+    tries: &mut u32,
+    rounds: &mut [[Answer; WAITER]],
+    left: &mut Vec<Waiting>,
+) -> Result<(), AllocError> {
+    let waited = wait_twice(desk, waiting, *tries);
+    *tries = tries_after(*tries, waited.is_err());
+    match waited {
+        Ok(told) => {
+            if let Some(round) = rounds.get_mut(waiting.row as usize) {
+                *round = told;
+            }
+        }
+        Err(known) => left.push(known)?,
+    }
+    Ok(())
 }
 
 /// The tracer that claims each of some rows at once, and then waits for it twice.
@@ -127,29 +281,82 @@ pub(crate) fn claim_and_wait<R: Wait>(
     mut desk: Desk,
     rows: u32,
 ) -> Result<Vec<[Answer; WAITER]>, AllocError> {
-    let mut rounds = Vec::with_capacity(alloc, rows as usize)?;
+    let mut rounds = vec![in alloc; [Answer::Nothing; WAITER]; rows as usize]?;
+    let mut left = Vec::with_capacity(alloc, rows as usize)?;
+    let mut tries = TRIES;
+    line.wait(rt);
     for done in 0..rows {
-        line.wait(rt, done.wrapping_add(1));
-        let row = rows - 1 - done;
-        let [early, then] = told_of(desk.try_claim(row)).unwrap_or(TOO_EARLY);
-        let [first, next] = wait_for(rt, &mut desk, row);
-        let [second, _] = wait_for(rt, &mut desk, row);
-        rounds.push([early, then, first, next, second])?;
+        line.meet(done.wrapping_add(2));
+        line.pause(done);
+        let waiting = claim_early(&mut desk, rows - 1 - done);
+        wait_or_leave(
+            &mut desk,
+            waiting,
+            &mut tries,
+            rounds.as_mut_slice(),
+            &mut left,
+        )?;
     }
-    Ok(rounds)
-}
-
-/// Waits until there is something to see of a row.
-fn look_at<R: Wait>(rt: &R, desk: &mut Desk, row: u32) -> Answer {
     for _ in rt.forever() {
-        match desk.look(row) {
-            Shown::Stopped { number, status } => return Answer::Saw(Got::Stop(number, status)),
-            Shown::Dead { number, status } => return Answer::Saw(Got::Ended(number, status)),
-            Shown::Reaped => return Answer::NoChild,
-            _ => thread::yield_now(),
+        if left.is_empty() {
+            return Ok(rounds);
         }
+        thread::yield_now();
+        let mut later = Vec::with_capacity(alloc, left.len())?;
+        for waiting in left {
+            wait_or_leave(
+                &mut desk,
+                waiting,
+                &mut tries,
+                rounds.as_mut_slice(),
+                &mut later,
+            )?;
+        }
+        left = later;
     }
     unreachable!()
+}
+
+/// Waits until there is something to see of a row. None: there was nothing for a while.
+fn try_look(desk: &mut Desk, row: u32, tries: u32) -> Option<Answer> {
+    for _ in 0..tries {
+        match desk.look(row) {
+            Shown::Stopped { number, status } => {
+                return Some(Answer::Saw(Got::Stop(number, status)));
+            }
+            Shown::Dead { number, status } => {
+                return Some(Answer::Saw(Got::Ended(number, status)));
+            }
+            Shown::Reaped => return Some(Answer::NoChild),
+            Shown::Unborn => {}
+            Shown::Running => {}
+            Shown::Claimed { number: _number } => {}
+        }
+    }
+    None
+}
+
+/// Looks at a row, and after a pause claims what is there; or leaves the row for later.
+fn look_or_leave(
+    desk: &mut Desk,
+    line: &Line,
+    row: u32,
+    tries: &mut u32,
+    rounds: &mut [[Answer; LOOKER]],
+    left: &mut Vec<u32>,
+) -> Result<(), AllocError> {
+    let looked = try_look(desk, row, *tries);
+    *tries = tries_after(*tries, looked.is_none());
+    let Some(seen) = looked else {
+        left.push(row)?;
+        return Ok(());
+    };
+    line.pause(row / 8);
+    let [got, then] = told_of(desk.try_claim(row)).unwrap_or(TOO_EARLY);
+    if let Some(round) = rounds.get_mut(row as usize) {
+        *round = [seen, got, then];
+    }
+    Ok(())
 }
 
 /// The tracer that looks at each of some rows, and then claims what is there.
@@ -160,13 +367,38 @@ pub(crate) fn look_and_claim<R: Wait>(
     mut desk: Desk,
     rows: u32,
 ) -> Result<Vec<[Answer; LOOKER]>, AllocError> {
-    let mut rounds = Vec::with_capacity(alloc, rows as usize)?;
+    let mut rounds = vec![in alloc; [Answer::Nothing; LOOKER]; rows as usize]?;
+    let mut left = Vec::with_capacity(alloc, rows as usize)?;
+    let mut tries = TRIES;
+    line.wait(rt);
     for done in 0..rows {
-        line.wait(rt, done.wrapping_add(1));
-        let row = rows - 1 - done;
-        let seen = look_at(rt, &mut desk, row);
-        let [got, then] = told_of(desk.try_claim(row)).unwrap_or(TOO_EARLY);
-        rounds.push([seen, got, then])?;
+        line.meet(done.wrapping_add(2));
+        look_or_leave(
+            &mut desk,
+            line,
+            rows - 1 - done,
+            &mut tries,
+            rounds.as_mut_slice(),
+            &mut left,
+        )?;
     }
-    Ok(rounds)
+    for _ in rt.forever() {
+        if left.is_empty() {
+            return Ok(rounds);
+        }
+        thread::yield_now();
+        let mut later = Vec::with_capacity(alloc, left.len())?;
+        for row in left {
+            look_or_leave(
+                &mut desk,
+                line,
+                row,
+                &mut tries,
+                rounds.as_mut_slice(),
+                &mut later,
+            )?;
+        }
+        left = later;
+    }
+    unreachable!()
 }

@@ -29,8 +29,7 @@ invariant_of-result g c =
     let row = ap (λ (x : TraceeHandle). x.row) is in
     record {
       rests = ap (λ (x : TraceeHandle). x.view.taken) is;
-      same_roster = ap (λ (x : TraceeHandle). x.view.roster) is
-          ∙ sym (c.in_ok-roster.ensures.ok ∙ c.rows.ensures.rows);
+      same_roster = ap (λ (x : TraceeHandle). x.view.roster) is ∙ sym c.in_ok-roster.ensures;
       same_row = search (rules, row);
       counted = ap (λ (x : TraceeHandle). births_in (events_of x.row (history_of x.view.seen))) is;
     }

@@ -1,7 +1,7 @@
 -- The test for replies that came true says that each command with a reply was done, and says it where it is so.
 use Rattle.std.proofs.Common.{refl, ◌≡◌, ◌≤◌, ◌||◌, ◌&&◌, ◌∷◌, ◌==◌, [], ℕ, Bool, true, false, not, List, Option, Some, None}
 use Rattle.std.proofs.Common.{IsSome, is_some, length, slice_get, arith, ◌∙◌, ap, sym, inl, inr}
-use Rattle.std.proofs.lemmas.Bool.{cases_Bool, cases_lt, eq-eqb, eqb-true, false≢true, not_from_false, or_cases}
+use Rattle.std.proofs.lemmas.Bool.{and_parts, cases_Bool, cases_lt, eq-eqb, eqb-true, false≢true, not_from_false, or_cases}
 use Rattle.std.proofs.lemmas.Bool.{or_left, or_right}
 use Rattle.std.proofs.lemmas.Option.{none-some, slice_get_within}
 use Rattle.stop_explorer.specs.declared.command.ThreadCommand.{ThreadCommand}
@@ -92,3 +92,10 @@ pub chosen_by : (threads : ℕ) (commands : ℕ → List ThreadCommand) (conditi
 unfolding is_chosen
 chosen_by threads commands conditions ending came hold =
     ap (λ b. b && conditions_hold commands conditions ending) came ∙ hold
+
+pub chosen_parts : (threads : ℕ) (commands : ℕ → List ThreadCommand) (conditions : List Condition) (ending : EndedRun)
+    → is_chosen threads commands conditions ending ≡ true
+    → (have_come_true threads commands ending.turns ≡ true) × (conditions_hold commands conditions ending ≡ true)
+unfolding is_chosen
+chosen_parts threads commands conditions ending chosen =
+    and_parts (have_come_true threads commands ending.turns) (conditions_hold commands conditions ending) chosen

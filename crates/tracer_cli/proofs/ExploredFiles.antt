@@ -38,7 +38,8 @@ use Rattle.tracer_cli.specs.declared.litmus.file.LitmusFile.{LitmusFile}
 use Rattle.tracer_cli.specs.declared.litmus.required.NumberedLine.{NumberedLine}
 use Rattle.tracer_cli.specs.LitmusDraft.{IsLitmusFile, content_in}
 use Rattle.tracer_cli.proofs.LitmusFiles.{length_kept}
-use Rattle.tracer_cli.proofs.Unmet.{AreKnown, program_within}
+use Rattle.tracer_cli.proofs.LitmusPlaces.{AreKnown}
+use Rattle.tracer_cli.proofs.Unmet.{program_within}
 
 -- ---- what a search finds, by its program
 

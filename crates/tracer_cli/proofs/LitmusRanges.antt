@@ -1,17 +1,17 @@
 -- What is known of a litmus file's beginning is known with one more line.
-use Rattle.std.proofs.Common.{refl, ◌≡◌, ◌<◌, ◌≤◌, ◌-◌, ◌+◌, ◌++◌, ◌∷◌, [], ℕ, Bool, true, false, cond, List, Option}
+use Rattle.std.proofs.Common.{refl, ◌≡◌, ◌≤◌, ◌+◌, ◌++◌, ◌∷◌, [], ℕ, Bool, true, false, cond, List, Option}
 use Rattle.std.specs.Prelude.{IsUtf8}
-use Rattle.std.proofs.Common.{Some, None, Result, Ok, Err, OnOk, IfSome, arith, eqb, is_some, length, map, nat_le, slice_get, subst, sym}
+use Rattle.std.proofs.Common.{Some, None, Result, Ok, Err, OnOk, IfSome, arith, is_some, length, map, nat_le, subst}
 use Rattle.std.proofs.lemmas.Bool.Decides.{nat_tests}
 use Rattle.std.proofs.lemmas.List.{length_push}
-use Rattle.std.proofs.lemmas.List.Elements.{All-append, All-cons, All-map, All-nil, All-push, All-weaker}
+use Rattle.std.proofs.lemmas.List.Elements.{All-append, All-cons, All-map, All-nil, All-push}
 use Rattle.stop_explorer.specs.declared.command.ThreadCommand.{ThreadCommand}
 use Rattle.stop_explorer.specs.declared.voice.Voice.{Voice}
 use Rattle.stop_history.specs.Roster.{push_fault}
 use Rattle.stop_history.specs.declared.roster.Row.{Row}
 use Rattle.text_lines.specs.Lines.{nth_word}
 use Rattle.text_lines.specs.Ranges.{◌>>=◌}
-use Rattle.trace_script.specs.CaseFile.{roster_cause, unless_fault}
+use Rattle.trace_script.specs.CaseFile.{roster_cause}
 use Rattle.trace_script.specs.Reading.{TakesLine}
 use Rattle.trace_script.specs.declared.cause.Cause.{Cause}
 use Rattle.trace_script.specs.declared.cause.Cause.TheVariants.{NoEnd, TooMany, UnknownWord}
@@ -22,118 +22,48 @@ use Rattle.tracer_cli.specs.declared.litmus.line.LitmusLine.{LitmusLine}
 use Rattle.tracer_cli.specs.declared.litmus.line.LitmusLine.TheVariants as line
 use Rattle.tracer_cli.specs.declared.litmus.required.NumberedCommand.{NumberedCommand}
 use Rattle.tracer_cli.specs.declared.litmus.required.NumberedLine.{NumberedLine}
-use Rattle.stop_explorer.specs.Program.{own_commands}
-use Rattle.tracer_cli.specs.declared.litmus.draft.TheConstants.{MOST_COMMANDS}
 use Rattle.tracer_cli.specs.LitmusFile.{AreLitmusCalls, IsLitmusReading, LitmusReading, OpenRepeat, command_in}
-use Rattle.tracer_cli.specs.LitmusFile.{no_lines, plain_lines}
-use Rattle.tracer_cli.specs.LitmusFile.{commands_added, copies_of, current_thread, leaving_line, litmus_line_added}
-use Rattle.tracer_cli.specs.LitmusFile.{condition_added, condition_of, litmus_row_added, numbered_command, place_past}
+use Rattle.tracer_cli.specs.LitmusFile.{commands_added, copies_of, leaving_line, litmus_line_added, no_lines}
+use Rattle.tracer_cli.specs.LitmusFile.{condition_added, condition_of, litmus_row_added, numbered_command}
 use Rattle.tracer_cli.specs.LitmusFile.{repeat_ended, reply_required, thread_added, thread_command}
 use Rattle.tracer_cli.specs.LitmusFile.{thread_printed_as, wanted_of, which_of, with_condition}
 use Rattle.tracer_cli.specs.LitmusGrammar.{IsLitmusCall, IsLitmusLine, IsNamedLine, name_of_words}
 use Rattle.tracer_cli.proofs.LitmusCopies.{copies_asked}
-use Rattle.tracer_cli.proofs.LitmusForward.{forward_added, own_added, own_begun}
+use Rattle.tracer_cli.proofs.LitmusPlaces.{IsAdded, IsPlaced, begun_placed, bind_ok, is_added, lines_placed}
+use Rattle.tracer_cli.proofs.LitmusPlaces.{nothing_placed, same_ok, unless_ok, with_commands, with_thread}
 
-same_ok : {A : Type 0} (x y : A) (r : Result A Cause) → r ≡ Ok x → r ≡ Ok y → x ≡ y
-same_ok x y r first second = cc
-
-bind_ok : {A B : Type 0} (r : Result A Cause) (next : A → Result B Cause) (new : B) → (r >>= next) ≡ Ok new
-    → (a : A) × (r ≡ Ok a) × (next a ≡ Ok new)
-bind_ok (Ok a) next new is = (a, refl, is)
-bind_ok (Err cause) next new is = absurd (let clash : Err cause ≡ Ok new = is in cc)
-
-unless_ok : (fault : Option Cause) (x new : LitmusReading) → unless_fault fault x ≡ Ok new → x ≡ new
-unless_ok None x new is = same_ok x new (Ok x) refl is
-unless_ok (Some fault) x new is = absurd (let clash : Err fault ≡ Ok new = is in cc)
+-- where its commands are, of what was read
+placed_of : (so_far : LitmusReading) → IsLitmusReading so_far → IsPlaced so_far
+placed_of so_far known = record { begun = known.threads; forward = known.forward; own = known.own }
 
 -- ---- commands of the last thread
 
-below_last : (n thread : ℕ) → eqb n 0 ≡ false → n - 1 ≡ thread → thread < n
-below_last n thread some is = grind (arith, nat_tests)
-
-below : (n thread : ℕ) (none : Bool) → eqb n 0 ≡ none → cond none (Err UnknownWord) (Ok (n - 1)) ≡ Ok thread
-    → thread < n
-below n thread true none is = absurd (let clash : Err UnknownWord ≡ Ok thread = is in cc)
-below n thread false some is = below_last n thread some (same_ok (n - 1) thread (Ok (n - 1)) refl is)
-
-current_is_below : (so_far : LitmusReading) (thread : ℕ) → current_thread so_far ≡ Ok thread
-    → thread < length so_far.names
-current_is_below so_far thread is = below (length so_far.names) thread (eqb (length so_far.names) 0) refl is
-
-current_by : (n thread : ℕ) (none : Bool) → cond none (Err UnknownWord) (Ok (n - 1)) ≡ Ok thread → n - 1 ≡ thread
-current_by n thread true is = absurd (let clash : Err UnknownWord ≡ Ok thread = is in cc)
-current_by n thread false is = same_ok (n - 1) thread (Ok (n - 1)) refl is
-
-current_is_last : (so_far : LitmusReading) (thread : ℕ) → current_thread so_far ≡ Ok thread
-    → length so_far.names - 1 ≡ thread
-current_is_last so_far thread is = current_by (length so_far.names) thread (eqb (length so_far.names) 0) is
-
-past_by : (n place : ℕ) (room : Bool) → cond room (Ok n) (Err TooMany) ≡ Ok place → n ≡ place
-past_by n place true is = same_ok n place (Ok n) refl is
-past_by n place false is = absurd (let clash : Err TooMany ≡ Ok place = is in cc)
-
-place_is : (so_far : LitmusReading) (count place : ℕ) → place_past so_far count ≡ Ok place
-    → length so_far.lines - so_far.before + count ≡ place
-place_is so_far count place is =
-    past_by (length so_far.lines - so_far.before + count) place
-    (nat_le (length so_far.lines + count) MOST_COMMANDS) is
-
-own_few : (so_far : LitmusReading) (thread : ℕ) → IsLitmusReading so_far → length so_far.names - 1 ≡ thread
-    → so_far.before + length (own_commands (plain_lines so_far.lines) thread) ≤ length so_far.lines
-own_few so_far thread known last =
-    subst (λ t. so_far.before + length (own_commands (plain_lines so_far.lines) t) ≤ length so_far.lines) last known.own
-
-room_past : (so_far : LitmusReading) (thread place : ℕ) (commands : List NumberedCommand) → IsLitmusReading so_far
-    → length so_far.names - 1 ≡ thread → length so_far.lines - so_far.before + length commands ≡ place
-    → length (own_commands (plain_lines so_far.lines) thread) + length commands ≤ place
-room_past so_far thread place commands known last past =
-    let few = own_few so_far thread known last in omega (arith, few, past)
-
-own_of_last : (so_far : LitmusReading) (thread place : ℕ) (commands : List NumberedCommand) → IsLitmusReading so_far
-    → length so_far.names - 1 ≡ thread
-    → so_far.before + length (own_commands (plain_lines (so_far.lines ++ map (leaving_line thread place) commands))
-    (length so_far.names - 1)) ≤ length (so_far.lines ++ map (leaving_line thread place) commands)
-own_of_last so_far thread place commands known last =
-    let lines : List NumberedLine = so_far.lines ++ map (leaving_line thread place) commands in
-    subst (λ t. so_far.before + length (own_commands (plain_lines lines) t) ≤ length lines) (sym last)
-    (own_added so_far.lines thread place so_far.before commands (own_few so_far thread known last))
-
-abbrev with_commands : LitmusReading → (thread place : ℕ) → List NumberedCommand → LitmusReading
-with_commands so_far thread place commands =
-    record so_far { lines = so_far.lines ++ map (leaving_line thread place) commands }
-
-with_known : (so_far : LitmusReading) (thread place : ℕ) (commands : List NumberedCommand) → IsLitmusReading so_far
-    → AreLitmusCalls commands → thread < length so_far.names → length so_far.names - 1 ≡ thread
-    → length so_far.lines - so_far.before + length commands ≡ place
-    → IsLitmusReading (with_commands so_far thread place commands)
-with_known so_far thread place commands known asked within last past =
-    let lines = map (leaving_line thread place) commands in
+with_known : (so_far new : LitmusReading) (commands : List NumberedCommand) → IsLitmusReading so_far
+    → AreLitmusCalls commands → (added : IsAdded so_far new commands)
+    → IsLitmusReading (with_commands so_far added.thread added.place commands)
+with_known so_far new commands known asked added =
+    let lines = map (leaving_line added.thread added.place) commands in
     let Asks : NumberedLine → Type 0 = λ l. IsLitmusCall l.line.command.call in
-    let Within : NumberedLine → Type 0 = λ l. l.line.thread < length so_far.names in
+    let placed : IsPlaced (with_commands so_far added.thread added.place commands) =
+    lines_placed (length so_far.names) so_far.before added.thread added.place so_far.lines commands
+    (placed_of so_far known) added.begun added.last added.past in
     record {
       few = known.few;
       names = known.names;
       voices = known.voices;
-      calls = All-append Asks so_far.lines lines known.calls (All-map Asks (leaving_line thread place) commands asked);
-      threads = All-append Within so_far.lines lines known.threads
-          (All-map Within (leaving_line thread place) commands (λ k d less. within));
-      forward = forward_added so_far.lines thread place commands known.forward
-          (room_past so_far thread place commands known last past);
-      own = own_of_last so_far thread place commands known last;
+      calls = All-append Asks so_far.lines lines known.calls
+          (All-map Asks (leaving_line added.thread added.place) commands asked);
+      threads = placed.begun;
+      forward = placed.forward;
+      own = placed.own;
       body = known.body;
     }
 
 commands_kept : (so_far new : LitmusReading) (commands : List NumberedCommand) → IsLitmusReading so_far
     → AreLitmusCalls commands → commands_added so_far commands ≡ Ok new → IsLitmusReading new
 commands_kept so_far new commands known asked is =
-    let at = bind_ok (current_thread so_far)
-    (λ thread. place_past so_far (length commands) >>= λ place. Ok (with_commands so_far thread place commands)) new
-    is in
-    let past = bind_ok (place_past so_far (length commands)) (λ place. Ok (with_commands so_far at.0 place commands))
-    new at.2 in
-    subst IsLitmusReading (same_ok (with_commands so_far at.0 past.0 commands) new _ refl past.2)
-    (with_known so_far at.0 past.0 commands known asked (current_is_below so_far at.0 at.1)
-    (current_is_last so_far at.0 at.1) (place_is so_far (length commands) past.0 past.1))
+    let added = is_added so_far new commands is in
+    subst IsLitmusReading added.is (with_known so_far new commands known asked added)
 
 -- ---- each line
 
@@ -153,13 +83,6 @@ row_kept so_far new row known is =
       body = known.body;
     })
 
-abbrev with_thread : LitmusReading → Voice → Option (List ℕ) → LitmusReading
-with_thread so_far voice name = record so_far {
-  names = so_far.names ++ name ∷ [];
-  voices = so_far.voices ++ voice ∷ [];
-  before = length so_far.lines;
-}
-
 few_more : (n more most : ℕ) → nat_le most n ≡ false → more ≡ n + 1 → more ≤ most
 few_more n more most room is = grind (arith, nat_tests)
 
@@ -171,18 +94,16 @@ thread_by so_far new voice name false true room known valid is = absurd (let cla
 thread_by so_far new voice name false false room known valid is =
     let more = length_push so_far.names name in
     let loud = length_push so_far.voices voice in
-    let Below : ℕ → NumberedLine → Type 0 = λ n l. l.line.thread < n in
+    let placed : IsPlaced (with_thread so_far voice name) = begun_placed so_far voice name (placed_of so_far known) in
     subst IsLitmusReading (same_ok (with_thread so_far voice name) new _ refl is)
     (record {
       few = few_more (length so_far.names) (length (so_far.names ++ name ∷ [])) MOST_THREADS room more;
       names = All-push (λ (n : Option (List ℕ)). IfSome n IsUtf8) so_far.names name known.names valid;
       voices = omega (arith, more, loud, known.voices);
       calls = known.calls;
-      threads = All-weaker (Below (length so_far.names)) (Below (length (so_far.names ++ name ∷ [])))
-          (λ l less. omega (arith, more, less)) so_far.lines known.threads;
-      forward = known.forward;
-      own = own_begun so_far.lines (length so_far.names) (length (so_far.names ++ name ∷ []) - 1) known.threads
-          (omega (arith, more));
+      threads = placed.begun;
+      forward = placed.forward;
+      own = placed.own;
       body = known.body;
     })
 
@@ -315,17 +236,14 @@ taken_kept (Err cause) n so_far new words said known fits named takes = tt
 
 -- ---- before the first line
 
-nowhere : (at : ℕ) (command : ThreadCommand) → slice_get [] at ≡ Some command → at < command.leave_to
-nowhere at command is = absurd (let clash : None ≡ Some command = is in cc)
-
 pub nothing_read : IsLitmusReading no_lines
 nothing_read = record {
   few = omega arith;
   names = All-nil (λ (n : Option (List ℕ)). IfSome n IsUtf8);
   voices = refl;
   calls = All-nil (λ (n : NumberedLine). IsLitmusCall n.line.command.call);
-  threads = All-nil (λ (n : NumberedLine). n.line.thread < 0);
-  forward = λ thread at command is. nowhere at command is;
-  own = omega arith;
+  threads = nothing_placed.begun;
+  forward = nothing_placed.forward;
+  own = nothing_placed.own;
   body = tt;
 }

@@ -10,7 +10,6 @@ use Rattle.std.proofs.lemmas.List.Elements.{All-head, All-map, All-tail, All-wea
 use Rattle.stop_explorer.specs.BoardCall.{IsBoardCall}
 use Rattle.stop_explorer.specs.declared.command.ProgramLine.{ProgramLine}
 use Rattle.stop_explorer.specs.declared.command.ThreadCommand.{ThreadCommand}
-use Rattle.stop_explorer.specs.Program.{own_commands}
 use Rattle.stop_explorer.specs.Progress.{Progress, is_quiet}
 use Rattle.stop_explorer.specs.Replies.{GoForward, without_reply}
 use Rattle.stop_explorer.specs.Run.{AreEndings, EndedRun, HasOutcome, HaveOneOutcome, IsEnding, ended_run}
@@ -24,13 +23,14 @@ use Rattle.tracer_cli.specs.Chosen.{have_come_true, is_chosen}
 use Rattle.tracer_cli.specs.Conditions.{agrees, condition_holds, conditions_hold}
 use Rattle.tracer_cli.specs.Explored.{AreOutcomes, CanMeet, IsFirstUnmet, all_required, chosen_with, commands_with}
 use Rattle.tracer_cli.specs.Explored.{forbids, have_numbers_to, is_chosen_with}
-use Rattle.tracer_cli.specs.LitmusFile.{LitmusContent, plain_lines}
+use Rattle.tracer_cli.specs.LitmusFile.{LitmusContent}
 use Rattle.tracer_cli.specs.LitmusGrammar.{IsLitmusCall}
 use Rattle.tracer_cli.specs.Required.{conditions_with, program_with, required_line}
 use Rattle.tracer_cli.specs.StateName.{has_name}
 use Rattle.tracer_cli.specs.Waiting.{state_at}
 use Rattle.tracer_cli.proofs.CameTrue.{came_true, true_came}
 use Rattle.tracer_cli.proofs.LitmusForward.{forward_with}
+use Rattle.tracer_cli.proofs.LitmusPlaces.{AreKnown}
 
 -- ---- the program with the first n replies makes the same calls, in the same threads
 
@@ -161,11 +161,6 @@ found_alike threads quiet commands conditions (ending ∷ more) b past forward (
 found_alike threads quiet commands conditions (ending ∷ more) b past forward (inr later) chosen =
     or_right (is_chosen threads commands conditions ending) (list_any (is_chosen threads commands conditions) more)
     (found_alike threads quiet commands conditions more b past forward later chosen)
-
--- what is known of the lines of a file: each command is of one of its threads, and leaves to a place past its own
-pub record AreKnown (content : LitmusContent) : Type 0 where
-  pub threads : All (λ n. n.line.thread < length content.names) content.lines
-  pub forward : GoForward (own_commands (plain_lines content.lines))
 
 pub none_met : (content : LitmusContent) (count places : ℕ) (found : List EndedRun) → AreKnown content
     → AreOutcomes content count found places → list_any (is_chosen_with content count) found ≡ false

@@ -1,6 +1,6 @@
 //! Laws of the definitions: each function is its contract alone.
 
-ghost use Rattle.std.specs.Prelude.{◌≡◌, ◌≤◌, ◌∷◌, ◌^◌, [], ℕ, Decides, false, List, Ok, Some, codes, length};
+ghost use Rattle.std.specs.Prelude.{◌≡◌, ◌≤◌, ◌∷◌, ◌^◌, [], ℕ, Decides, false, true, List, Ok, Some, codes, length};
 ghost use Rattle.stop_explorer.specs.declared.answer.Answer.TheVariants as answer;
 ghost use Rattle.stop_explorer.specs.declared.board_call.BoardCall.{BoardCall};
 ghost use Rattle.stop_explorer.specs.declared.command.ThreadCommand.{ThreadCommand};
@@ -20,9 +20,9 @@ ghost use Rattle.tracer_cli.specs.declared.arguments.RunOptions.{RunOptions};
 ghost use Rattle.tracer_cli.specs.declared.arguments.TheConstants.{MOST_PLACES, MOST_SHOWN};
 ghost use Rattle.tracer_cli.specs.Chosen.{have_come_true};
 ghost use Rattle.tracer_cli.specs.Conditions.{conditions_hold};
-ghost use Rattle.tracer_cli.specs.Explored.{CanMeet, all_required, commands_with};
+ghost use Rattle.tracer_cli.specs.Explored.{CanMeet, all_required, commands_with, is_chosen_with};
 ghost use Rattle.tracer_cli.specs.File.{ReplayContent, content_of};
-ghost use Rattle.tracer_cli.specs.LitmusFile.{LitmusContent};
+ghost use Rattle.tracer_cli.specs.LitmusFile.{LitmusContent, litmus_content_of};
 ghost use Rattle.tracer_cli.specs.Required.{conditions_with};
 ghost use Rattle.tracer_cli.specs.Spelling.{IsContent, spelling};
 ghost use Rattle.tracer_cli.specs.Waiting.{state_at, waiting_refusal};
@@ -63,8 +63,8 @@ pub fn litmus_numbers_are_fixed()
     ensures repeats { MOST_REPEATS ≡ 64 }
 {}
 
-/// What the shortest words ask for, the program's name first: `replay` for a replay of standard input, `run -f` for a run
-/// of it that follows children, `explore` for all outcomes of it, with the defaults of all other options.
+/// What the shortest words ask for, the program's name first: `replay` for a replay of standard input, `run -f` for a
+/// run of it that follows children, `explore` for all outcomes of it, with the defaults of all other options.
 pub fn plain_words_are_taken()
     ensures replay { (name : List ℕ) → AskReplay (name ∷ codes "replay" ∷ []) }
     ensures run { (name : List ℕ) → AskRun (name ∷ codes "run" ∷ codes "-f" ∷ []) }
@@ -94,8 +94,8 @@ pub fn printed_outcomes_came_true()
         Decides (have_come_true threads commands log) (HaveComeTrue commands log) }
 {}
 
-/// What is forbidden of a file has no run of its program without replies either: none in which each command with a reply
-/// was done and so answered, and at whose end each condition holds.
+/// What is forbidden of a file has no run of its program without replies either: none in which each command with a
+/// reply was done and so answered, and at whose end each condition holds.
 pub fn what_is_forbidden_has_no_run()
     ensures { (content : LitmusContent) → ¬ CanMeet content (all_required content) → (run : Log) (last : History) →
         IsRun content.rows (without_replies (commands_with content (all_required content))) run last →
@@ -104,6 +104,29 @@ pub fn what_is_forbidden_has_no_run()
         HaveComeTrue (commands_with content (all_required content)) run →
         conditions_hold (commands_with content (all_required content))
         (conditions_with (all_required content) content.conditions) (ended_run content.rows run last) ≡ false }
+{
+    replies_choose_runs();
+}
+
+/// An outcome that is printed of a file is a run of its program without replies: one in which each command with a reply
+/// was done and so answered, and at whose end each condition holds.
+pub fn what_is_allowed_is_a_run()
+    // A run in which all replies came true.
+    ensures run { (text : List ℕ) (content : LitmusContent) → litmus_content_of text ≡ Ok content →
+        (run : Log) (last : History) →
+        IsRun content.rows (commands_with content (all_required content)) run last →
+        HaveComeTrue (commands_with content (all_required content)) run →
+        IsRun content.rows (without_replies (commands_with content (all_required content))) run last
+        × ((thread : ℕ) → AreSoAnswered (commands_with content (all_required content) thread)
+        (done_by_thread (commands_with content (all_required content)) run thread)) }
+
+    // A run whose outcome is printed: all replies came true in it, and each condition holds.
+    ensures chosen { (text : List ℕ) (content : LitmusContent) → litmus_content_of text ≡ Ok content →
+        (run : Log) (last : History) →
+        is_chosen_with content (all_required content) (ended_run content.rows run last) ≡ true →
+        HaveComeTrue (commands_with content (all_required content)) run
+        × (conditions_hold (commands_with content (all_required content))
+        (conditions_with (all_required content) content.conditions) (ended_run content.rows run last) ≡ true) }
 {
     replies_choose_runs();
 }

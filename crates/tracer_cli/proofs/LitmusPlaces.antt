@@ -1,5 +1,5 @@
--- The threads of a litmus file leave loops forward, whatever its lines say: after "no child" a command of a repeat leads
--- past the end of the repeat, and any other to the next command.
+-- The threads of a litmus file leave loops forward, whatever its lines say: after "no child" a command of a repeat
+-- leads past the end of the repeat, and any other to the next command.
 use Rattle.std.proofs.Common.{refl, ◌≡◌, ◌<◌, ◌≤◌, ◌-◌, ◌+◌, ◌++◌, ◌∷◌, [], ℕ, Bool, true, false, cond, List, Option}
 use Rattle.std.proofs.Common.{Some, None, Result, Ok, Err, ap, arith, eqb, is_some, length, map, nat_le, slice_get}
 use Rattle.std.proofs.Common.{subst, sym}

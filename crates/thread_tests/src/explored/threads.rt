@@ -240,7 +240,7 @@ fn wait_twice(desk: &mut Desk, waiting: Waiting, tries: u32) -> Result<[Answer; 
     let Some(told) = known else {
         return Err(waiting);
     };
-    let Some([second, _]) = try_wait(desk, row, tries) else {
+    let Some(last) = try_wait(desk, row, tries) else {
         return Err(Waiting {
             row,
             early,
@@ -249,6 +249,7 @@ fn wait_twice(desk: &mut Desk, waiting: Waiting, tries: u32) -> Result<[Answer; 
     };
     let [claim, resume] = early;
     let [first, next] = told;
+    let [second, _] = last;
     Ok([claim, resume, first, next, second])
 }
 

@@ -76,7 +76,7 @@ fn random_state(numbers: &mut RandomNumbers) -> WantedState {
     }
 }
 
-/// An answer that a call may have, mostly one that is no refusal.
+/// An answer that a call may have, in most cases not a refusal.
 fn random_answer(numbers: &mut RandomNumbers, call: BoardCall) -> WantedAnswer {
     let choice = numbers.below(8);
     match (call, choice) {

@@ -1,7 +1,7 @@
 use super::ArgumentKind::{
     Address, CString, Hexadecimal, InBuffer, InIovecs, Int, Mode, OutBuffer, OutIovecs, Unsigned,
 };
-use super::laws::{errors_rise, signals_have_names, syscalls_are_one_to_one};
+use super::laws::{errors_rise, numbers_are_fixed, signals_have_names, syscalls_are_one_to_one};
 use super::*;
 use std::fmt::Debug;
 use std::process::Abort;
@@ -322,4 +322,5 @@ fn the_laws_hold() {
     syscalls_are_one_to_one();
     errors_rise();
     signals_have_names();
+    numbers_are_fixed();
 }

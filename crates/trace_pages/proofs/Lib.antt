@@ -4,4 +4,5 @@ mod Places
 mod Counts
 mod Changes
 pub mod Runs
+mod Buffers
 pub mod Memories

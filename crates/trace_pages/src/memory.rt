@@ -4,10 +4,10 @@
 //! order, beside the list of the pages, each in a box of its own.
 
 ghost use Rattle.std.specs.Prelude.{◌≡◌, ◌<◌, ◌≤◌, ◌+◌, ◌*◌, ◌%◌, IsSome, IfOk, OnOk, OnErr, Some, None};
-ghost use Rattle.std.specs.Prelude.{MatchOption, IsOkUnless, nat_le, length};
+ghost use Rattle.std.specs.Prelude.{◌++◌, MatchOption, IsOkUnless, nat_le, length, take, drop};
 ghost use Rattle.std.specs.FinMap as finite;
 ghost use Rattle.trace_pages.specs.FlatMemory as flat;
-ghost use Rattle.trace_pages.specs.FlatMemory.{IsPiece, MapsPage, StoresBytes, byte_at, run_end};
+ghost use Rattle.trace_pages.specs.FlatMemory.{IsPiece, MapsPage, StoresBytes, byte_at, run, run_end};
 
 use crate::fault::Fault;
 use crate::map_error::MapError;
@@ -149,6 +149,29 @@ impl<A: Allocator> Memory<A> {
         Some(self.pages[place].rest((addr % PAGE_SIZE) as usize))
     }
 
+    /// Copies the bytes from an address on into a buffer, up to the first address that is not mapped, or the last one, and
+    /// answers how many they are. What is after them in the buffer stays.
+    pub fn read(&self, addr: u64, to: &mut [u8]) -> usize
+        ensures count { result ≡ length (run self.now addr (length to.old)) }
+        ensures bytes { to.new ≡ run self.now addr (length to.old) ++ drop result to.old }
+    {
+        let mut at = addr;
+        let mut done = 0;
+        while done < to.len() {
+            let Some(piece) = self.piece(at) else {
+                return done;
+            };
+            let step = piece.len().min(to.len() - done);
+            put(to, done, &piece[..step]);
+            done += step;
+            let Some(next) = at.checked_add(step as u64) else {
+                return done;
+            };
+            at = next;
+        }
+        done
+    }
+
     /// Whether a store of this many bytes from an address on can be done, without doing it: the answer is that of
     /// `store`, a fault at the first address that is not mapped, or at 2^64 - 1 where bytes remain after the last
     /// address.
@@ -203,6 +226,14 @@ impl<A: Allocator> Memory<A> {
             done += step;
         }
     }
+}
+
+/// Writes bytes into a buffer, from a place on.
+fn put(to: &mut [u8], from: usize, bytes: &[u8])
+    requires { from + length bytes.now ≤ length to.old }
+    ensures { to.new ≡ take from to.old ++ bytes.now ++ drop (from + length bytes.now) to.old }
+{
+    to[from..from + bytes.len()].copy_from_slice(bytes);
 }
 
 /// Copies of pages, in the same order.

@@ -124,6 +124,30 @@ fn a_piece_ends_with_its_page(rt: HostRuntime) {
 }
 
 #[test]
+fn a_read_goes_on_to_the_first_absent_byte(rt: HostRuntime) {
+    let mut memory = Memory::new(rt.alloc());
+    for page in [0x10000, 0x11000, TOP] {
+        assert!(rt; memory.map(page).is_ok());
+    }
+    same(&rt, &memory.store(0x10ffe, &[1, 2, 3, 4]), &Ok(()));
+    same(&rt, &memory.store(0x11ffe, &[5, 6]), &Ok(()));
+    same(&rt, &memory.store(TOP + 0xfff, &[7]), &Ok(()));
+    for (addr, read, bytes) in [
+        (0x10ffe, 4, [1, 2, 3, 4]),
+        (0x10ffd, 4, [0, 1, 2, 3]),
+        (0x11ffe, 2, [5, 6, 9, 9]),
+        (0x12000, 0, [9, 9, 9, 9]),
+        (0xffff, 0, [9, 9, 9, 9]),
+        (u64::MAX, 1, [7, 9, 9, 9]),
+    ] {
+        let mut to = [9; 4];
+        same(&rt, &(addr, memory.read(addr, &mut to)), &(addr, read));
+        same(&rt, &(addr, to), &(addr, bytes));
+    }
+    same(&rt, &memory.read(0x10000, &mut []), &0);
+}
+
+#[test]
 fn a_copy_has_the_same_bytes_and_its_own(rt: HostRuntime) -> Result<(), Fail> {
     let mut memory = Memory::new(rt.alloc());
     assert!(rt; memory.map(0x10000).is_ok());

@@ -1,4 +1,4 @@
-use super::laws::{a_status_reports_one_death, statuses_are_encoded};
+use super::laws::{a_status_reports_one_death, numbers_are_fixed, statuses_are_encoded};
 use super::*;
 use std::fmt::Debug;
 use std::process::Abort;
@@ -142,6 +142,7 @@ fn a_death_out_of_range_has_a_status_that_reports_none(rt: HostRuntime) {
 fn the_laws_are_there() {
     a_status_reports_one_death();
     statuses_are_encoded();
+    numbers_are_fixed();
 }
 
 /// The registers of a call with its number and its arguments.

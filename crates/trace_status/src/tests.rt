@@ -1,4 +1,4 @@
-use super::laws::{fields_are_in_place, one_to_one};
+use super::laws::{fields_are_in_place, numbers_are_fixed, one_to_one};
 use super::*;
 use std::fmt::Debug;
 use std::process::Abort;
@@ -60,6 +60,7 @@ fn what_has_no_raw_value_is_refused(rt: HostRuntime) {
 #[test]
 fn the_laws_are_there() {
     one_to_one();
+    numbers_are_fixed();
     fields_are_in_place();
 }
 

@@ -1,5 +1,5 @@
 -- One page has all the addresses, or none does: the bytes are written there, or the first one faults.
-use Rattle.std.proofs.Common.{◌≡◌, ◌<◌, ◌≤◌, ◌%◌, length, drop, get_or, [], None, sym, ap, ◌∙◌, arith}
+use Rattle.std.proofs.Common.{◌≡◌, ◌<◌, ◌%◌, length, drop, get_or, [], None, sym, ap, ◌∙◌, arith}
 use Rattle.std.proofs.lemmas.Bool.Decides.{nat_tests}
 use Rattle.std.proofs.lemmas.List.{get_or_read}
 use Rattle.trace_pages.specs.FlatMemory.{IsPiece, byte_at, run_end}

@@ -1,5 +1,5 @@
 -- The bytes are written page by page, and nothing else.
-use Rattle.std.proofs.Common.{◌≡◌, ◌+◌, ◌-◌, ◌≤◌, ◌<◌, Ok, length, drop, take, arith}
+use Rattle.std.proofs.Common.{◌≡◌, ◌+◌, ◌-◌, ◌≤◌, Ok, length, drop, take, arith}
 use Rattle.std.proofs.lemmas.List.{length-drop, length-take-le}
 use Rattle.trace_pages.specs.FlatMemory.{Full, run_end}
 use Rattle.trace_pages.proofs.Runs.{byte_at-stored_more, run_end-Full, run_end-stored_before}

@@ -1,4 +1,5 @@
 mod OneThread
 mod Runs
 mod Search
+mod Waiting
 mod Worlds

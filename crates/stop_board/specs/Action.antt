@@ -12,7 +12,6 @@ use Rattle.stop_board.specs.declared.world.action.Action.TheVariants as action
 use Rattle.stop_board.specs.declared.world.action.Reply.{Reply}
 use Rattle.stop_board.specs.declared.world.action.Reply.TheVariants as reply
 use Rattle.stop_history.specs.declared.phase.Phase.{Phase}
-use Rattle.stop_history.specs.declared.phase.Phase.TheVariants as phase
 use Rattle.stop_history.specs.declared.refused.Refused.{Refused}
 use Rattle.stop_history.specs.declared.refused.Refused.TheVariants as refused
 use Rattle.stop_history.specs.declared.roster.Row.{Row}

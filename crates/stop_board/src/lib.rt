@@ -8,14 +8,16 @@
 mod board;
 mod board_words;
 pub mod laws;
+mod waitable;
 mod words;
 mod world;
 
 pub use board::Board;
 pub use board_words::BoardWords;
 pub use stop_history::{
-    Actor, Got, LAST_ID, LAST_NUMBER, MOST_ROWS, NoMemory, Phase, Refused, Roster, RosterError,
-    Row, State, TRACERS, Word, fault_after, place_of,
+    Actor, Got, Id, LAST_ID, LAST_NUMBER, MOST_ROWS, NoMemory, Phase, Refused, Roster, RosterError,
+    Row, Selection, State, TRACERS, WaitRequest, Word, fault_after, place_of, selection_of_id,
+    selection_of_pid, waitid_request, waitpid_request,
 };
 pub use world::{Action, Reply, World};
 

@@ -10,6 +10,7 @@ mod growth;
 mod one_thread;
 mod roster;
 mod rows;
+mod waitable;
 mod word;
 mod word_steps;
 mod world;

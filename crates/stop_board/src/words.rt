@@ -238,14 +238,27 @@ pub(crate) fn resume_at<A: Allocator>(
     ensures answer { result ≡ resume_by tracer (state_by roster.now words.old row) }
     ensures words { words.new ≡ with_word result words.old row (restarted (word_at words.old row) how) }
 {
-    if tracer >= TRACERS {
-        return Err(Refused::NoRow);
-    }
-    held_by(tracer, state_of(roster, words, row))?;
+    resumable(roster, words, row, tracer)?;
     let at = row as usize;
     // The resume happens here: the word keeps the restart.
     words[at] = restarted(words[at], how);
     Ok(())
+}
+
+/// Whether a tracer may resume a row, or why not.
+pub(crate) fn resumable<A: Allocator>(
+    roster: &Roster<A>,
+    words: &[Word],
+    row: u32,
+    tracer: u32,
+) -> Result<(), Refused>
+    requires { length words.now ≡ length roster.now }
+    ensures { result ≡ resume_by tracer (state_by roster.now words.now row) }
+{
+    if tracer >= TRACERS {
+        return Err(Refused::NoRow);
+    }
+    held_by(tracer, state_of(roster, words, row))
 }
 
 /// Whether a tracer has claimed a row of this state, or why it cannot resume it.

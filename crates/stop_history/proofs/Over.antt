@@ -8,8 +8,11 @@ use Rattle.stop_history.specs.Event.{Event, History, events_of, subject}
 use Rattle.stop_history.specs.History.{Fits, IsLegal, IsSettled, IsSilent, ended, unborn_below, unborn_beside}
 use Rattle.stop_history.specs.Over.{IsClosed, IsOver, is_dead, is_gone}
 use Rattle.stop_history.specs.Roster.{IsRoster, parent_of, row_at}
+use Rattle.stop_history.specs.Selection.{has_parents, is_selected}
 use Rattle.stop_history.specs.State.{claimed_state, was_created, is_born, is_ended, number_in, state_after, state_in}
 use Rattle.stop_history.specs.declared.roster.Row.{Row}
+use Rattle.stop_history.specs.declared.selection.Selection.{Selection}
+use Rattle.stop_history.specs.declared.selection.Selection.TheVariants.{All, Tracee, Group}
 use Rattle.stop_history.specs.declared.state.State.{State}
 use Rattle.stop_history.specs.declared.state.State.TheVariants as state
 use Rattle.stop_history.proofs.Events.{own_events, other_events}
@@ -24,6 +27,13 @@ pub groups_closed : (rows : List Row) → IsRoster rows → (pgid : ℕ)
 groups_closed rows roster pgid row parent within is of_parent =
     let child = ((placed rows roster row within).child parent of_parent).1 in
     ap (λ p. eqb p pgid) (sym child.process_group) ∙ is
+
+-- all rows, and those of a process group
+pub selection_closed : (rows : List Row) → IsRoster rows → (selection : Selection) → has_parents selection ≡ true
+    → IsClosed rows (λ row. is_selected selection (row_at rows row))
+selection_closed rows roster All is = λ row parent within selected of_parent. refl
+selection_closed rows roster (Tracee tid) is = cc
+selection_closed rows roster (Group pgid) is = groups_closed rows roster pgid
 
 -- ---- a row that is gone is over where its parent is
 

@@ -7,10 +7,12 @@ pub mod Over
 pub mod Parts
 pub mod Ranges
 pub mod Roster
+pub mod Selection
 pub mod Sequential
 pub mod Standing
 pub mod State
 pub mod Step
+pub mod WaitRequest
 pub mod Word
 pub use Rattle.trace_record.specs.Death
 pub use Rattle.trace_record.specs.Resume

@@ -75,3 +75,15 @@ abbrev pub is_waitable : State → Bool
 is_waitable (state.Stopped number status) = true
 is_waitable (state.Dead number status) = true
 is_waitable other = false
+
+-- a row with a status for a wait: a stop, and a death where deaths are asked for (waitid(2), WEXITED)
+abbrev pub is_waitable_for : (deaths : Bool) → State → Bool
+is_waitable_for deaths (state.Stopped number status) = true
+is_waitable_for deaths (state.Dead number status) = deaths
+is_waitable_for deaths other = false
+
+-- a row that may have a status later: it runs, or a tracer has claimed its stop
+abbrev pub is_pending : State → Bool
+is_pending state.Running = true
+is_pending (state.Claimed number tracer) = true
+is_pending other = false

@@ -31,12 +31,12 @@ use Rattle.stop_table.specs.Claiming.{GetsNothing, IsTaken, IsTakenOrLost}
 use Rattle.stop_table.specs.Entry.{AreLegal, Begins, Cell, Entry, IsCarried, bare, cell_after, content_after}
 use Rattle.stop_table.specs.Entry.{content_with, history_of, word_of}
 use Rattle.stop_table.specs.Handle.{Claims, EndsWith, IsExitOf, IsHolding, IsLostSince, IsStepOf, Looked}
-use Rattle.stop_table.specs.Handle.{LookedAtParent, LooksAt, LosesAt, LosesClaim, Reaps, SawUnborn, SeenAt}
+use Rattle.stop_table.specs.Handle.{LooksAt, LooksOnce, LosesAt, LosesClaim, Reaps, SawUnborn, SeenAt}
 use Rattle.stop_table.specs.Handle.{is_claimable, shown_of}
 use Rattle.stop_table.specs.Seat.{MissedAt, ReapedAt, Saw, TookStop}
 use Rattle.stop_table.specs.Steps.{Seated, Sees}
 use Rattle.stop_table.specs.View.{View, actors_of, an_exchange, a_look}
-use Rattle.stop_table.proofs.Attempts.{no_exchange, no_exchange_seen}
+use Rattle.stop_table.proofs.Counting.{no_exchange, saw_once}
 use Rattle.stop_table.proofs.Entries.{born_on, content_number, history_append, legal_append, own_cell, own_content}
 use Rattle.stop_table.proofs.Entries.{quiet_sooner, same_cell, shown_state}
 use Rattle.stop_table.proofs.Moves.{not_both}
@@ -516,16 +516,16 @@ born_after u m n row w first s born =
     ∙ born_on u.roster (actors_of m.0) row m.0.seen n.0.seen look.grows.goes_on born
 
 -- the look at its parent's word showed it unborn
-pub not_born : (v w : View) (row : ℕ) → Looked v w → LookedAtParent v w row → SawUnborn v w row
+pub not_born : {Looks : ℕ → Type 0} (v w : View) (row : ℕ) → Looked v w → LooksOnce Looks v w → SawUnborn v w row
     → GetsNothing v w row shows.Unborn
-not_born v w row l parent unborn =
-    inl (l, no_exchange v w row parent row, inr unborn, ap shown_of (sym unborn.0))
+not_born v w row l once unborn =
+    inl (l, no_exchange v w once row, inr unborn, ap shown_of (sym unborn.0))
 
 -- the look at its own word showed nothing to claim
-pub nothing_there : (u : View) (m n : Seated) (row : ℕ) (w : Word) (a : Shown) → row < length u.roster → Looked u m.0
-    → LookedAtParent u m.0 row → is_born u.roster (history_of m.0.seen) row ≡ true → Saw m n row w
+pub nothing_there : {Looks : ℕ → Type 0} (u : View) (m n : Seated) (row : ℕ) (w : Word) (a : Shown)
+    → row < length u.roster → Looked u m.0 → LooksOnce Looks u m.0 → is_born u.roster (history_of m.0.seen) row ≡ true → Saw m n row w
     → shown_of (shown true w.number w.phase) ≡ a → GetsNothing u n.0 row a
-nothing_there u m n row w a there first parent born s is =
+nothing_there u m n row w a there first once born s is =
     let same = first.grows.same.roster in
     let now : is_born m.0.roster (history_of n.0.seen) row ≡ true =
     ap (λ rows. is_born rows (history_of n.0.seen) row) same
@@ -534,7 +534,7 @@ nothing_there u m n row w a there first parent born s is =
     state_seen m n row w (subst (λ rows. row < length rows) (sym same) there) s now in
     inl (
       looked_on u m.0 n.0 first (one_look m n row w s),
-      no_exchange_seen u m n row w parent s row,
+      no_exchange m.0 n.0 (saw_once m n row w s) row ∙ no_exchange u m.0 once row,
       inl (last_look u m n row w first s),
       sym is ∙ ap shown_of state_is ∙ ap (λ rows. shown_of (state_after rows (history_of n.0.seen) row)) same,
     )

@@ -1,5 +1,5 @@
--- A leader's thread group: rows that are settled beside the leader stay so while the leader makes no event, and then
--- nobody holds its exit back.
+-- A leader's thread group: rows that are settled beside the leader stay so while the leader makes no event, with as many
+-- children, and then nobody holds its exit back.
 use Rattle.std.proofs.Common.{refl, ◌≡◌, ◌≢◌, ◌<◌, ◌∷◌, ◌++◌, ◌≤◌, ◌+◌, [], ℕ, zero, suc, Bool, true, false, Some, None, List}
 use Rattle.std.proofs.Common.{Option, length}
 use Rattle.std.proofs.Common.{◌∙◌, sym, ap, subst, inl, inr, arith, find, eq-eqb, ne_eqb}
@@ -11,15 +11,18 @@ use Rattle.stop_history.specs.declared.roster.Row.{Row}
 use Rattle.stop_history.specs.declared.state.State.{State}
 use Rattle.stop_history.specs.declared.state.State.TheVariants as state
 use Rattle.stop_history.specs.Actor.{IsQuiet, actor_of, is_moved_by, mover_of}
-use Rattle.stop_history.specs.Event.{History, subject}
-use Rattle.stop_history.specs.History.{IsSettled, IsSilent, holding_back, holds_back, ended, unborn_beside, unborn_below}
+use Rattle.stop_history.specs.Event as event
+use Rattle.stop_history.specs.Event.{Event, History, subject}
+use Rattle.stop_history.specs.History.{Fits, IsLegal, IsSettled, IsSilent, births_after, births_in, holding_back, holds_back}
+use Rattle.stop_history.specs.History.{ended, unborn_beside, unborn_below}
 use Rattle.stop_history.specs.Roster.{is_leader, row_at}
 use Rattle.stop_history.specs.State.{is_alive, is_ended, state_after}
+use Rattle.stop_history.proofs.Events.{other_events, own_events}
 use Rattle.stop_history.proofs.Settled.{settled_stays}
 use Rattle.stop_history.proofs.Longer.{mover}
 use Rattle.stop_table.specs.Entry.{AreLegal, Cell, Entry, GoesOn, cell_after, history_of}
-use Rattle.stop_table.specs.Group.{AreSettled, IsGroupSettled}
-use Rattle.stop_table.proofs.Entries.{history_append, legal_append, stays}
+use Rattle.stop_table.specs.Group.{AreCounted, AreSettled, IsGroupSettled}
+use Rattle.stop_table.proofs.Entries.{history_append, legal_append, stays, stays_on}
 
 ended_rests : (s : State) → is_ended s ≡ true → is_alive s ≡ false
 ended_rests state.Absent is = cc
@@ -133,3 +136,53 @@ settled_on rows actors leader k seen h legal on mine moved settled row low apart
     (sym (history_append on.0 seen) ∙ ap history_of (sym on.1))
     (settled_stays rows (Some leader) (history_of on.0) (history_of seen) (legal_append rows on.0 seen legal')
     (silent_beside rows actors leader on.0 seen legal' on.2 mine moved) row (settled row low apart together))
+
+-- ---- how many children
+
+-- a row that does not run creates no child
+births_own : (rows : List Row) (h : History) (e : Event) → Fits rows h e → state_after rows h (subject e) ≢ state.Running
+    → births_after (e ∷ h) (subject e) ≡ births_after h (subject e)
+births_own rows h (event.Publish at number stop) fits rests = absurd (rests fits.0)
+births_own rows h (event.Claim at number tracer) fits rests =
+    ap births_in (own_events at (event.Claim at number tracer) h refl)
+births_own rows h (event.Resume at number how tracer) fits rests =
+    ap births_in (own_events at (event.Resume at number how tracer) h refl)
+births_own rows h (event.Exit at death) fits rests = ap births_in (own_events at (event.Exit at death) h refl)
+
+births_by_one : (rows : List Row) (h : History) (e : Event) (row : ℕ) → Fits rows h e
+    → state_after rows h row ≢ state.Running → births_after (e ∷ h) row ≡ births_after h row
+births_by_one rows h e row fits rests =
+    elim (cases_eq (subject e) row) [
+      | inl same ↦
+          subst (λ r. births_after (e ∷ h) r ≡ births_after h r) same
+          (births_own rows h e fits (λ runs. rests (ap (state_after rows h) (sym same) ∙ runs)))
+      | inr other ↦ ap births_in (other_events row e h other)
+    ]
+
+births_stay : (rows : List Row) (beside : Option ℕ) (more h : History) (row : ℕ) → IsLegal rows (more ++ h)
+    → IsSilent beside more → IsSettled rows beside h row → births_after (more ++ h) row ≡ births_after h row
+births_stay rows beside [] h row legal silent settled = refl
+births_stay rows beside (e ∷ more) h row legal silent settled =
+    let still = settled_stays rows beside more h legal.1 silent.1 row settled in
+    births_by_one rows (more ++ h) e row legal.0
+    (λ runs. let clash : true ≡ false = sym (ap is_alive runs) ∙ settled_rests rows beside (more ++ h) row still in cc)
+    ∙ births_stay rows beside more h row legal.1 silent.1 settled
+
+pub counted_on : (rows : List Row) (actors : Actor → Bool) (leader k : ℕ) (births : List ℕ) (seen h : List Entry)
+    → AreLegal rows h → GoesOn actors seen h → actors (Tracee leader) ≡ true
+    → mover_of leader (cell_after rows seen leader).phase ≡ Some (Tracee leader) → AreSettled rows leader k seen
+    → AreCounted rows leader k births seen → AreCounted rows leader k births h
+counted_on rows actors leader k births seen h legal on mine moved settled counted row low together =
+    counted row low together
+    ∙ elim (cases_eq row leader) [
+      | inl own ↦
+          subst (λ r. (cell_after rows seen r).births ≡ (cell_after rows h r).births) (sym own)
+          (ap (λ (c : Cell). c.births) (sym (stays_on rows actors seen h legal on leader
+          (ap (is_moved_by actors) moved ∙ mine))))
+      | inr apart ↦
+          let legal' : AreLegal rows (on.0 ++ seen) = subst (AreLegal rows) on.1 legal in
+          let same : history_of h ≡ history_of on.0 ++ history_of seen = ap history_of on.1 ∙ history_append on.0 seen in
+          sym (ap (λ x. births_after x row) same
+          ∙ births_stay rows (Some leader) (history_of on.0) (history_of seen) row (legal_append rows on.0 seen legal')
+          (silent_beside rows actors leader on.0 seen legal' on.2 mine moved) (settled row low apart together))
+    ]

@@ -1,8 +1,8 @@
 -- Other crates cite the modules that are `pub`. The others prove what this crate ensures.
 mod Allowed
 pub mod Answering
-mod Attempts
 mod Births
+pub mod Counting
 mod Dealing
 pub mod Entries
 mod Exchanges

@@ -13,18 +13,20 @@ use Rattle.stop_history.specs.Roster.{IsRoster, parent_of, rank_of}
 use Rattle.stop_history.specs.State.{is_alive, is_born, is_ended, state_after}
 use Rattle.stop_history.specs.Word.{Word, shown}
 use Rattle.stop_history.proofs.Longer.{born_stays, unborn_is_silent}
+use Rattle.stop_history.proofs.Rosters.{placed}
 use Rattle.stop_history.proofs.Settled.{ended_stays, unborn_is, unborn_stays}
 use Rattle.stop_history.proofs.States.{state_within}
 use Rattle.stop_table.specs.declared.start.Start.{Start}
 use Rattle.stop_table.specs.declared.start.Start.TheVariants as start
 use Rattle.stop_table.specs.Entry.{AreLegal, Entry, cell_after, history_of}
-use Rattle.stop_table.specs.Handle.{IsUnborn, Looked}
+use Rattle.stop_table.specs.Handle.{IsUnborn, Looked, LooksOnce}
 use Rattle.stop_table.specs.Seat.{Saw}
-use Rattle.stop_table.specs.Start.{IsFinal, IsStartOf, StartsAt, above, further, itself, parent}
+use Rattle.stop_table.specs.Start.{IsAncestor, IsFinal, IsStartOf, StartsAt, above, further, itself, parent}
 use Rattle.stop_table.specs.Steps.{Seated}
 use Rattle.stop_table.specs.View.{View, actors_of, a_look}
+use Rattle.stop_table.proofs.Counting.{looks_both, looks_wider, saw_once}
 use Rattle.stop_table.proofs.Entries.{born_on, history_append, legal_back, legal_history}
-use Rattle.stop_table.proofs.Walking.{born_by_births, look_step, looked_on, one_look, root_is_born, state_seen}
+use Rattle.stop_table.proofs.Walking.{born_by_births, look_step, looked_on, one_look, parent_there, root_is_born, state_seen}
 use Rattle.stop_table.proofs.Walking.{step_from, unborn_now, word_now}
 
 -- ---- rows that are never born
@@ -118,6 +120,35 @@ final_below rows h row mother start.Born roster there of_parent other final = ab
 final_below rows h row mother start.NotYet roster there of_parent other final = tt
 final_below rows h row mother start.Never roster there of_parent other final =
     λ more legal. unborn_below rows (more ++ h) row mother roster legal there of_parent (final more legal)
+
+-- ---- looks at ancestors
+
+ancestor_before : (rows : List Row) → IsRoster rows → (row ancestor : ℕ) → row < length rows
+    → IsAncestor rows row ancestor → ancestor < row
+ancestor_before rows roster _ _ there (parent row ancestor of_parent) =
+    ((placed rows roster row there).child ancestor of_parent).0
+ancestor_before rows roster _ _ there (further row mother ancestor of_parent higher) =
+    let before = ((placed rows roster row there).child mother of_parent).0 in
+    let far = ancestor_before rows roster mother ancestor (omega (arith, before, there)) higher in
+    omega (arith, before, far)
+
+-- the parent's ancestors are the row's
+pub looked_above : (v w : View) (row mother : ℕ) → parent_of v.roster row ≡ Some mother
+    → LooksOnce (IsAncestor v.roster mother) v w → LooksOnce (IsAncestor v.roster row) v w
+looked_above v w row mother of_parent once =
+    looks_wider v w (λ at higher. further row mother at of_parent higher) once
+
+-- and one more look, at the parent
+pub looked_at_mother : (u : View) (m n : Seated) (row mother : ℕ) (word : Word) → IsRoster u.roster
+    → row < length u.roster → parent_of u.roster row ≡ Some mother → LooksOnce (IsAncestor u.roster mother) u m.0
+    → Saw m n mother word → LooksOnce (IsAncestor u.roster row) u n.0
+looked_at_mother u m n row mother word roster there of_parent first s =
+    looks_both u m.0 n.0 (λ at higher. further row mother at of_parent higher)
+    (λ at same. subst (IsAncestor u.roster row) (sym same) (parent row mother of_parent))
+    (λ at higher same.
+    let before = ancestor_before u.roster roster mother at (parent_there u.roster roster row mother there of_parent) higher in
+    omega (arith, before, same))
+    first (saw_once m n mother word s)
 
 -- ---- a look at the parent
 

@@ -1,12 +1,18 @@
 -- A thread group's leader exits last (ptrace(2), "Death under ptrace"): when the other rows of its group can act no more.
-use Rattle.std.specs.Prelude.{◌≡◌, ◌≢◌, ◌<◌, ◌⊎◌, ℕ, true, List, Some, length}
+use Rattle.std.specs.Prelude.{◌≡◌, ◌≢◌, ◌<◌, ◌⊎◌, ℕ, true, List, Some, length, slice_index}
 use Rattle.stop_history.specs.declared.roster.Row.{Row}
 use Rattle.stop_history.specs.History.{IsSettled, holding_back}
 use Rattle.stop_history.specs.Roster.{is_leader, parent_of, row_at}
 use Rattle.stop_history.specs.State.{is_alive, is_ended, state_after}
-use Rattle.stop_table.specs.Entry.{Begins, Entry, GoesOn, history_of}
+use Rattle.stop_table.specs.Entry.{Begins, Entry, GoesOn, cell_after, history_of}
 use Rattle.stop_table.specs.Handle.{IsStepOf, IsUnborn}
 use Rattle.stop_table.specs.View.{View, actors_of, a_look}
+
+-- a row of a leader's group other than the leader
+abbrev pub IsBeside : List Row → (leader row : ℕ) → Type 0
+IsBeside rows leader row =
+    (is_leader (row_at rows leader) ≡ true) × (row ≢ leader)
+    × ((row_at rows row).tgid ≡ (row_at rows leader).tgid)
 
 -- among the rows below k, the leader's group is settled beside it, the leader aside
 abbrev pub AreSettled : List Row → (leader k : ℕ) → List Entry → Type 0
@@ -29,15 +35,11 @@ abbrev pub SawAlive : View → View → ℕ → Type 0
 SawAlive v w row =
     IsStepOf v w (a_look row w.seen) × (is_alive (state_after v.roster (history_of w.seen) row) ≡ true)
 
--- the same of a row of another's thread group, beside it
-abbrev pub SawAliveBeside : View → View → (row other : ℕ) → Type 0
-SawAliveBeside v w row other =
-    (other ≢ row) × ((row_at v.roster other).tgid ≡ (row_at v.roster row).tgid) × SawAlive v w other
-
--- a row, if it is one of another's thread group beside it, rests
-abbrev pub IsRestingBeside : List Row → (row other : ℕ) → List Entry → Type 0
-IsRestingBeside rows row other h =
-    other ≢ row → (row_at rows other).tgid ≡ (row_at rows row).tgid → IsResting rows other h
+-- how many children each row of the leader's group has, among the rows below k
+abbrev pub AreCounted : List Row → (leader k : ℕ) → (births : List ℕ) → List Entry → Type 0
+AreCounted rows leader k births h =
+    (row : ℕ) → row < k → (row_at rows row).tgid ≡ (row_at rows leader).tgid
+    → slice_index births row ≡ (cell_after rows h row).births
 
 -- at a look of the call at the word of `other`, that row was the first alive one of the leader's group beside it
 pub record SawHeldBack (v w : View) (row other : ℕ) : Type 0 where

@@ -1,6 +1,5 @@
 -- What a call tells of a handle, from the view before it (v) to the view after it (w).
-use Rattle.std.specs.Prelude.{◌≡◌, ◌==◌, ◌≤◌, ◌+◌, ◌∷◌, ◌++◌, ◌⊎◌, [], ℕ, Bool, true, false, List, Some, filter}
-use Rattle.std.specs.Prelude.{MatchOption, if◌then◌else◌}
+use Rattle.std.specs.Prelude.{◌≡◌, ◌+◌, ◌∷◌, ◌++◌, ◌⊎◌, [], ℕ, Bool, true, false, List, Some, filter}
 use Rattle.trace_record.specs.Content.{Content}
 use Rattle.trace_record.specs.Death.{IsDeath, death_status}
 use Rattle.trace_record.specs.Resume.{IsResume}
@@ -15,7 +14,6 @@ use Rattle.stop_history.specs.Actor.{actor_of}
 use Rattle.stop_history.specs.Change.{restart_in}
 use Rattle.stop_history.specs.Event as event
 use Rattle.stop_history.specs.Event.{History, events_of}
-use Rattle.stop_history.specs.History.{is_of_parent}
 use Rattle.stop_history.specs.Roster.{parent_of}
 use Rattle.stop_history.specs.State.{is_waitable, state_after}
 use Rattle.stop_history.specs.Word.{Word}
@@ -87,12 +85,6 @@ SawUnborn v w row =
     IsUnborn v.roster row w.seen
     × ((parent : ℕ) × IsStepOf v w (a_look parent w.seen) × (parent_of v.roster row ≡ Some parent))
 
--- the call's only step was a look at the word of the row's parent; a row without a parent takes none
-abbrev pub LookedAtParent : View → View → ℕ → Type 0
-LookedAtParent v w row =
-    MatchOption (parent_of v.roster row) (w.observations ≡ v.observations)
-    (λ parent. w.observations ≡ a_look parent w.seen ∷ v.observations)
-
 -- What a look showed, a stop or a death, was lost to another: the row's next event was a claim, h is the history directly
 -- after it, and an exchange of this call came later. Up to its point a call makes no event (`SeenAt`), so the claim is
 -- another's.
@@ -150,17 +142,33 @@ LosesClaim v w row a = Looked v w × SeenAt v w (IsLost v w row) row a
 abbrev pub LosesAt : View → View → ℕ → Shown → Type 0
 LosesAt v w row a = Looked v w × SeenAt v w (IsLostSince v.seen v w row) row a
 
--- ---- how often a call looks
+-- ---- how many steps a call takes
 
--- how many looks at the word of `at` one attempt at a row takes: one if it is the row, one if it is the row's parent
-unfoldable pub looks_for : List Row → (row at : ℕ) → ℕ
-looks_for rows row at =
-    (if row == at then 1 else 0) + (if is_of_parent at (parent_of rows row) then 1 else 0)
+-- a count is as it was or, where it may go up, one more
+abbrev pub UpByOne : (May : Type 0) → (before after : ℕ) → Type 0
+UpByOne May before after = (after ≡ before) ⊎ (May × (after ≡ before + 1))
 
--- the call made one attempt at the row at most: it looked at no row's word more often than that takes
+-- The call's steps are at most these: one look at the word of each row of the one kind, and one exchange of the word of
+-- each row of the other.
+pub record StepsOnce (Looks Exchanges : ℕ → Type 0) (v w : View) : Type 0 where
+  pub looks : (at : ℕ) → UpByOne (Looks at) (looks_at at v.observations) (looks_at at w.observations)
+  pub exchanges : (at : ℕ)
+      → UpByOne (Exchanges at) (exchanges_of at v.observations) (exchanges_of at w.observations)
+
+-- the same of a call that makes no exchange
+abbrev pub LooksOnce : (Looks : ℕ → Type 0) → View → View → Type 0
+LooksOnce Looks v w = StepsOnce Looks (λ at. ⊥) v w
+
+abbrev pub IsRowOrParent : List Row → (row at : ℕ) → Type 0
+IsRowOrParent rows row at = (at ≡ row) ⊎ (parent_of rows row ≡ Some at)
+
+-- the call made one attempt at the row at most: one look at its parent's word, one at its own, and one exchange of it
 abbrev pub TriesOnce : View → View → ℕ → Type 0
-TriesOnce v w row =
-    (at : ℕ) → looks_at at w.observations ≤ looks_at at v.observations + looks_for v.roster row at
+TriesOnce v w row = StepsOnce (IsRowOrParent v.roster row) (λ at. at ≡ row) v w
+
+-- the call's only step was an exchange of the row's word
+abbrev pub OnlyExchanges : View → View → ℕ → Type 0
+OnlyExchanges v w row = w.observations ≡ an_exchange row w.seen ∷ v.observations
 
 -- ---- claims
 

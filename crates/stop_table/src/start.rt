@@ -3,9 +3,9 @@
 ghost use Rattle.std.specs.Prelude.{◌≡◌, ◌<◌, length};
 ghost use Rattle.stop_history.specs.Roster.{IsRoster};
 ghost use Rattle.stop_table.specs.Entry.{AreLegal};
-ghost use Rattle.stop_table.specs.Handle.{Looked};
+ghost use Rattle.stop_table.specs.Handle.{Looked, LooksOnce};
 ghost use Rattle.stop_table.specs.Seat.{IsSameSeat, IsSeatOf};
-ghost use Rattle.stop_table.specs.Start.{IsFinal, StartsAt};
+ghost use Rattle.stop_table.specs.Start.{IsAncestor, IsFinal, StartsAt};
 
 use crate::cells::{Cells, Seat};
 use crate::group::is_alive;
@@ -31,6 +31,7 @@ impl<A: Allocator> Cells<A> {
             × Looked seat.old.me.0 seat.new.me.0 }
         ensures answer { StartsAt seat.old.me.0 seat.new.me.0 row result }
         ensures for_good { IsFinal seat.old.me.0.roster seat.new.me.0.seen row result }
+        ensures once { LooksOnce (IsAncestor seat.old.me.0.roster row) seat.old.me.0 seat.new.me.0 }
     {
         let Some(parent) = self.roster.parent_place(row) else {
             return Start::Born;

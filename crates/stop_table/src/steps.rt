@@ -12,12 +12,12 @@ ghost use Rattle.stop_history.specs.declared.phase.Phase.TheVariants.{Dead, Stop
 ghost use Rattle.stop_history.specs.Actor.{mover_of};
 ghost use Rattle.stop_history.specs.Change.{restart_in};
 ghost use Rattle.stop_history.specs.History.{creates_next};
-ghost use Rattle.stop_history.specs.Roster.{IsRoster, row_at};
+ghost use Rattle.stop_history.specs.Roster.{IsRoster, parent_of, row_at};
 ghost use Rattle.stop_history.specs.State.{is_born};
 ghost use Rattle.stop_history.specs.Step.{published};
 ghost use Rattle.stop_table.specs.Entry.{AreLegal, cell_after, history_of, word_of};
 ghost use Rattle.stop_table.specs.Group.{IsGroupSettled};
-ghost use Rattle.stop_table.specs.Handle.{Looked, LookedAtParent, SawUnborn};
+ghost use Rattle.stop_table.specs.Handle.{Looked, LooksOnce, SawUnborn};
 ghost use Rattle.stop_table.specs.Place.{place};
 ghost use Rattle.stop_table.specs.Seat.{HasEnded, HoldsAtHand, IsSameSeat, IsSeatOf, LetRun, Met, MissedAt, Published, ReapedAt};
 ghost use Rattle.stop_table.specs.Seat.{Saw, TookStop, TookUp};
@@ -81,7 +81,7 @@ impl<A: Allocator> Cells<A> {
         ensures born { MatchBool result
             (is_born seat.old.me.0.roster (history_of seat.new.me.0.seen) row ≡ true)
             (SawUnborn seat.old.me.0 seat.new.me.0 row) }
-        ensures steps { LookedAtParent seat.old.me.0 seat.new.me.0 row }
+        ensures once { LooksOnce (λ at. parent_of seat.old.me.0.roster row ≡ Some at) seat.old.me.0 seat.new.me.0 }
     {
         let Some(parent) = self.roster.parent_place(row) else {
             return true;
@@ -101,6 +101,7 @@ impl<A: Allocator> Cells<A> {
         ensures born { MatchBool result
             (is_born seat.old.me.0.roster (history_of seat.new.me.0.seen) row ≡ true)
             (SawUnborn seat.old.me.0 seat.new.me.0 row) }
+        ensures once { LooksOnce (λ at. parent_of seat.old.me.0.roster row ≡ Some at) seat.old.me.0 seat.new.me.0 }
     {
         if let Phase::Fresh = seen.phase {
             return self.sees_born(seat, row);

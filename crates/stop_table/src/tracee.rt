@@ -1,7 +1,7 @@
 //! The handle of a tracee.
 
 ghost use Rattle.std.specs.Prelude.{◌≡◌, ◌≢◌, ◌∷◌, ◌+◌, ◌<◌, ◌≤◌, [], true, false, IfErr, IfNone, IfSome, IsNone};
-ghost use Rattle.std.specs.Prelude.{OnOk, length};
+ghost use Rattle.std.specs.Prelude.{MatchOption, MatchResult, OnOk, length};
 ghost use Rattle.std.specs.Arc.{arc_value};
 ghost use Rattle.trace_record.specs.Death.{IsDeath};
 ghost use Rattle.trace_record.specs.Stop.{IsStop};
@@ -11,10 +11,11 @@ ghost use Rattle.stop_history.specs.History.{creates_next};
 ghost use Rattle.stop_history.specs.Roster.{IsRoster, row_at};
 ghost use Rattle.stop_table.specs.declared.shown.Shown.TheVariants as shows;
 ghost use Rattle.stop_table.specs.Entry.{bare, cell_after, publish_of};
-ghost use Rattle.stop_table.specs.Group.{SawHeldBack};
-ghost use Rattle.stop_table.specs.Handle.{EndsWith, Looked, LooksAt, TakesUp};
+ghost use Rattle.stop_table.specs.Group.{IsBeside, SawHeldBack};
+ghost use Rattle.stop_table.specs.Handle.{EndsWith, IsRowOrParent, Looked, LooksAt, LooksOnce, OnlyExchanges};
+ghost use Rattle.stop_table.specs.Handle.{StepsOnce, TakesUp, TriesOnce};
 ghost use Rattle.stop_table.specs.Opening.{new_view};
-ghost use Rattle.stop_table.specs.Start.{IsFinal, StartsAt};
+ghost use Rattle.stop_table.specs.Start.{IsAncestor, IsFinal, StartsAt};
 ghost use Rattle.stop_table.specs.Tracee.{IsTraceeHandle};
 
 use crate::boxed::BoxHolder;
@@ -92,8 +93,7 @@ impl<A: Allocator> Tracee<A> {
         }
     }
 
-    /// Whether it has its row taken up: from a `take_up` that answers `Some` to the next `publish`, or `exit` that
-    /// answers `Ok`.
+    /// Whether it has its row taken up. A `publish` ends this, and so does an `exit`, unless it is refused.
     pub fn holds(&self) -> bool
         ensures holds { result ≡ self.now.view.taken }
         ensures handle { IsTraceeHandle self.now }
@@ -101,13 +101,14 @@ impl<A: Allocator> Tracee<A> {
         self.holder.has_box()
     }
 
-    /// Whether its row is born, not yet, or never, by looks at the row's ancestors from the root down (ptrace(2),
-    /// `PTRACE_EVENT_FORK`, `PTRACE_EVENT_CLONE`). Born and never hold for good.
+    /// Whether its row is born, not yet, or never, by a look at each of the row's ancestors from the root down, once at
+    /// most (ptrace(2), `PTRACE_EVENT_FORK`, `PTRACE_EVENT_CLONE`). Born and never hold for good.
     pub fn start(&mut self) -> Start
         ensures handle { (self.new.table_id ≡ self.old.table_id) × (self.new.row ≡ self.old.row)
             × Looked self.old.view self.new.view }
         ensures answer { StartsAt self.old.view self.new.view self.old.row result }
         ensures for_good { IsFinal self.old.view.roster self.new.view.seen self.old.row result }
+        ensures once { LooksOnce (IsAncestor self.old.view.roster self.old.row) self.old.view self.new.view }
     {
         self.cells.start_of(&mut self.seat, self.row as usize)
     }
@@ -124,6 +125,9 @@ impl<A: Allocator> Tracee<A> {
             × (self.new.view.taken ≡ true)) }
         ensures none { self.old.view.taken ≡ false → IfNone result ((a : _)
             × LooksAt self.old.view self.new.view self.old.row a × (a ≢ shows.Running)) }
+        ensures once { MatchOption result
+            (LooksOnce (IsRowOrParent self.old.view.roster self.old.row) self.old.view self.new.view)
+            (λ _. TriesOnce self.old.view self.new.view self.old.row) }
     {
         if self.holder.has_box() {
             return None;
@@ -143,8 +147,9 @@ impl<A: Allocator> Tracee<A> {
         Some((how, record))
     }
 
-    /// Publishes the row's next stop, for a tracer to claim. The record is that of the stop: the row's thread id, the
-    /// number after that of its last stop, at most 16,777,215, and where it announces a child, the row's next one.
+    /// Publishes the row's next stop, for a tracer to claim, by one exchange. The record is that of the stop: the row's
+    /// thread id, the number after that of its last stop, at most 16,777,215, and where it announces a child, the row's
+    /// next one.
     #[inline(always)]
     pub fn publish(&mut self, stop: StopRecord<A>)
         requires holds { self.old.view.taken ≡ true }
@@ -156,6 +161,7 @@ impl<A: Allocator> Tracee<A> {
         ensures handle { (self.new.table_id ≡ self.old.table_id) × (self.new.row ≡ self.old.row)
             × (self.new.view.taken ≡ false) }
         ensures made { (before : _) × EndsWith self.old.view self.new.view before (publish_of self.old.row stop) }
+        ensures once { OnlyExchanges self.old.view self.new.view self.old.row }
     {
         let word = taken_up(self.word);
         let new = published(word, stop.stop);
@@ -164,8 +170,9 @@ impl<A: Allocator> Tracee<A> {
             .put_publish(&mut self.seat, self.row as usize, word, new, boxed);
     }
 
-    /// Ends the row. A leader is refused while another row of its thread group is alive: it gets the first such row and
-    /// its record back, and still has its row taken up.
+    /// Ends the row, by one exchange. A leader looks at each other row of its thread group first, once at most, and is
+    /// refused while one of them is alive: it gets the first such row and its record back, and still has its row taken
+    /// up.
     pub fn exit(&mut self, stop: StopRecord<A>, death: Death) -> Result<(), GroupAlive<A>>
         requires { (self.old.view.taken ≡ true) × IsDeath death }
         ensures handle { (self.new.table_id ≡ self.old.table_id) × (self.new.row ≡ self.old.row) }
@@ -175,17 +182,21 @@ impl<A: Allocator> Tracee<A> {
         ensures err { IfErr result (λ e. (e.content ≡ stop) × Looked self.old.view self.new.view
             × (e.row < length self.old.view.roster)
             × SawHeldBack self.old.view self.new.view self.old.row e.row) }
+        ensures once { MatchResult result
+            (λ _. StepsOnce (IsBeside self.old.view.roster self.old.row) (λ at. at ≡ self.old.row)
+            self.old.view self.new.view)
+            (λ _. LooksOnce (IsBeside self.old.view.roster self.old.row) self.old.view self.new.view) }
     {
         let row = self.row as usize;
-        if let Some(other) = self.cells.held_back_by(&mut self.seat, row) {
+        let word = taken_up(self.word);
+        if let Some(other) = self.cells.held_back_by(&mut self.seat, row, word.births) {
             return Err(GroupAlive {
                 row: other as u32,
                 content: stop,
             });
         }
         let boxed = self.holder.give(stop);
-        self.cells
-            .put_exit(&mut self.seat, row, taken_up(self.word), death, boxed);
+        self.cells.put_exit(&mut self.seat, row, word, death, boxed);
         Ok(())
     }
 

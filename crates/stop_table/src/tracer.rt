@@ -9,10 +9,10 @@ ghost use Rattle.stop_history.specs.Roster.{IsRoster};
 ghost use Rattle.stop_history.specs.State.{is_born};
 ghost use Rattle.stop_table.specs.Claiming.{IsTaken, IsTakenOrLost};
 ghost use Rattle.stop_table.specs.Entry.{cell_after, history_of, resume_of, word_of};
-ghost use Rattle.stop_table.specs.Handle.{EndsWith, IsHolding, LooksAt, Meets, TriesOnce};
+ghost use Rattle.stop_table.specs.Handle.{EndsWith, IsHolding, IsRowOrParent, LooksAt, LooksOnce, Meets};
+ghost use Rattle.stop_table.specs.Handle.{OnlyExchanges, TriesOnce};
 ghost use Rattle.stop_table.specs.Opening.{new_view};
 ghost use Rattle.stop_table.specs.Tracer.{IsTracerHandle, KeepsHandle, held_rows};
-ghost use Rattle.stop_table.specs.View.{an_exchange};
 
 use crate::cells::{Cells, Seat};
 use crate::claim::{Claim, Taken};
@@ -99,7 +99,7 @@ impl<A: Allocator> Tracer<A> {
         requires { row < length self.old.view.roster }
         ensures handle { KeepsHandle self.old self.new }
         ensures shown { LooksAt self.old.view self.new.view row result }
-        ensures once { TriesOnce self.old.view self.new.view row }
+        ensures once { LooksOnce (IsRowOrParent self.old.view.roster row) self.old.view self.new.view }
     {
         let row = row as usize;
         if !self.cells.sees_born(&mut self.seat, row) {
@@ -109,7 +109,8 @@ impl<A: Allocator> Tracer<A> {
     }
 
     /// Claims a row's stop, or its death (waitid(2), `WSTOPPED`, `WEXITED`). A claim that another tracer wins answers
-    /// the state that the other left: `Claimed` with the number of the stop, or `Reaped`. It does not look again.
+    /// the state that the other left: `Claimed` with the number of the stop, or `Reaped`. It neither looks nor tries
+    /// again.
     #[inline(always)]
     pub fn claim(&mut self, row: u32) -> Taken<A>
         requires { row < length self.old.view.roster }
@@ -164,7 +165,7 @@ impl<A: Allocator> Tracer<A> {
             × ((status : _) × (seen.phase ≡ Stopped status)) }
         ensures handle { KeepsHandle self.old self.new }
         ensures taken { IsTakenOrLost deaths self.old.view self.new.view row result }
-        ensures step { self.new.view.observations ≡ an_exchange row self.new.view.seen ∷ self.old.view.observations }
+        ensures step { OnlyExchanges self.old.view self.new.view row }
     {
         let word = seen.word;
         match self
@@ -194,7 +195,7 @@ impl<A: Allocator> Tracer<A> {
             × (seen.phase ≡ Dead status) }
         ensures handle { KeepsHandle self.old self.new }
         ensures taken { IsTakenOrLost true self.old.view self.new.view row result }
-        ensures step { self.new.view.observations ≡ an_exchange row self.new.view.seen ∷ self.old.view.observations }
+        ensures step { OnlyExchanges self.old.view self.new.view row }
     {
         let word = seen.word;
         if let Err(_) = self
@@ -212,8 +213,9 @@ impl<A: Allocator> Tracer<A> {
         }
     }
 
-    /// Lets the row of a claim run on, with a signal of at most 64 or 0 for none (ptrace(2), `PTRACE_SYSCALL`,
-    /// `PTRACE_CONT`). Its tracee takes up the claim's record, as it is now. The claim is one of this tracer's.
+    /// Lets the row of a claim run on, by one exchange, with a signal of at most 64 or 0 for none (ptrace(2),
+    /// `PTRACE_SYSCALL`, `PTRACE_CONT`). Its tracee takes up the claim's record, as it is now. The claim is one of this
+    /// tracer's.
     #[inline(always)]
     pub fn resume(&mut self, claim: Claim<A>, how: Resume)
         requires claim { IsHolding self.old.view claim.row claim.word claim.stop }
@@ -221,6 +223,7 @@ impl<A: Allocator> Tracer<A> {
         ensures handle { KeepsHandle self.old self.new }
         ensures made { (before : _) × EndsWith self.old.view self.new.view before
             (resume_of claim.row claim.word.number how self.old.view.number claim.stop) }
+        ensures once { OnlyExchanges self.old.view self.new.view claim.row }
     {
         let Claim {
             stop,

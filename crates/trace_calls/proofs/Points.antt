@@ -3,7 +3,7 @@ use Rattle.std.proofs.Common.{refl, ◌≡◌, ◌∷◌, [], ℕ, Bool, false, 
 use Rattle.stop_history.specs.declared.state.State.{State}
 use Rattle.stop_history.specs.declared.state.State.TheVariants as state
 use Rattle.stop_history.specs.Event as event
-use Rattle.stop_history.specs.State.{state_after}
+use Rattle.stop_history.specs.State.{is_pending, is_waitable_for, state_after}
 use Rattle.stop_table.specs.declared.shown.Shown.{Shown}
 use Rattle.stop_table.specs.Entry.{Begins, Entry, bare, history_of}
 use Rattle.stop_table.specs.Claiming.{GetsNothing}
@@ -13,7 +13,7 @@ use Rattle.stop_table.specs.View.{View, a_look}
 use Rattle.stop_table.proofs.Entries.{begins_on}
 use Rattle.stop_table.proofs.Walking.{ends_from, goes_from, looked_on, lost_from, lost_on, point_from, step_on}
 use Rattle.trace_calls.specs.Scan.{is_pending_shown}
-use Rattle.trace_calls.specs.Waiting.{Claimed, ReportsStatus, SawState, Showed, is_pending, is_waitable_for}
+use Rattle.trace_calls.specs.Waiting.{Claimed, ReportsStatus, SawState, Showed}
 
 -- ---- what is shown
 

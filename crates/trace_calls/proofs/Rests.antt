@@ -9,16 +9,16 @@ use Rattle.stop_history.specs.Event as event
 use Rattle.stop_history.specs.Event.{Event, events_of}
 use Rattle.stop_history.specs.Over.{IsClosed, IsOver, is_gone}
 use Rattle.stop_history.specs.Roster.{IsRoster, row_at}
-use Rattle.stop_history.specs.State.{claimed_state, is_born, number_in, state_after, state_in}
-use Rattle.stop_history.proofs.Over.{closed_over, groups_closed, over_is_gone, over_stays}
+use Rattle.stop_history.specs.State.{claimed_state, is_born, is_pending, is_waitable_for, number_in, state_after, state_in}
+use Rattle.stop_history.proofs.Over.{closed_over, over_is_gone, over_stays, selection_closed}
 use Rattle.stop_history.proofs.States.{state_within}
 use Rattle.stop_table.specs.Entry.{AreLegal, Begins, Entry, history_of}
 use Rattle.stop_table.specs.View.{View}
 use Rattle.stop_table.proofs.Entries.{legal_append, history_append, legal_back}
-use Rattle.trace_calls.specs.declared.selection.Selection.{Selection}
-use Rattle.trace_calls.specs.declared.selection.Selection.TheVariants.{All, Tracee, Group}
-use Rattle.trace_calls.specs.Selection.{IsSelected, has_parents, is_selected}
-use Rattle.trace_calls.specs.Waiting.{AreGoneForGood, SawState, is_pending, is_waitable_for}
+use Rattle.stop_history.specs.declared.selection.Selection.{Selection}
+use Rattle.stop_history.specs.declared.selection.Selection.TheVariants.{All, Tracee, Group}
+use Rattle.stop_history.specs.Selection.{IsSelected, has_parents, is_selected}
+use Rattle.trace_calls.specs.Waiting.{AreGoneForGood, SawState}
 
 -- ---- states
 
@@ -65,12 +65,6 @@ saw_gone deaths v w row within s = record {
 
 -- ---- rows that are over
 
-closed : (rows : List Row) → IsRoster rows → (selection : Selection) → has_parents selection ≡ true
-    → IsClosed rows (λ row. is_selected selection (row_at rows row))
-closed rows roster All is = λ row parent within selected of_parent. refl
-closed rows roster (Tracee tid) is = cc
-closed rows roster (Group pgid) is = groups_closed rows roster pgid
-
 pub over_on : (rows : List Row) (deaths : Bool) (h later : List Entry) → AreLegal rows later → Begins h later
     → (row : ℕ) → IsOver rows deaths (history_of h) row → IsOver rows deaths (history_of later) row
 over_on rows deaths h later legal on row over =
@@ -94,7 +88,7 @@ over_next rows roster selection parents deaths k h point later legal to_point to
       | inl same ↦
           subst (λ r. IsOver rows deaths (history_of later) r) (sym same)
           (over_on rows deaths point later legal to_later k
-          (closed_over rows roster (λ r. is_selected selection (row_at rows r)) (closed rows roster selection parents) deaths
+          (closed_over rows roster (λ r. is_selected selection (row_at rows r)) (selection_closed rows roster selection parents) deaths
           (history_of point) k selected.0 selected.1 at_point gone))
       | inr other ↦
           let less : row < k = omega arith in

@@ -6,14 +6,14 @@ use Rattle.stop_history.specs.Over.{is_gone}
 use Rattle.stop_table.specs.Handle.{Looked}
 use Rattle.stop_table.specs.View.{View}
 use Rattle.stop_table.proofs.Walking.{looked_on}
-use Rattle.trace_calls.specs.declared.request.WaitRequest.{WaitRequest}
+use Rattle.stop_history.specs.declared.wait_request.WaitRequest.{WaitRequest}
+use Rattle.stop_history.specs.State.{is_pending, is_waitable_for}
 use Rattle.trace_calls.specs.declared.row_status.RowStatus.{RowStatus}
 use Rattle.trace_calls.specs.Answer.{AnswersByRow, IsRowAnswer, IsStatusOf, records_with}
 use Rattle.trace_calls.specs.Handle.{CallsHandle, KeepsRows}
 use Rattle.trace_calls.specs.Retry.{OnlyLooked}
-use Rattle.trace_calls.specs.Selection.{IsSelected}
+use Rattle.stop_history.specs.Selection.{IsSelected}
 use Rattle.trace_calls.specs.Waiting.{AreGoneForGood, Found, NoChild, NothingYet, Took, WasPassed}
-use Rattle.trace_calls.specs.Waiting.{is_pending, is_waitable_for}
 use Rattle.trace_calls.proofs.Points.{claimed_from, saw_from, showed_from}
 
 module _ (request : WaitRequest) (u v w : View) (first : Looked u v) where

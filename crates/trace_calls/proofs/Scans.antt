@@ -11,20 +11,20 @@ use Rattle.stop_history.specs.Over.{is_gone}
 use Rattle.stop_history.specs.declared.roster.Row.{Row}
 use Rattle.stop_history.specs.Roster.{IsRoster, row_at, row_of}
 use Rattle.stop_history.proofs.Rosters.{row_of-tid}
-use Rattle.stop_history.specs.State.{state_after}
+use Rattle.stop_history.specs.State.{is_pending, is_waitable_for, state_after}
 use Rattle.stop_table.specs.declared.claim.Claim.{Claim}
 use Rattle.stop_table.specs.Entry.{AreLegal, Begins, bare, content_after, history_of}
 use Rattle.stop_table.specs.Handle.{HasSteps, IsHolding, Looked}
 use Rattle.stop_table.specs.View.{View}
 use Rattle.stop_table.proofs.Walking.{begins_of, legal_after, looked_on, stands_still}
-use Rattle.trace_calls.specs.declared.request.WaitRequest.{WaitRequest}
+use Rattle.stop_history.specs.declared.wait_request.WaitRequest.{WaitRequest}
 use Rattle.trace_calls.specs.declared.scan.Finding.TheVariants as finding
-use Rattle.trace_calls.specs.declared.selection.Selection.TheVariants.{Tracee}
+use Rattle.stop_history.specs.declared.selection.Selection.TheVariants.{Tracee}
 use Rattle.trace_calls.specs.declared.scan.Try.TheVariants as tried
 use Rattle.trace_calls.specs.Scan.{IsFinding, IsTried, IsTurn, Scanned}
-use Rattle.trace_calls.specs.Selection.{IsOnly, IsSelected, has_parents}
+use Rattle.stop_history.specs.Selection.{IsOnly, IsSelected, has_parents}
 use Rattle.trace_calls.specs.Waiting.{Found, NoChild, NothingYet}
-use Rattle.trace_calls.specs.Waiting.{Claimed, IsFirst, SawState, Took, WasPassed, is_pending, is_waitable_for}
+use Rattle.trace_calls.specs.Waiting.{Claimed, IsFirst, SawState, Took, WasPassed}
 use Rattle.trace_calls.proofs.Points.{begins_end, claimed_from, saw_as, saw_from, saw_on, showed_from}
 use Rattle.trace_calls.proofs.Rests.{gone_for_good, over_next, saw_gone}
 

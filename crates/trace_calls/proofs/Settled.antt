@@ -28,7 +28,7 @@ use Rattle.stop_table.specs.Tracer.{IsTracerHandle, TracerHandle, is_held}
 use Rattle.stop_table.specs.View.{View}
 use Rattle.stop_table.proofs.Entries.{legal_back, ranged_history}
 use Rattle.stop_table.proofs.Walking.{legal_after}
-use Rattle.trace_calls.specs.declared.request.WaitRequest.{WaitRequest}
+use Rattle.stop_history.specs.declared.wait_request.WaitRequest.{WaitRequest}
 use Rattle.trace_calls.specs.declared.row_status.RowStatus.{RowStatus}
 use Rattle.trace_calls.specs.declared.scan.Finding.{Finding}
 use Rattle.trace_calls.specs.declared.scan.Finding.TheVariants as finding

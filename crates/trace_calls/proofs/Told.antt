@@ -2,7 +2,7 @@
 use Rattle.std.proofs.Common.{Option, Some, None, Result, Ok, Err, ap, subst, sym}
 use Rattle.trace_options.specs.declared.errno.Errno.{Errno}
 use Rattle.trace_options.specs.declared.errno.Errno.TheVariants as errno
-use Rattle.trace_calls.specs.declared.request.WaitRequest.{WaitRequest}
+use Rattle.stop_history.specs.declared.wait_request.WaitRequest.{WaitRequest}
 use Rattle.trace_calls.specs.declared.row_status.RowStatus.{RowStatus}
 use Rattle.trace_calls.specs.Answer.{IsRequestAnswer, IsRowAnswer, IsStatusAnswer, IsWaitAnswer, IsWaitRowAnswer}
 use Rattle.trace_calls.specs.Answer.{without_row}

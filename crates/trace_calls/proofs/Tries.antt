@@ -1,17 +1,40 @@
 -- A scan tries each selected row once.
-use Rattle.std.proofs.Common.{◌≡◌, ◌≤◌, ◌+◌, ◌-◌, ℕ, zero, suc, true, List, length, ap, inl, inr, subst, arith, zero-add}
+use Rattle.std.proofs.Common.{refl, ◌≡◌, ◌≤◌, ◌+◌, ◌-◌, ◌==◌, ◌∙◌, ℕ, Bool, zero, suc, true, List, length, ap, sym, inl, inr, subst}
+use Rattle.std.proofs.Common.{arith, eq-eqb, zero-add}
 use Rattle.std.specs.Prelude.{if◌then◌else◌}
 use Rattle.std.proofs.lemmas.List.FromFn.{sum_by-map-range_with_len_more}
 use Rattle.stop_history.specs.declared.roster.Row.{Row}
-use Rattle.stop_history.specs.Roster.{row_at}
-use Rattle.stop_table.specs.Handle.{TriesOnce, looks_for}
+use Rattle.stop_history.specs.History.{is_of_parent}
+use Rattle.stop_history.specs.Roster.{parent_of, row_at}
+use Rattle.stop_table.specs.Handle.{TriesOnce}
 use Rattle.stop_table.specs.View.{View, looks_at}
-use Rattle.trace_calls.specs.declared.request.WaitRequest.{WaitRequest}
+use Rattle.stop_history.specs.declared.wait_request.WaitRequest.{WaitRequest}
 use Rattle.trace_calls.specs.declared.scan.Try.{Try}
-use Rattle.trace_calls.specs.declared.selection.Selection.{Selection}
+use Rattle.stop_history.specs.declared.selection.Selection.{Selection}
 use Rattle.trace_calls.specs.Scan.{IsTurn}
-use Rattle.trace_calls.specs.Selection.{is_selected}
-use Rattle.trace_calls.specs.Waiting.{IsOneTry, TriesBelow, looks_below}
+use Rattle.stop_history.specs.Selection.{is_selected}
+use Rattle.trace_calls.specs.Waiting.{IsOneTry, TriesBelow, looks_below, looks_for}
+
+taken_if : (b : Bool) (n : ℕ) → b ≡ true → (if b then n else 0) ≡ n
+taken_if b n is = ap (λ x. if x then n else 0) is
+
+-- the looks of one attempt
+tries_looks : (v w : View) (row : ℕ) → TriesOnce v w row → (at : ℕ)
+    → looks_at at w.observations ≤ looks_at at v.observations + looks_for v.roster row at
+unfolding looks_for
+tries_looks v w row once at =
+    elim (once.looks at) [
+      | inl same ↦ omega (arith, same)
+      | inr up ↦
+          elim up.0 [
+            | inl own ↦
+                let one = taken_if (row == at) 1 (eq-eqb row at (sym own)) in omega (arith, one, up.1)
+            | inr parents ↦
+                let one = taken_if (is_of_parent at (parent_of v.roster row)) 1
+                (ap (is_of_parent at) parents ∙ eq-eqb at at refl) in
+                omega (arith, one, up.1)
+          ]
+    ]
 
 -- the looks that one more row takes
 looks_more : (rows : List Row) (selection : Selection) (k at : ℕ) → looks_below rows selection (k + 1) at
@@ -34,7 +57,8 @@ tried_on {A} request u v w k turn same before told once at =
           let here : (if is_selected request.selection (row_at u.roster k) then looks_for u.roster k at else 0)
           ≡ looks_for u.roster k at = ap (λ b. if b then looks_for u.roster k at else 0) selected in
           let own =
-          subst (λ rows. looks_at at w.observations ≤ looks_at at v.observations + looks_for rows k at) same (once at) in
+          subst (λ rows. looks_at at w.observations ≤ looks_at at v.observations + looks_for rows k at) same
+          (tries_looks v w k once at) in
           omega arith
       | inr skips ↦
           let none : looks_at at w.observations ≡ looks_at at v.observations =

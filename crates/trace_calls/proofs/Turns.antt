@@ -9,11 +9,11 @@ use Rattle.stop_history.specs.Roster.{row_at}
 use Rattle.stop_table.specs.Tracer.{IsTracerHandle}
 use Rattle.stop_table.proofs.Walking.{looked_on, stands_still}
 use Rattle.trace_calls.specs.declared.row_status.RowStatus.{RowStatus}
-use Rattle.trace_calls.specs.declared.selection.Selection.{Selection}
-use Rattle.trace_calls.specs.declared.selection.Selection.TheVariants.{All, Tracee}
+use Rattle.stop_history.specs.declared.selection.Selection.{Selection}
+use Rattle.stop_history.specs.declared.selection.Selection.TheVariants.{All, Tracee}
 use Rattle.trace_calls.specs.Answer.{HasFound, IsRowAnswer}
 use Rattle.trace_calls.specs.Handle.{CallsHandle, tracer_of}
-use Rattle.trace_calls.specs.Request.{anyone, claiming, one_row}
+use Rattle.stop_history.specs.WaitRequest.{anyone, claiming, one_row}
 use Rattle.trace_calls.specs.Retry.{OnlyLooked}
 use Rattle.trace_calls.specs.Waiting.{NoChild}
 use Rattle.trace_calls.proofs.Retries.{answer_from, tried_again}

@@ -7,15 +7,15 @@ use Rattle.trace_status.specs.declared.wait_status.WaitStatus.{WaitStatus}
 use Rattle.trace_status.specs.declared.wait_status.WaitStatus.TheVariants.{StillAlive}
 use Rattle.stop_history.specs.declared.roster.Row.{Row}
 use Rattle.stop_history.specs.Roster.{row_at}
-use Rattle.trace_calls.specs.declared.request.WaitRequest.{WaitRequest}
+use Rattle.stop_history.specs.declared.wait_request.WaitRequest.{WaitRequest}
 use Rattle.trace_calls.specs.declared.row_status.RowStatus.{RowStatus}
 use Rattle.trace_record.specs.Content.{Content}
 use Rattle.stop_table.specs.Entry.{content_after}
 use Rattle.stop_table.specs.Tracer.{is_held}
 use Rattle.stop_table.specs.View.{View}
 use Rattle.trace_calls.specs.Handle.{CallsHandle, KeepsRows}
-use Rattle.trace_calls.specs.declared.selection.Selection.{Selection}
-use Rattle.trace_calls.specs.Request.{claiming}
+use Rattle.stop_history.specs.declared.selection.Selection.{Selection}
+use Rattle.stop_history.specs.WaitRequest.{claiming}
 use Rattle.trace_calls.specs.Waiting.{Found, NoChild, NothingYet}
 
 -- the wait status of a row with this raw status

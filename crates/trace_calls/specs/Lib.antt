@@ -2,9 +2,7 @@ pub mod Answer
 pub mod ByPid
 pub mod ByRow
 pub mod Handle
-pub mod Request
 pub mod Retry
 pub mod Scan
-pub mod Selection
 pub mod Settling
 pub mod Waiting

@@ -9,14 +9,14 @@ use Rattle.stop_table.specs.Entry.{content_after, history_of}
 use Rattle.stop_table.specs.Handle.{IsHolding, Looked}
 use Rattle.stop_table.specs.Tracer.{is_held}
 use Rattle.stop_table.specs.View.{View}
-use Rattle.trace_calls.specs.declared.request.WaitRequest.{WaitRequest}
+use Rattle.stop_history.specs.declared.wait_request.WaitRequest.{WaitRequest}
+use Rattle.stop_history.specs.State.{is_pending, is_waitable_for}
 use Rattle.trace_calls.specs.declared.scan.Finding.{Finding}
 use Rattle.trace_calls.specs.declared.scan.Finding.TheVariants as finding
 use Rattle.trace_calls.specs.declared.scan.Try.{Try}
 use Rattle.trace_calls.specs.declared.scan.Try.TheVariants as tried
-use Rattle.trace_calls.specs.Selection.{IsSelected, has_parents}
-use Rattle.trace_calls.specs.Waiting.{Claimed, Found, NoChild, NothingYet, SawState, Showed, WasPassed, is_pending}
-use Rattle.trace_calls.specs.Waiting.{is_waitable_for}
+use Rattle.stop_history.specs.Selection.{IsSelected, has_parents}
+use Rattle.trace_calls.specs.Waiting.{Claimed, Found, NoChild, NothingYet, SawState, Showed, WasPassed}
 
 -- what is shown, if it is waitable for the wait: the number and the raw status
 abbrev pub report_in : (deaths : Bool) → Shown → Option (ℕ × ℕ)

@@ -1,34 +1,23 @@
 -- What a wait answers, from the view of its caller before it (v) to the view after it (w) (waitid(2), waitpid(2)).
-use Rattle.std.specs.Prelude.{◌≡◌, ◌⊎◌, ◌<◌, ◌≤◌, ◌+◌, ◌++◌, ℕ, Bool, true, false, List, length, map, sum}
+use Rattle.std.specs.Prelude.{◌≡◌, ◌==◌, ◌⊎◌, ◌<◌, ◌≤◌, ◌+◌, ◌++◌, ℕ, Bool, true, false, List, length, map, sum}
 use Rattle.std.specs.Prelude.{if◌then◌else◌}
 use Rattle.std.specs.List.{range_with_len}
 use Rattle.stop_history.specs.declared.roster.Row.{Row}
 use Rattle.stop_history.specs.declared.state.State.{State}
 use Rattle.stop_history.specs.declared.state.State.TheVariants as state
 use Rattle.stop_history.specs.Event as event
+use Rattle.stop_history.specs.History.{is_of_parent}
 use Rattle.stop_history.specs.Over.{is_gone}
-use Rattle.stop_history.specs.Roster.{row_at}
-use Rattle.stop_history.specs.State.{state_after}
+use Rattle.stop_history.specs.Roster.{parent_of, row_at}
+use Rattle.stop_history.specs.State.{is_pending, is_waitable_for, state_after}
 use Rattle.stop_table.specs.Entry.{AreLegal, Begins, Entry, GoesOn, bare, history_of}
-use Rattle.stop_table.specs.Handle.{EndsWith, IsLost, IsPoint, Looked, looks_for}
+use Rattle.stop_table.specs.Handle.{EndsWith, IsLost, IsPoint, Looked}
 use Rattle.stop_table.specs.View.{View, actors_of, looks_at}
-use Rattle.trace_calls.specs.declared.request.WaitRequest.{WaitRequest}
-use Rattle.trace_calls.specs.declared.selection.Selection.{Selection}
-use Rattle.trace_calls.specs.Selection.{IsSelected, has_parents, is_selected}
+use Rattle.stop_history.specs.declared.wait_request.WaitRequest.{WaitRequest}
+use Rattle.stop_history.specs.declared.selection.Selection.{Selection}
+use Rattle.stop_history.specs.Selection.{IsSelected, has_parents, is_selected}
 
 -- ---- states
-
--- a row with a status for the wait: a stop, and a death where deaths are asked for (WEXITED)
-abbrev pub is_waitable_for : (deaths : Bool) → State → Bool
-is_waitable_for deaths (state.Stopped number status) = true
-is_waitable_for deaths (state.Dead number status) = deaths
-is_waitable_for deaths other = false
-
--- a row that may have a status later: it runs, or a tracer has claimed its stop
-abbrev pub is_pending : State → Bool
-is_pending state.Running = true
-is_pending (state.Claimed number tracer) = true
-is_pending other = false
 
 -- a row that is waitable for the wait, with this raw status; the number is that of its last stop
 abbrev pub ReportsStatus : (deaths : Bool) → (number status : ℕ) → State → Type 0
@@ -102,7 +91,12 @@ pub record NoChild (request : WaitRequest) (v w : View) : Type 0 where
 
 -- ---- one try
 
--- how many looks at the word of `at` one attempt at each selected row below k takes
+-- how many looks at the word of `at` one attempt at a row takes: one if it is the row, one if it is the row's parent
+unfoldable pub looks_for : List Row → (row at : ℕ) → ℕ
+looks_for rows row at =
+    (if row == at then 1 else 0) + (if is_of_parent at (parent_of rows row) then 1 else 0)
+
+-- how many one attempt at each selected row below k takes
 unfoldable pub looks_below : List Row → Selection → (k at : ℕ) → ℕ
 looks_below rows selection k at =
     sum (map (λ row. if is_selected selection (row_at rows row) then looks_for rows row at else 0) (range_with_len 0 k))

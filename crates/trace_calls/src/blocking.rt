@@ -5,19 +5,18 @@ ghost use Rattle.trace_options.specs.declared.wait_flags.TheConstants.WaitFlags 
 ghost use Rattle.trace_status.specs.declared.wait_status.WaitStatus.TheVariants.{StillAlive};
 ghost use Rattle.trace_calls.specs.Answer.{IsRowAnswer, IsWaitAnswer, IsWaitRowAnswer};
 ghost use Rattle.trace_calls.specs.Handle.{KeepsTable};
-ghost use Rattle.trace_calls.specs.Request.{has, waitid_request, waitpid_request};
+ghost use Rattle.stop_history.specs.WaitRequest.{has, waitid_request, waitpid_request};
 ghost use Rattle.trace_calls.specs.Waiting.{IsOneTry};
 
 use crate::by_row::without_row;
 use crate::calls::Calls;
 use crate::handle::handle_is_legal;
-use crate::id::Id;
 use crate::patience::Patience;
-use crate::request::{WaitRequest, waitid_request, waitpid_request};
 use crate::row_status::RowStatus;
 use std::alloc::Allocator;
 use std::sync::Wait;
 use std::time::Clock;
+use stop_history::{Id, WaitRequest, waitid_request, waitpid_request};
 use trace_options::{Errno, WaitFlags};
 use trace_status::WaitStatus;
 

@@ -19,16 +19,13 @@ mod by_pid;
 mod by_row;
 mod calls;
 mod handle;
-mod id;
 mod patience;
-mod request;
 mod row_status;
 mod scan;
-mod selection;
 mod settle;
 mod writes;
 
 pub use calls::Calls;
-pub use id::Id;
 pub use patience::Patience;
 pub use row_status::RowStatus;
+pub use stop_history::Id;

@@ -3,16 +3,15 @@
 
 ghost use Rattle.std.specs.Prelude.{◌≡◌, ◌<◌, false, length, true};
 ghost use Rattle.stop_table.specs.Claiming.{IsTaken};
-ghost use Rattle.stop_table.specs.Handle.{TriesOnce};
+ghost use Rattle.stop_table.specs.Handle.{IsRowOrParent, LooksOnce, TriesOnce};
 ghost use Rattle.stop_table.specs.Tracer.{IsTracerHandle, KeepsHandle};
 ghost use Rattle.trace_calls.specs.Scan.{IsFinding, IsTried, IsTurn, is_pending_shown, report_in};
-ghost use Rattle.trace_calls.specs.Selection.{IsOnly, IsSelected, has_parents};
+ghost use Rattle.stop_history.specs.Selection.{IsOnly, IsSelected, has_parents};
 ghost use Rattle.trace_calls.specs.Waiting.{IsOneTry};
 
 use crate::handle::handle_is_legal;
-use crate::request::WaitRequest;
 use std::alloc::Allocator;
-use stop_history::Roster;
+use stop_history::{Roster, WaitRequest};
 use stop_table::{Claim, Shown, Taken, Tracer};
 use trace_record::Death;
 
@@ -127,7 +126,7 @@ fn peek<A: Allocator>(tracer: &mut Tracer<A>, row: u32, request: WaitRequest) ->
     requires { (row < length tracer.old.view.roster) × (request.keeps ≡ true) }
     ensures handle { KeepsHandle tracer.old tracer.new }
     ensures tried { IsTried request tracer.old.view tracer.new.view row result }
-    ensures once { TriesOnce tracer.old.view tracer.new.view row }
+    ensures once { LooksOnce (IsRowOrParent tracer.old.view.roster row) tracer.old.view tracer.new.view }
 {
     let shown = tracer.look(row);
     match report_in(shown, request.deaths) {

@@ -36,8 +36,11 @@ fn a_thread_is_created_and_its_leader_exits_last(rt: HostRuntime) -> Result<(), 
     same(&rt, &board.publish(1, Stop::Start), &Err(Refused::Unborn));
     same(&rt, &board.publish(0, Stop::Start), &Ok(1));
     same(&rt, &board.claim(0, 0), &Ok(Got::Stop(1, 0x80057f)));
+    same(&rt, &board.resumable(0, 1), &Err(Refused::NotHolder));
     same(&rt, &board.resume(0, 1, SYSCALL), &Err(Refused::NotHolder));
+    same(&rt, &board.resumable(0, 0), &Ok(()));
     same(&rt, &board.resume(0, 0, SYSCALL), &Ok(()));
+    same(&rt, &board.resumable(0, 0), &Err(Refused::NotClaimed));
     same(&rt, &board.publish(0, Stop::Clone(101)), &Ok(2));
     same(&rt, &board.state(1), &State::Running);
     same(&rt, &board.claim(0, 0), &Ok(Got::Stop(2, 0x03057f)));
@@ -168,6 +171,7 @@ fn the_laws_are_there() {
     crate::laws::a_stop_is_claimed_once();
     crate::laws::births_are_counted();
     crate::laws::children_are_born_in_order();
+    crate::laws::no_child_is_final();
     crate::laws::older_histories_are_legal();
     crate::laws::rows_are_placed();
     crate::laws::settled_rows_stay_settled();

@@ -6,7 +6,9 @@ use Rattle.stop_history.specs.Word.{Word}
 use Rattle.stop_history.proofs.Rosters.{placed}
 use Rattle.stop_table.specs.declared.start.Start.TheVariants as start
 use Rattle.stop_table.specs.Start.{IsFinal, StartsAt}
-use Rattle.stop_table.proofs.Starting.{final_below, root_starts, starts_below, starts_born, starts_never, starts_not_yet, whole}
+use Rattle.stop_table.proofs.Counting.{no_step}
+use Rattle.stop_table.proofs.Starting.{final_below, looked_above, looked_at_mother, root_starts, starts_below, starts_born}
+use Rattle.stop_table.proofs.Starting.{starts_never, starts_not_yet, whole}
 use Rattle.stop_table.proofs.Walking.{legal_after, parent_there}
 use Rattle.stop_table.proofs.cells.Cells.+start_of.Goals as goal
 
@@ -181,3 +183,46 @@ returns-else-is_alive-clause-for_good g t c =
     (starts_never c.args.seat.now.me.0 c.start_of.new.seat.me c.see-word.new.seat.me c.args.row c.in-Some.parent c.see-word.result
     c.start_of.ensures.seat.2 c.see-word.ensures.1 r.3 r.1 here of_parent born
     (le-ltb _ _ (omega (arith, rank, births, c.if-rank-from.false))) (sym c.is_alive.ensures ∙ c.if-is_alive.false)).1
+
+pub returns-in_default-clause-once : goal.returns-in_default-clause-once
+returns-in_default-clause-once g t c = no_step c.args.seat.now.me.0
+
+pub returns-in-NotYet-clause-once : goal.returns-in-NotYet-clause-once
+returns-in-NotYet-clause-once g t c =
+    let r = c.requires in
+    let rows = sym c.args.self.now.same ∙ sym r.0.1 in
+    let of_parent = ap (λ rs. parent_of rs c.args.row) (sym rows) ∙ sym c.parent_place.ensures ∙ c.in-Some.is in
+    looked_above c.args.seat.now.me.0 c.start_of.new.seat.me.0 c.args.row c.in-Some.parent of_parent
+    c.start_of.ensures.once
+
+pub returns-in-Never-clause-once : goal.returns-in-Never-clause-once
+returns-in-Never-clause-once g t c =
+    let r = c.requires in
+    let rows = sym c.args.self.now.same ∙ sym r.0.1 in
+    let of_parent = ap (λ rs. parent_of rs c.args.row) (sym rows) ∙ sym c.parent_place.ensures ∙ c.in-Some.is in
+    looked_above c.args.seat.now.me.0 c.start_of.new.seat.me.0 c.args.row c.in-Some.parent of_parent
+    c.start_of.ensures.once
+
+pub returns-then-rank-from-clause-once : goal.returns-then-rank-from-clause-once
+returns-then-rank-from-clause-once g t c =
+    let r = c.requires in
+    let rows = sym c.args.self.now.same ∙ sym r.0.1 in
+    let of_parent = ap (λ rs. parent_of rs c.args.row) (sym rows) ∙ sym c.parent_place.ensures ∙ c.in-Some.is in
+    looked_at_mother c.args.seat.now.me.0 c.start_of.new.seat.me c.see-word.new.seat.me c.args.row c.in-Some.parent
+    c.see-word.result r.3 r.1 of_parent c.start_of.ensures.once c.see-word.ensures.1
+
+pub returns-then-is_alive-clause-once : goal.returns-then-is_alive-clause-once
+returns-then-is_alive-clause-once g t c =
+    let r = c.requires in
+    let rows = sym c.args.self.now.same ∙ sym r.0.1 in
+    let of_parent = ap (λ rs. parent_of rs c.args.row) (sym rows) ∙ sym c.parent_place.ensures ∙ c.in-Some.is in
+    looked_at_mother c.args.seat.now.me.0 c.start_of.new.seat.me c.see-word.new.seat.me c.args.row c.in-Some.parent
+    c.see-word.result r.3 r.1 of_parent c.start_of.ensures.once c.see-word.ensures.1
+
+pub returns-else-is_alive-clause-once : goal.returns-else-is_alive-clause-once
+returns-else-is_alive-clause-once g t c =
+    let r = c.requires in
+    let rows = sym c.args.self.now.same ∙ sym r.0.1 in
+    let of_parent = ap (λ rs. parent_of rs c.args.row) (sym rows) ∙ sym c.parent_place.ensures ∙ c.in-Some.is in
+    looked_at_mother c.args.seat.now.me.0 c.start_of.new.seat.me c.see-word.new.seat.me c.args.row c.in-Some.parent
+    c.see-word.result r.3 r.1 of_parent c.start_of.ensures.once c.see-word.ensures.1

@@ -1,9 +1,9 @@
 -- A look at a row's parent.
-use Rattle.std.proofs.Common.{◌∙◌, ap, sym}
+use Rattle.std.proofs.Common.{◌∙◌, Some, ap, sym}
 use Rattle.std.specs.Prelude.{nat_lt}
 use Rattle.stop_history.specs.Roster.{parent_of, rank_of}
 use Rattle.stop_history.specs.Word.{Word}
-use Rattle.stop_table.proofs.Attempts.{looked_at_parent, looked_newest}
+use Rattle.stop_table.proofs.Counting.{looks_wider, saw_once}
 use Rattle.stop_table.proofs.Walking.{one_look, parent_says, parent_there}
 use Rattle.stop_table.proofs.cells.Cells.sees_born.Goals as goal
 
@@ -35,10 +35,10 @@ returns-clause-born g c =
     ∙ ap (nat_lt (rank_of c.args.seat.now.me.0.roster c.args.row))
     (c.from.ensures ∙ ap (λ (w : Word). w.births) c.births.view_is))
 
-pub returns-clause-steps : goal.returns-clause-steps
-returns-clause-steps g c =
+pub returns-clause-once : goal.returns-clause-once
+returns-clause-once g c =
     let r = c.requires in
     let rows = sym c.args.self.now.same ∙ sym r.0.1 in
-    looked_at_parent c.args.seat.now.me.0 c.see.new.seat.me.0 c.args.row c.in-Some.parent
-    (ap (λ rs. parent_of rs c.args.row) (sym rows) ∙ sym c.parent_place.ensures ∙ c.in-Some.is)
-    (looked_newest c.args.seat.now.me c.see.new.seat.me c.in-Some.parent c.see.result c.see.ensures.1)
+    let of_parent = ap (λ rs. parent_of rs c.args.row) (sym rows) ∙ sym c.parent_place.ensures ∙ c.in-Some.is in
+    looks_wider c.args.seat.now.me.0 c.see.new.seat.me.0 (λ at same. of_parent ∙ ap Some (sym same))
+    (saw_once c.args.seat.now.me c.see.new.seat.me c.in-Some.parent c.see.result c.see.ensures.1)

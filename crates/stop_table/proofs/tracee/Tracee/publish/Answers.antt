@@ -1,17 +1,18 @@
 -- A tracee publishes a stop.
-use Rattle.std.proofs.Common.{◌≡◌, ◌<◌, ◌∙◌, List, ap, length, subst, sym, true}
+use Rattle.std.proofs.Common.{◌≡◌, ◌<◌, ◌∙◌, ◌∷◌, [], List, ap, false, length, subst, sym, true}
 use Rattle.std.specs.Arc.{arc_value}
 use Rattle.stop_history.specs.History.{creates_next}
 use Rattle.stop_history.specs.Roster.{IsRoster}
 use Rattle.stop_history.specs.Word.{Word}
 use Rattle.stop_table.specs.Entry.{Entry, cell_after, publish_of}
-use Rattle.stop_table.specs.Handle.{EndsWith}
+use Rattle.stop_table.specs.Handle.{EndsWith, OnlyExchanges}
 use Rattle.std.specs.Prelude.{IsSome}
 use Rattle.trace_record.specs.Content.{Content}
 use Rattle.trace_record.specs.Stop.{child_of}
 use Rattle.stop_table.specs.Seat.{Published}
 use Rattle.stop_table.specs.Tracee.{IsTracee, TraceeHandle}
 use Rattle.stop_table.proofs.Births.{room_for_birth}
+use Rattle.stop_table.proofs.Counting.{newest}
 use Rattle.stop_table.proofs.Tracees.{held_tracee, holds_row, published_tracee}
 use Rattle.stop_table.proofs.tracee.Tracee.publish.Goals as goal
 
@@ -54,3 +55,10 @@ returns-clause-made g c =
     (published_tracee key x.seat.me c.put_publish.new.seat.me x.row x.word c.args.stop held
     (subst (λ (stop : Content). Published x.seat.me c.put_publish.new.seat.me x.row stop) c.give-boxed.ensures.record
     c.put_publish.ensures.1)).0
+
+pub returns-clause-once : goal.returns-clause-once
+returns-clause-once g c =
+    let x = c.self.inside in
+    let done = c.put_publish.ensures.1 in
+    subst (λ (h : TraceeHandle). OnlyExchanges h.view c.put_publish.new.seat.me.0 h.row) c.self.view_is
+    (newest x.seat.me.0 c.put_publish.new.seat.me.0 done.1 (publish_of x.row c.give-boxed.result ∷ []) false done.2)

@@ -1,13 +1,15 @@
 -- A tracee takes its row up.
-use Rattle.std.proofs.Common.{◌≡◌, ◌≢◌, ◌∙◌, Ok, ap, subst, sym, true}
+use Rattle.std.proofs.Common.{◌≡◌, ◌≢◌, ◌<◌, ◌∙◌, [], Ok, ap, inl, length, subst, sym, true}
 use Rattle.std.specs.Arc.{arc_value}
 use Rattle.stop_history.specs.Change.{restart_in}
+use Rattle.stop_history.specs.Roster.{IsRoster}
 use Rattle.stop_history.specs.Word.{IsWord, Word}
 use Rattle.trace_record.specs.Content.{Content}
 use Rattle.stop_table.specs.declared.shown.Shown.{Shown}
 use Rattle.stop_table.specs.declared.shown.Shown.TheVariants as shows
-use Rattle.stop_table.specs.Handle.{LooksAt, TakesUp}
+use Rattle.stop_table.specs.Handle.{IsRowOrParent, LooksAt, LooksOnce, TakesUp, TriesOnce}
 use Rattle.stop_table.specs.Tracee.{IsTracee, TraceeHandle}
+use Rattle.stop_table.proofs.Counting.{looked_up, looks_wider, newest, saw_once, then_exchanges}
 use Rattle.stop_table.proofs.Tracees.{does_not_run, idle_tracee, looks_unborn, takes_row_up, word_stays}
 use Rattle.stop_table.proofs.Walking.{one_look}
 use Rattle.stop_table.proofs.tracee.Tracee.take_up.Goals as goal
@@ -87,3 +89,37 @@ returns-clause-some g c =
           (sym c.take-record.ensures.record) up.0),
       up.1.taken,
     )
+
+pub returns-in_default-clause-once : goal.returns-in_default-clause-once
+returns-in_default-clause-once g c =
+    let x = c.self.inside in
+    let seen = c.see_bits-seen in
+    subst (λ (h : TraceeHandle). LooksOnce (IsRowOrParent h.view.roster h.row) h.view seen.new.seat.me.0) c.self.view_is
+    (looks_wider x.seat.me.0 seen.new.seat.me.0 (λ at own. inl own)
+    (saw_once x.seat.me seen.new.seat.me x.row seen.result seen.ensures.1))
+
+pub returns-then-not-sees_running-clause-once : goal.returns-then-not-sees_running-clause-once
+returns-then-not-sees_running-clause-once g c =
+    let x = c.self.inside in
+    let t = c.self.invariant.1 in
+    let seen = c.see_bits-seen in
+    subst (λ (h : TraceeHandle). LooksOnce (IsRowOrParent h.view.roster h.row) h.view c.sees_running.new.seat.me.0)
+    c.self.view_is
+    (looked_up x.seat.me seen.new.seat.me c.sees_running.new.seat.me.0 x.row seen.result
+    (subst IsRoster (sym t.roster_is) t.placed) (subst (λ rs. x.row < length rs) (sym t.roster_is) t.low) seen.ensures.1
+    c.sees_running.ensures.once)
+
+pub returns-clause-once : goal.returns-clause-once
+returns-clause-once g c =
+    let x = c.self.inside in
+    let t = c.self.invariant.1 in
+    let seen = c.see_bits-seen in
+    let looked = c.sees_running.new.seat.me.0 in
+    let last = c.take_record-boxed.new.seat.me.0 in
+    let took = c.take_record-boxed.ensures.1 in
+    subst (λ (h : TraceeHandle). TriesOnce h.view last h.row) c.self.view_is
+    (then_exchanges x.seat.me.0 looked last x.row
+    (looked_up x.seat.me seen.new.seat.me looked x.row seen.result
+    (subst IsRoster (sym t.roster_is) t.placed) (subst (λ rs. x.row < length rs) (sym t.roster_is) t.low) seen.ensures.1
+    c.sees_running.ensures.once)
+    (newest looked last took.1 [] true took.2))

@@ -8,11 +8,10 @@ use Rattle.stop_history.specs.Step.{claimed}
 use Rattle.stop_history.specs.Word.{Word}
 use Rattle.stop_table.specs.Entry.{AreLegal, bare, cell_after, history_of, word_of}
 use Rattle.stop_table.specs.declared.shown.Shown.TheVariants as shows
-use Rattle.stop_table.specs.Handle.{Claims, IsHolding, LosesAt}
+use Rattle.stop_table.specs.Handle.{Claims, IsHolding, LosesAt, OnlyExchanges}
 use Rattle.stop_table.specs.Tracer.{IsTracer, TracerHandle}
-use Rattle.stop_table.specs.View.{an_exchange}
 use Rattle.stop_table.proofs.Answering.{did_claim, lost_claim}
-use Rattle.stop_table.proofs.Attempts.{newest}
+use Rattle.stop_table.proofs.Counting.{newest}
 use Rattle.stop_table.proofs.Tracers.{missed_claim, room_left, took_claim}
 use Rattle.stop_table.proofs.tracer.Tracer.claim_seen.Goals as goal
 
@@ -91,7 +90,7 @@ pub returns-in-Ok-clause-step : goal.returns-in-Ok-clause-step
 returns-in-Ok-clause-step g c =
     let x = c.self.inside in
     let n = c.try_claim.new.seat.me.0 in
-    subst (λ (h : TracerHandle). n.observations ≡ an_exchange c.args.row n.seen ∷ h.view.observations) c.self.view_is
+    subst (λ (h : TracerHandle). OnlyExchanges h.view n c.args.row) c.self.view_is
     (newest x.seat.me.0 n c.in-Ok.ensures.claimed.1
     (bare (event.Claim c.args.row c.args.seen.number x.seat.me.0.number) ∷ []) x.seat.me.0.taken
     c.in-Ok.ensures.claimed.2.0)
@@ -101,5 +100,5 @@ returns-in-Err-clause-step g c =
     let x = c.self.inside in
     let n = c.try_claim.new.seat.me.0 in
     let missed = c.in-Err.ensures.claimed.0 in
-    subst (λ (h : TracerHandle). n.observations ≡ an_exchange c.args.row n.seen ∷ h.view.observations) c.self.view_is
+    subst (λ (h : TracerHandle). OnlyExchanges h.view n c.args.row) c.self.view_is
     (newest x.seat.me.0 n missed.1 [] x.seat.me.0.taken missed.2)

@@ -1,11 +1,12 @@
 -- A look at a row.
 use Rattle.std.proofs.Common.{◌∙◌, ◌<◌, length, subst, sym}
 use Rattle.std.specs.Arc.{arc_value}
+use Rattle.stop_history.specs.Roster.{IsRoster}
 use Rattle.stop_table.specs.declared.shown.Shown.TheVariants as shows
-use Rattle.stop_table.specs.Handle.{LooksAt, TriesOnce}
+use Rattle.stop_table.specs.Handle.{IsRowOrParent, LooksAt, LooksOnce}
 use Rattle.stop_table.specs.Tracer.{TracerHandle}
 use Rattle.stop_table.proofs.Answering.{looks_at_word}
-use Rattle.stop_table.proofs.Attempts.{tried_parent, tried_row}
+use Rattle.stop_table.proofs.Counting.{looked_at_parent, looked_down}
 use Rattle.stop_table.proofs.Tracers.{seen_unborn, tracer_looked}
 use Rattle.stop_table.proofs.Walking.{looked_on, one_look}
 use Rattle.stop_table.proofs.tracer.Tracer.look.Goals as goal
@@ -53,11 +54,16 @@ returns-clause-shown g c =
 
 pub returns-then-not-sees_born-clause-once : goal.returns-then-not-sees_born-clause-once
 returns-then-not-sees_born-clause-once g c =
-    subst (λ (h : TracerHandle). TriesOnce h.view c.sees_born.new.seat.me.0 c.args.row) c.self.view_is
-    (tried_parent c.self.inside.seat.me.0 c.sees_born.new.seat.me.0 c.args.row c.if-not-sees_born.ensures.steps)
+    subst (λ (h : TracerHandle). LooksOnce (IsRowOrParent h.view.roster c.args.row) h.view c.sees_born.new.seat.me.0)
+    c.self.view_is
+    (looked_at_parent c.self.inside.seat.me.0 c.sees_born.new.seat.me.0 c.args.row c.if-not-sees_born.ensures.once)
 
 pub returns-clause-once : goal.returns-clause-once
 returns-clause-once g c =
-    subst (λ (h : TracerHandle). TriesOnce h.view c.see.new.seat.me.0 c.args.row) c.self.view_is
-    (tried_row c.self.inside.seat.me.0 c.sees_born.new.seat.me c.see.new.seat.me c.args.row c.see.result
-    c.if-not-sees_born.ensures.steps c.see.ensures.1)
+    let x = c.self.inside in
+    let t = c.self.invariant.1 in
+    let there = subst (λ (h : TracerHandle). c.args.row < length h.view.roster) (sym c.self.view_is) c.requires in
+    subst (λ (h : TracerHandle). LooksOnce (IsRowOrParent h.view.roster c.args.row) h.view c.see.new.seat.me.0)
+    c.self.view_is
+    (looked_down x.seat.me.0 c.sees_born.new.seat.me c.see.new.seat.me c.args.row c.see.result
+    (subst IsRoster (sym t.roster_is) t.placed) there c.if-not-sees_born.ensures.once c.see.ensures.1)

@@ -7,11 +7,10 @@ use Rattle.stop_history.specs.State.{is_born}
 use Rattle.stop_history.specs.Word.{Word}
 use Rattle.stop_table.specs.declared.shown.Shown.TheVariants as shows
 use Rattle.stop_table.specs.Entry.{AreLegal, bare, cell_after, history_of, word_of}
-use Rattle.stop_table.specs.Handle.{LosesAt, Reaps}
+use Rattle.stop_table.specs.Handle.{LosesAt, OnlyExchanges, Reaps}
 use Rattle.stop_table.specs.Tracer.{TracerHandle}
-use Rattle.stop_table.specs.View.{an_exchange}
 use Rattle.stop_table.proofs.Answering.{did_reap, has_death, lost_claim}
-use Rattle.stop_table.proofs.Attempts.{newest}
+use Rattle.stop_table.proofs.Counting.{newest}
 use Rattle.stop_table.proofs.Tracers.{kept_reap, missed_claim}
 use Rattle.stop_table.proofs.tracer.Tracer.reap_seen.Goals as goal
 
@@ -81,7 +80,7 @@ pub returns-clause-step : goal.returns-clause-step
 returns-clause-step g c =
     let x = c.self.inside in
     let n = c.try_reap.new.seat.me.0 in
-    subst (λ (h : TracerHandle). n.observations ≡ an_exchange c.args.row n.seen ∷ h.view.observations) c.self.view_is
+    subst (λ (h : TracerHandle). OnlyExchanges h.view n c.args.row) c.self.view_is
     (newest x.seat.me.0 n c.in_default.ensures.reaped.1
     (bare (event.Claim c.args.row c.args.seen.number x.seat.me.0.number) ∷ []) x.seat.me.0.taken
     c.in_default.ensures.reaped.2.0)
@@ -91,5 +90,5 @@ returns-in-Err-clause-step g c =
     let x = c.self.inside in
     let n = c.try_reap.new.seat.me.0 in
     let missed = c.in-Err.ensures.reaped.0 in
-    subst (λ (h : TracerHandle). n.observations ≡ an_exchange c.args.row n.seen ∷ h.view.observations) c.self.view_is
+    subst (λ (h : TracerHandle). OnlyExchanges h.view n c.args.row) c.self.view_is
     (newest x.seat.me.0 n missed.1 [] x.seat.me.0.taken missed.2)

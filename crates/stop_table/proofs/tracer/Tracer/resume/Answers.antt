@@ -1,10 +1,11 @@
 -- A tracer resumes a row that it has claimed.
-use Rattle.std.proofs.Common.{◌∙◌, ap, drop, subst, sym}
+use Rattle.std.proofs.Common.{◌∙◌, ◌∷◌, [], ap, drop, subst, sym}
 use Rattle.std.specs.Arc.{arc_value}
 use Rattle.stop_table.specs.Entry.{resume_of}
-use Rattle.stop_table.specs.Handle.{EndsWith, IsHolding}
+use Rattle.stop_table.specs.Handle.{EndsWith, IsHolding, OnlyExchanges}
 use Rattle.stop_table.specs.Tracer.{IsTracer, TracerHandle}
 use Rattle.stop_table.specs.View.{View}
+use Rattle.stop_table.proofs.Counting.{newest}
 use Rattle.stop_table.proofs.Tracers.{at_front, is_held_row, let_go, turned_tracer}
 use Rattle.stop_table.proofs.Walking.{ended_with}
 use Rattle.stop_table.proofs.tracer.Tracer.resume.Goals as goal
@@ -69,3 +70,13 @@ returns-clause-made g c =
           (c.bring.ensures.seat.2 ∙ ap (λ (h : TracerHandle). h.view) c.self.view_is)
           (ended_with c.bring.new.seat.me.0 c.let_run.new.seat.me.0 run.1 x' c.bring.new.seat.me.0.taken run.2),
     )
+
+pub returns-clause-once : goal.returns-clause-once
+returns-clause-once g c =
+    let claim = c.args.claim in
+    let run = c.let_run.ensures.1 in
+    let before = c.bring.new.seat.me.0 in
+    subst (λ (v : View). OnlyExchanges v c.let_run.new.seat.me.0 claim.row)
+    (c.bring.ensures.seat.2 ∙ ap (λ (h : TracerHandle). h.view) c.self.view_is)
+    (newest before c.let_run.new.seat.me.0 run.1
+    (resume_of claim.row claim.word.number c.args.how before.number claim.stop ∷ []) before.taken run.2)

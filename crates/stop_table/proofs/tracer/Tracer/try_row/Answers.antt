@@ -2,13 +2,14 @@
 use Rattle.std.proofs.Common.{◌≡◌, ◌∙◌, ◌<◌, ap, length, refl, subst, sym, true}
 use Rattle.std.specs.Arc.{arc_value}
 use Rattle.stop_history.specs.declared.phase.Phase.TheVariants as phase
+use Rattle.stop_history.specs.Roster.{IsRoster}
 use Rattle.stop_history.specs.Word.{Word, shown}
 use Rattle.stop_table.specs.declared.shown.Shown.TheVariants as shows
 use Rattle.stop_table.specs.Claiming.{GetsNothing, IsTaken, IsTakenOrLost}
 use Rattle.stop_table.specs.Handle.{TriesOnce, is_claimable, shown_of}
 use Rattle.stop_table.specs.Tracer.{TracerHandle}
 use Rattle.stop_table.proofs.Answering.{born_after, claimable_stop, last_look, not_born, nothing_there, taken_from}
-use Rattle.stop_table.proofs.Attempts.{tried_claim, tried_parent, tried_row}
+use Rattle.stop_table.proofs.Counting.{looked_at_parent, looked_down, then_exchanges, tries_by_looks}
 use Rattle.stop_table.proofs.Tracers.{tracer_looked, tracer_looked_twice}
 use Rattle.stop_table.proofs.Walking.{idle_word, looked_on, one_look}
 use Rattle.stop_table.proofs.tracer.Tracer.try_row.Goals as goal
@@ -27,7 +28,7 @@ returns-then-not-sees_born-clause-taken g c =
     let x = c.self.inside in
     let s = c.if-not-sees_born.ensures in (
       subst (λ (h : TracerHandle). GetsNothing h.view c.sees_born.new.seat.me.0 c.args.row shows.Unborn) c.self.view_is
-          (not_born x.seat.me.0 c.sees_born.new.seat.me.0 c.args.row s.seat.2 s.steps s.born),
+          (not_born x.seat.me.0 c.sees_born.new.seat.me.0 c.args.row s.seat.2 s.once s.born),
       refl,
     )
 
@@ -69,7 +70,7 @@ returns-then-not-is_claimable-clause-taken g c =
       subst (λ (h : TracerHandle). GetsNothing h.view c.see_bits-seen.new.seat.me.0 c.args.row c.show-shown.result)
           c.self.view_is
           (nothing_there x.seat.me.0 c.sees_born.new.seat.me c.see_bits-seen.new.seat.me c.args.row c.see_bits-seen.result
-          c.show-shown.result there s.seat.2 s.steps s.born c.see_bits-seen.ensures.1
+          c.show-shown.result there s.seat.2 s.once s.born c.see_bits-seen.ensures.1
           (sym (c.show-shown.ensures ∙ ap (λ (w : Word). shown_of (shown true w.number w.phase)) c.seen.view_is))),
       sym c.is_claimable.ensures ∙ c.if-not-is_claimable.true,
     )
@@ -128,6 +129,9 @@ returns-in-Dead-clause-taken g c =
 pub returns-in_default : goal.returns-in_default
 returns-in_default g c =
     let x = c.self.inside in
+    let t = c.self.invariant.1 in
+    let roster = subst IsRoster (sym t.roster_is) t.placed in
+    let there = subst (λ (h : TracerHandle). c.args.row < length h.view.roster) (sym c.self.view_is) c.requires in
     let e = c.sees_born.ensures.seat in
     let looked = looked_on x.seat.me.0 c.sees_born.new.seat.me.0 c.see_bits-seen.new.seat.me.0 e.2
     (one_look c.sees_born.new.seat.me c.see_bits-seen.new.seat.me c.args.row c.see_bits-seen.result c.see_bits-seen.ensures.1) in
@@ -142,26 +146,35 @@ returns-in_default g c =
           (last_look x.seat.me.0 c.sees_born.new.seat.me c.see_bits-seen.new.seat.me c.args.row c.see_bits-seen.result e.2 c.see_bits-seen.ensures.1)
           c.claim_seen.ensures.taken);
       once = subst (λ (h : TracerHandle). TriesOnce h.view c.claim_seen.new.self.view c.args.row) c.self.view_is
-          (tried_claim x.seat.me.0 c.see_bits-seen.new.seat.me.0 c.claim_seen.new.self.view c.args.row
-          (tried_row x.seat.me.0 c.sees_born.new.seat.me c.see_bits-seen.new.seat.me c.args.row c.see_bits-seen.result
-          c.sees_born.ensures.steps c.see_bits-seen.ensures.1) c.claim_seen.ensures.step);
+          (then_exchanges x.seat.me.0 c.see_bits-seen.new.seat.me.0 c.claim_seen.new.self.view c.args.row
+          (looked_down x.seat.me.0 c.sees_born.new.seat.me c.see_bits-seen.new.seat.me c.args.row c.see_bits-seen.result
+          roster there c.sees_born.ensures.once c.see_bits-seen.ensures.1) c.claim_seen.ensures.step);
     }
 
 pub returns-then-not-sees_born-clause-once : goal.returns-then-not-sees_born-clause-once
 returns-then-not-sees_born-clause-once g c =
     subst (λ (h : TracerHandle). TriesOnce h.view c.sees_born.new.seat.me.0 c.args.row) c.self.view_is
-    (tried_parent c.self.inside.seat.me.0 c.sees_born.new.seat.me.0 c.args.row c.if-not-sees_born.ensures.steps)
+    (tries_by_looks c.self.inside.seat.me.0 c.sees_born.new.seat.me.0 c.args.row
+    (looked_at_parent c.self.inside.seat.me.0 c.sees_born.new.seat.me.0 c.args.row c.if-not-sees_born.ensures.once))
 
 pub returns-then-not-is_claimable-clause-once : goal.returns-then-not-is_claimable-clause-once
 returns-then-not-is_claimable-clause-once g c =
+    let x = c.self.inside in
+    let t = c.self.invariant.1 in
+    let roster = subst IsRoster (sym t.roster_is) t.placed in
+    let there = subst (λ (h : TracerHandle). c.args.row < length h.view.roster) (sym c.self.view_is) c.requires in
     subst (λ (h : TracerHandle). TriesOnce h.view c.see_bits-seen.new.seat.me.0 c.args.row) c.self.view_is
-    (tried_row c.self.inside.seat.me.0 c.sees_born.new.seat.me c.see_bits-seen.new.seat.me c.args.row
-    c.see_bits-seen.result c.if-not-sees_born.ensures.steps c.see_bits-seen.ensures.1)
+    (tries_by_looks x.seat.me.0 c.see_bits-seen.new.seat.me.0 c.args.row
+    (looked_down x.seat.me.0 c.sees_born.new.seat.me c.see_bits-seen.new.seat.me c.args.row c.see_bits-seen.result roster
+    there c.if-not-sees_born.ensures.once c.see_bits-seen.ensures.1))
 
 pub returns-in-Dead-clause-once : goal.returns-in-Dead-clause-once
 returns-in-Dead-clause-once g c =
     let x = c.self.inside in
+    let t = c.self.invariant.1 in
+    let roster = subst IsRoster (sym t.roster_is) t.placed in
+    let there = subst (λ (h : TracerHandle). c.args.row < length h.view.roster) (sym c.self.view_is) c.requires in
     subst (λ (h : TracerHandle). TriesOnce h.view c.reap_seen.new.self.view c.args.row) c.self.view_is
-    (tried_claim x.seat.me.0 c.see_bits-seen.new.seat.me.0 c.reap_seen.new.self.view c.args.row
-    (tried_row x.seat.me.0 c.sees_born.new.seat.me c.see_bits-seen.new.seat.me c.args.row c.see_bits-seen.result
-    c.sees_born.ensures.steps c.see_bits-seen.ensures.1) c.reap_seen.ensures.step)
+    (then_exchanges x.seat.me.0 c.see_bits-seen.new.seat.me.0 c.reap_seen.new.self.view c.args.row
+    (looked_down x.seat.me.0 c.sees_born.new.seat.me c.see_bits-seen.new.seat.me c.args.row c.see_bits-seen.result roster
+    there c.sees_born.ensures.once c.see_bits-seen.ensures.1) c.reap_seen.ensures.step)

@@ -7,9 +7,9 @@ use Rattle.stop_history.specs.declared.roster.Row.{Row}
 use Rattle.stop_history.specs.Roster.{nobody, row_at}
 use Rattle.trace_calls.specs.Answer.{IsRowAnswer}
 use Rattle.trace_calls.specs.Handle.{CallsHandle, handle_of, records_of}
-use Rattle.trace_calls.specs.Request.{claiming}
-use Rattle.trace_calls.specs.Selection.{IsOnly}
-use Rattle.trace_calls.specs.declared.selection.Selection.TheVariants.{Tracee}
+use Rattle.stop_history.specs.WaitRequest.{claiming}
+use Rattle.stop_history.specs.Selection.{IsOnly}
+use Rattle.stop_history.specs.declared.selection.Selection.TheVariants.{Tracee}
 use Rattle.trace_calls.proofs.Scans.{only_row}
 use Rattle.trace_calls.proofs.Settled.{answered, kept, placed}
 use Rattle.trace_calls.proofs.calls.Calls.wait_one.Goals as goal

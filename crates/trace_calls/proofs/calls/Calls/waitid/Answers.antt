@@ -1,7 +1,7 @@
 -- The answer is that of the wait by row, without the row and the number.
 use Rattle.std.proofs.Common.{subst, sym}
 use Rattle.trace_calls.specs.Answer.{IsWaitAnswer}
-use Rattle.trace_calls.specs.Request.{waitid_request}
+use Rattle.stop_history.specs.WaitRequest.{waitid_request}
 use Rattle.trace_calls.proofs.Told.{told_wait}
 use Rattle.trace_calls.proofs.calls.Calls.waitid.Goals as goal
 

@@ -3,7 +3,7 @@ use Rattle.std.proofs.Common.{◌∙◌, Some, ap, subst, sym}
 use Rattle.std.proofs.lemmas.Int.{to_z-of_z}
 use Rattle.std.specs.Int.{w32}
 use Rattle.trace_calls.specs.Answer.{IsWaitAnswer}
-use Rattle.trace_calls.specs.Request.{waitpid_request}
+use Rattle.stop_history.specs.WaitRequest.{waitpid_request}
 use Rattle.trace_calls.proofs.Told.{told_wait}
 use Rattle.trace_calls.proofs.calls.Calls.waitpid_blocking.Goals as goal
 

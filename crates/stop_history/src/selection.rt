@@ -1,14 +1,15 @@
 //! Which tracees a wait speaks of.
 
 ghost use Rattle.std.specs.Prelude.{◌≡◌};
-ghost use Rattle.trace_calls.specs.Selection.{is_selected, positive, selection_of_id, selection_of_pid};
+ghost use Rattle.stop_history.specs.Selection.{is_selected, positive, selection_of_id, selection_of_pid};
 
 use crate::id::Id;
-use stop_history::Row;
+use crate::roster::Row;
 
 /// Which tracees a wait speaks of.
-#[derive(Clone, Copy)]
-pub(crate) enum Selection {
+#[derive(Clone, Copy, Debug, PartialEq, Eq, Hash)]
+pub enum Selection {
+    /// Any.
     All,
     /// The one of this pid.
     Tracee(u32),
@@ -18,7 +19,7 @@ pub(crate) enum Selection {
 
 impl Selection {
     /// Whether a row is among them.
-    pub(crate) fn has(self, row: Row) -> bool
+    pub fn has(self, row: Row) -> bool
         ensures { result ≡ is_selected self row }
     {
         match self {
@@ -30,7 +31,7 @@ impl Selection {
 }
 
 /// The selection of waitid, or None for an id that it does not take (waitid(2), `P_ALL`, `P_PID`, `P_PGID`).
-pub(crate) fn selection_of_id(id: Id) -> Option<Selection>
+pub fn selection_of_id(id: Id) -> Option<Selection>
     ensures { result ≡ selection_of_id id }
 {
     match id {
@@ -41,7 +42,7 @@ pub(crate) fn selection_of_id(id: Id) -> Option<Selection>
 }
 
 /// The selection of waitpid, or None for a pid that it does not take (waitpid(2), "The value of pid can be").
-pub(crate) fn selection_of_pid(pid: i32) -> Option<Selection>
+pub fn selection_of_pid(pid: i32) -> Option<Selection>
     ensures { result ≡ selection_of_pid pid }
 {
     if pid == 0 {

@@ -7,11 +7,11 @@ use Rattle.trace_options.specs.WaitFlags.{wait_flag_bits}
 use Rattle.trace_options.specs.declared.wait_flags.WaitFlags.{WaitFlags}
 use Rattle.trace_options.specs.declared.wait_flags.TheConstants.WaitFlags.{WALL, WCONTINUED, WEXITED, WNOHANG}
 use Rattle.trace_options.specs.declared.wait_flags.TheConstants.WaitFlags.{WNOWAIT, WSTOPPED, WUNTRACED}
-use Rattle.trace_calls.specs.declared.id.Id.{Id}
-use Rattle.trace_calls.specs.declared.request.WaitRequest.{WaitRequest}
-use Rattle.trace_calls.specs.declared.selection.Selection.{Selection}
-use Rattle.trace_calls.specs.declared.selection.Selection.TheVariants.{All, Tracee}
-use Rattle.trace_calls.specs.Selection.{selection_of_id, selection_of_pid}
+use Rattle.stop_history.specs.declared.id.Id.{Id}
+use Rattle.stop_history.specs.declared.wait_request.WaitRequest.{WaitRequest}
+use Rattle.stop_history.specs.declared.selection.Selection.{Selection}
+use Rattle.stop_history.specs.declared.selection.Selection.TheVariants.{All, Tracee}
+use Rattle.stop_history.specs.Selection.{selection_of_id, selection_of_pid}
 
 abbrev pub has : WaitFlags → WaitFlags → Bool
 has flags flag = bit_and (wait_flag_bits flags) (wait_flag_bits flag) == wait_flag_bits flag

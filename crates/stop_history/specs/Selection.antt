@@ -3,10 +3,10 @@ use Rattle.std.specs.Prelude.{◌≡◌, ◌==◌, ◌+◌, ◌<◌, ℕ, ℤ, p
 use Rattle.std.specs.Prelude.{Option, Some, None, if◌then◌else◌}
 use Rattle.stop_history.specs.declared.roster.Row.{Row}
 use Rattle.stop_history.specs.Roster.{row_at}
-use Rattle.trace_calls.specs.declared.id.Id.{Id}
-use Rattle.trace_calls.specs.declared.id.Id.TheVariants as ids
-use Rattle.trace_calls.specs.declared.selection.Selection.{Selection}
-use Rattle.trace_calls.specs.declared.selection.Selection.TheVariants.{All, Tracee, Group}
+use Rattle.stop_history.specs.declared.id.Id.{Id}
+use Rattle.stop_history.specs.declared.id.Id.TheVariants as ids
+use Rattle.stop_history.specs.declared.selection.Selection.{Selection}
+use Rattle.stop_history.specs.declared.selection.Selection.TheVariants.{All, Tracee, Group}
 
 abbrev pub is_selected : Selection → Row → Bool
 is_selected All row = true

@@ -14,8 +14,9 @@ pub enum FoldError {
     /// There is a stop of this number already, or a death.
     Twice,
     /// The row with this place in the roster lacks a stop or its death: the least number of a stop that it lacks, or
-    /// one more than its last stop has, where it lacks its death alone.
-    Lost { row: u32, number: u32 },
+    /// one more than its last stop has, where it lacks its death alone: 2^32 where that stop has the greatest number
+    /// that there is.
+    Lost { row: u32, number: u64 },
     /// A growth was refused.
     NoMemory,
 }

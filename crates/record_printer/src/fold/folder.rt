@@ -16,7 +16,7 @@ ghost use Rattle.record_printer.specs.Represents.{AddsStopAt, Represents, kept_a
 ghost use Rattle.record_printer.specs.RowAnswers.{missing_in, stop_fault};
 ghost use Rattle.record_printer.specs.declared.fold.error.FoldError.{FoldError};
 ghost use Rattle.stop_history.specs.Roster.{IsRoster, is_root, row_at, row_of};
-ghost use Rattle.stop_history.specs.declared.limits.TheConstants.{LAST_NUMBER, MOST_ROWS};
+ghost use Rattle.stop_history.specs.declared.limits.TheConstants.{MOST_ROWS};
 
 use crate::fold::error::FoldError;
 use crate::fold::kept_row::KeptRow;
@@ -247,7 +247,6 @@ fn add_stop<A: Allocator + Copy>(
     requires roster { IsRoster rows.now }
     requires paired { length kept.old ≡ length rows.now }
     requires row { row < length rows.now }
-    requires number { number ≤ LAST_NUMBER }
     ensures refused { (stops : Stops) → KeepsStops (kept_at kept.old row) stops → (error : FoldError)
         → stop_fault (kept_at kept.old row).ending (is_some (stops number)) number ≡ Some error
         → result ≡ Err error }

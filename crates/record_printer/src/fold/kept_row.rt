@@ -1,7 +1,7 @@
 //! What a folder keeps of a row.
 
 ghost use Rattle.std.specs.Option.{is_some};
-ghost use Rattle.std.specs.Prelude.{◌≡◌, ◌||◌, ◌<◌, ◌≤◌, ◌+◌, false, true, None, Some};
+ghost use Rattle.std.specs.Prelude.{◌≡◌, ◌||◌, ◌<◌, ◌≤◌, ◌+◌, ◌^◌, false, true, None, Some};
 ghost use Rattle.std.specs.Prelude.{IfOk, IsOk, IsOkUnless, OnErr, OnOk};
 ghost use Rattle.record_printer.specs.Kept.{AddsStop, KeepsStops, empty_row, has_any, stops_with};
 ghost use Rattle.record_printer.specs.Note.{Stops};
@@ -9,7 +9,6 @@ ghost use Rattle.record_printer.specs.NoteOf.{note_of};
 ghost use Rattle.record_printer.specs.RowAnswers.{death_fault, due, is_past, missing_in, stop_fault, text_in};
 ghost use Rattle.record_printer.specs.declared.fold.ending.Ending.{Ending};
 ghost use Rattle.record_printer.specs.declared.fold.error.FoldError.{FoldError};
-ghost use Rattle.stop_history.specs.declared.limits.TheConstants.{LAST_NUMBER};
 
 use crate::fold::chain::{chain_from, fold_chain};
 use crate::fold::ending::Ending;
@@ -66,7 +65,6 @@ impl<A: Allocator + Copy> KeptRow<A> {
 
     /// Adds a stop. One with the next number is folded at once, and those that wait for it after it; another waits.
     pub(crate) fn add_stop(&mut self, number: u32, note: Note<A>) -> Result<(), FoldError>
-        requires { number ≤ LAST_NUMBER }
         ensures refused { (stops : Stops) → KeepsStops self.old stops → (error : FoldError)
             → stop_fault self.old.ending (is_some (stops number)) number ≡ Some error → result ≡ Err error }
         ensures accepted { (stops : Stops) → KeepsStops self.old stops
@@ -89,7 +87,7 @@ impl<A: Allocator + Copy> KeptRow<A> {
 
     /// Folds the next stop, and those that wait for it, once there is room for all of them.
     fn fold_on(&mut self, note: Note<A>) -> Result<(), NoMemory>
-        requires next { self.old.done < LAST_NUMBER }
+        requires next { self.old.done + 1 < 2 ^ 32 }
         requires within { (ending : Ending) → self.old.ending ≡ Some ending → self.old.done < ending.number }
         ensures ok { OnOk result (AddsStop self.old self.new (self.old.done + 1) (note_of note)) }
         ensures err { OnErr result (self.new ≡ self.old) }
@@ -97,18 +95,17 @@ impl<A: Allocator + Copy> KeptRow<A> {
         let number = self.done + 1;
         let last = self.last.max(number);
         let room = TextRoom::none().with(&note).ok_or(NoMemory)?;
-        let chain = chain_from(&self.early, number + 1, last, room).ok_or(NoMemory)?;
+        let chain = chain_from(&self.early, number, last, room).ok_or(NoMemory)?;
         self.fold.reserve(chain.room)?;
         self.fold.take(note);
-        fold_chain(&mut self.fold, &mut self.early, number + 1, chain.next);
+        fold_chain(&mut self.fold, &mut self.early, number, chain.last);
         self.last = last;
-        self.done = chain.next - 1;
+        self.done = chain.last;
         Ok(())
     }
 
     /// Keeps a stop until its turn.
     fn wait(&mut self, number: u32, note: Note<A>) -> Result<(), NoMemory>
-        requires number { number ≤ LAST_NUMBER }
         requires later { self.old.done + 1 < number }
         requires within { (ending : Ending) → self.old.ending ≡ Some ending → number ≤ ending.number }
         ensures ok { OnOk result (AddsStop self.old self.new number (note_of note)) }
@@ -159,7 +156,6 @@ impl<A: Allocator> KeptRow<A> {
 
     /// Adds the death. It takes no memory.
     pub(crate) fn add_death(&mut self, number: u32, death: Death) -> Result<(), FoldError>
-        requires { number ≤ LAST_NUMBER }
         ensures refused { (error : FoldError) → death_fault self.old.ending self.old.last number ≡ Some error
             → result ≡ Err error }
         ensures accepted { death_fault self.old.ending self.old.last number ≡ None → IsOk result }
@@ -193,24 +189,25 @@ impl<A: Allocator> KeptRow<A> {
 
     /// The least number of a stop that has not come and must come, or one more than the last where the death alone is
     /// missing.
-    pub(crate) fn missing(&self) -> Option<u32>
+    pub(crate) fn missing(&self) -> Option<u64>
         ensures { (stops : Stops) → KeepsStops self.now stops
             → result ≡ missing_in stops self.now.ending self.now.last }
     {
-        if self.done < self.due() {
-            Some(self.done + 1)
+        let done = u64::from(self.done);
+        if done < self.due() {
+            Some(done + 1)
         } else {
             None
         }
     }
 
     /// The last number that must have a stop: that of the death, or else one more than the last has.
-    fn due(&self) -> u32
+    fn due(&self) -> u64
         ensures { result ≡ due self.now.ending self.now.last }
     {
         match self.ending {
-            Some(ending) => ending.number,
-            None => self.last + 1,
+            Some(ending) => u64::from(ending.number),
+            None => u64::from(self.last) + 1,
         }
     }
 

@@ -1,9 +1,8 @@
 //! The piece of a stop.
 
-ghost use Rattle.std.specs.Prelude.{◌≡◌, ◌≤◌, IfOk};
+ghost use Rattle.std.specs.Prelude.{◌≡◌, IfOk};
 ghost use Rattle.record_printer.specs.Piece.{Stopped};
 ghost use Rattle.record_printer.specs.StopNote.{stop_note};
-ghost use Rattle.stop_history.specs.declared.limits.TheConstants.{LAST_NUMBER};
 
 use crate::call::show::Show;
 use crate::piece::Piece;
@@ -20,7 +19,6 @@ pub fn piece_of<A: Allocator + Copy, B: Allocator>(
     stop: &StopRecord<B>,
     show: &Show,
 ) -> Result<Piece<A>, NoMemory>
-    requires { stop.now.number ≤ LAST_NUMBER }
     ensures { IfOk result (λ piece. piece ≡ Stopped stop.now.tid stop.now.number (stop_note show.now stop.now)) }
 {
     let note = stop_note(alloc, stop, show)?;

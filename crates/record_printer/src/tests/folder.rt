@@ -1,7 +1,6 @@
 //! Folders over rows that were worked out by hand, in all orders of arrival.
 
-ghost use Rattle.std.specs.Prelude.{◌<◌, ◌≤◌};
-ghost use Rattle.stop_history.specs.declared.limits.TheConstants.{LAST_NUMBER};
+ghost use Rattle.std.specs.Prelude.{◌+◌, ◌<◌, ◌^◌};
 
 use crate::call::parts::{CallEnd, CallStart};
 use crate::piece::note::Note;
@@ -23,9 +22,7 @@ pub const fn root(tid: u32) -> Row {
 }
 
 /// The piece of a stop.
-fn stop<A: Allocator>(tid: u32, number: u32, note: Note<A>) -> Piece<A>
-    requires { number ≤ LAST_NUMBER }
-{
+fn stop<A: Allocator>(tid: u32, number: u32, note: Note<A>) -> Piece<A> {
     Piece::stopped(tid, number, note)
 }
 
@@ -338,7 +335,7 @@ fn add_read<A: Allocator + Copy>(
     number: u32,
     call: CallStart<A>,
 ) -> Result<bool, AllocError>
-    requires { number < LAST_NUMBER }
+    requires { number + 1 < 2 ^ 32 }
 {
     let done = read_end(alloc)?;
     let starts = folder.add(stop(100, number, Note::Enter(call))).is_ok();
@@ -364,6 +361,42 @@ fn bytes_come_out_of_their_own_call(rt: HostRuntime) -> Result<(), Fail> {
     let lines =
         "100 read(0, \"hi\", 2) = 2\n100 read(0, 0x10000, 2) = 2\n100 +++ exited with 0 +++\n";
     same(&rt, &text.as_bytes(), &lines.as_bytes());
+    Ok(())
+}
+
+/// A stop waits for all those before it, and a death lacks all its stops, also where the number is the greatest that
+/// there is.
+#[test]
+fn a_piece_may_have_any_number(rt: HostRuntime) -> Result<(), Fail> {
+    let alloc = rt.alloc();
+    let roster = Roster::new(alloc, &[root(100)])?;
+    for first in [u32::MAX, 16_777_216] {
+        let mut folder = Folder::new(alloc, &roster)?;
+        let line = signal(alloc, "100 --- SIGUSR1 ---\n")?;
+        same(&rt, &folder.add(stop(100, first, line)), &Ok(()));
+        same(&rt, &folder.add(stop(100, 1, Note::Quiet)), &Ok(()));
+        let below = first.saturating_sub(1);
+        same(
+            &rt,
+            &folder.add(death_piece(100, below, Death::Exited(0))),
+            &Err(FoldError::Stranger),
+        );
+        same(
+            &rt,
+            &folder.add(stop(100, first, Note::Quiet)),
+            &Err(FoldError::Twice),
+        );
+        let lost = FoldError::Lost { row: 0, number: 2 };
+        same(&rt, &folder.finish().err(), &Some(lost));
+    }
+    let mut folder = Folder::new(alloc, &roster)?;
+    same(
+        &rt,
+        &folder.add(death_piece(100, u32::MAX, Death::Exited(0))),
+        &Ok(()),
+    );
+    let lost = FoldError::Lost { row: 0, number: 1 };
+    same(&rt, &folder.finish().err(), &Some(lost));
     Ok(())
 }
 

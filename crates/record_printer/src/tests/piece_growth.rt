@@ -4,7 +4,6 @@ use crate::tests::compare::same;
 use crate::{Show, piece_of};
 use refusing_allocator::RefusingAllocator;
 use std::test::Fail;
-use stop_history::LAST_NUMBER;
 use trace_options::CallSet;
 use trace_pages::MapError;
 use trace_record::{Stop, StopRecord};
@@ -37,7 +36,6 @@ fn a_piece_that_is_refused_a_growth_is_not_made(rt: HostRuntime) -> Result<(), F
         let mut refused = 0u32;
         for granted in 0..64 {
             let heap = RefusingAllocator::new(rt.alloc(), granted);
-            assert!(rt; record.number <= LAST_NUMBER);
             let made = piece_of(&heap, &record, &show).is_ok();
             same(
                 &rt,
@@ -47,7 +45,6 @@ fn a_piece_that_is_refused_a_growth_is_not_made(rt: HostRuntime) -> Result<(), F
             if made {
                 break;
             }
-            assert!(rt; record.number <= LAST_NUMBER);
             let again = piece_of(&heap, &record, &show);
             // It is granted the next time.
             same(&rt, &(stop, granted, again.is_ok()), &(stop, granted, true));

@@ -5,7 +5,7 @@ use crate::tests::compare::same;
 use crate::{FoldError, Folder, Show, Text, death_piece, piece_of};
 use std::alloc::Global;
 use std::test::Fail;
-use stop_history::{LAST_NUMBER, Roster, Row};
+use stop_history::{Roster, Row};
 use trace_options::CallSet;
 use trace_pages::Memory;
 use trace_record::{Death, Stop};
@@ -40,7 +40,7 @@ fn add(
     for Made(tid, number, stop, call) in stops {
         let mut record = stopped(*stop, call, memory.copy()?);
         record.tid = *tid;
-        record.number = (*number).min(LAST_NUMBER);
+        record.number = *number;
         folder.add(piece_of(alloc, &record, show)?)?;
     }
     Ok(())
@@ -60,7 +60,7 @@ fn text_of(
         add(&mut folder, alloc, show, &memory, stops)?;
     }
     for (tid, number, death) in deaths {
-        folder.add(death_piece(*tid, (*number).min(LAST_NUMBER), *death))?;
+        folder.add(death_piece(*tid, *number, *death))?;
     }
     folder.finish()
 }

@@ -8,7 +8,6 @@ use crate::tests::compare::same;
 use crate::{Show, piece_of};
 use std::alloc::Global;
 use std::test::Fail;
-use stop_history::LAST_NUMBER;
 use trace_options::{CallSet, NoMemory};
 use trace_pages::Memory;
 use trace_record::{Death, Stop};
@@ -97,7 +96,6 @@ fn a_stop_gives_a_piece(rt: HostRuntime) -> Result<(), Fail> {
     };
     let call = Call(60, [3, 0, 0], 0, "");
     let record = stopped(Stop::Enter, &call, Memory::new(rt.alloc()));
-    assert!(rt; record.number <= LAST_NUMBER);
     let _piece = piece_of(rt.alloc(), &record, &show)?;
     Ok(())
 }

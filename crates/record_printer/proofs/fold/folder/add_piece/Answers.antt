@@ -13,14 +13,14 @@ use Rattle.record_printer.proofs.fold.folder.add_piece.Goals as goal
 pub returns-in_default-clause-refused : goal.returns-in_default-clause-refused
 returns-in_default-clause-refused g c came stands why fault =
     let parts = c.into_parts-tid.result in
-    let same = rw c.into_parts-tid.ensures.piece at fault in
+    let same = rw c.into_parts-tid.ensures at fault in
     stranger_is (refusal c.args.rows.now came _) why
     (nowhere c.args.rows.now came parts.0 parts.1 parts.2 (sym c.in_default.ensures.place)) same
 
 pub returns-in_default-clause-accepted : goal.returns-in_default-clause-accepted
 returns-in_default-clause-accepted g c came stands fault =
     let parts = c.into_parts-tid.result in
-    let same = rw c.into_parts-tid.ensures.piece at fault in
+    let same = rw c.into_parts-tid.ensures at fault in
     stranger_none (refusal c.args.rows.now came _)
     (nowhere c.args.rows.now came parts.0 parts.1 parts.2 (sym c.in_default.ensures.place)) same
 
@@ -29,7 +29,7 @@ returns-in-Stop-clause-refused g c came stands why fault =
     let tid = c.into_parts-tid.result.0 in
     let number = c.into_parts-tid.result.1 in
     let found = sym c.in-Some.ensures.place in
-    let same = rw (c.into_parts-tid.ensures.piece, c.in-Stop.is) at fault in
+    let same = rw (c.into_parts-tid.ensures, c.in-Stop.is) at fault in
     let keeps = keeps_at c.args.rows.now c.args.kept.now came tid c.in-Some.row stands found in
     c.add_stop.ensures.refused (stop_of tid came) keeps.stops why
     (sym (stop_fault_same c.args.rows.now c.args.kept.now came tid c.in-Some.row number (note_of c.in-Stop.note)
@@ -40,7 +40,7 @@ returns-in-Stop-clause-accepted g c came stands fault =
     let tid = c.into_parts-tid.result.0 in
     let number = c.into_parts-tid.result.1 in
     let found = sym c.in-Some.ensures.place in
-    let same = rw (c.into_parts-tid.ensures.piece, c.in-Stop.is) at fault in
+    let same = rw (c.into_parts-tid.ensures, c.in-Stop.is) at fault in
     let keeps = keeps_at c.args.rows.now c.args.kept.now came tid c.in-Some.row stands found in
     c.add_stop.ensures.accepted (stop_of tid came) keeps.stops
     (sym (stop_fault_same c.args.rows.now c.args.kept.now came tid c.in-Some.row number (note_of c.in-Stop.note)
@@ -54,7 +54,7 @@ returns-in-Stop-clause-ok g c came stands =
     let found = sym c.in-Some.ensures.place in
     let keeps = keeps_at c.args.rows.now c.args.kept.now came tid c.in-Some.row stands found in
     let fault = stop_fault_same c.args.rows.now c.args.kept.now came tid c.in-Some.row number note stands found in
-    let piece : c.args.piece ≡ Stopped tid number note = rw c.in-Stop.is at c.into_parts-tid.ensures.piece in
+    let piece : c.args.piece ≡ Stopped tid number note = rw c.in-Stop.is at c.into_parts-tid.ensures in
     rw piece (on_ok_both c.add_stop.result c.add_stop.ensures.ok c.add_stop.ensures.positive (λ ok added positive.
     stop_added c.args.rows.now c.args.kept.now c.add_stop.new.kept came tid c.in-Some.row number note
     c.requires.roster stands found
@@ -67,7 +67,7 @@ returns-in-Death-clause-refused g c came stands why fault =
     let number = c.into_parts-tid.result.1 in
     let found = sym c.in-Some.ensures.place in
     let inside = rw (← c.requires.paired) at c.in-Some.ensures.within in
-    let same = rw (c.into_parts-tid.ensures.piece, c.in-Death.is) at fault in
+    let same = rw (c.into_parts-tid.ensures, c.in-Death.is) at fault in
     let here = get_or_default c.args.kept.now c.in-Some.row c.index-kept-row.result empty_row inside in
     c.add_death.ensures.refused why (rw here
     (sym (death_fault_same c.args.rows.now c.args.kept.now came tid c.in-Some.row number c.in-Death.death stands
@@ -79,7 +79,7 @@ returns-in-Death-clause-accepted g c came stands fault =
     let number = c.into_parts-tid.result.1 in
     let found = sym c.in-Some.ensures.place in
     let inside = rw (← c.requires.paired) at c.in-Some.ensures.within in
-    let same = rw (c.into_parts-tid.ensures.piece, c.in-Death.is) at fault in
+    let same = rw (c.into_parts-tid.ensures, c.in-Death.is) at fault in
     let here = get_or_default c.args.kept.now c.in-Some.row c.index-kept-row.result empty_row inside in
     ok_unless c.add_death.result _ (c.add_death.ensures.accepted (rw here
     (sym (death_fault_same c.args.rows.now c.args.kept.now came tid c.in-Some.row number c.in-Death.death stands
@@ -94,7 +94,7 @@ returns-in-Death-clause-ok g c came stands =
     let inside = rw (← c.requires.paired) at c.in-Some.ensures.within in
     let here = get_or_default c.args.kept.now c.in-Some.row c.index-kept-row.result empty_row inside in
     let fault = death_fault_same c.args.rows.now c.args.kept.now came tid c.in-Some.row number death stands found in
-    let piece : c.args.piece ≡ Died tid number death = rw c.in-Death.is at c.into_parts-tid.ensures.piece in
+    let piece : c.args.piece ≡ Died tid number death = rw c.in-Death.is at c.into_parts-tid.ensures in
     rw piece (on_ok c.add_death.result (rw here at c.add_death.ensures.ok) (λ ok after.
     death_added c.args.rows.now c.args.kept.now came tid c.in-Some.row number death c.add_death.new.self
     c.requires.roster inside stands found

@@ -1,4 +1,4 @@
-use Rattle.std.proofs.Common.{refl, arith, ◌-◌, ◌≡◌, ◌+◌}
+use Rattle.std.proofs.Common.{refl, arith, ◌≡◌, ◌+◌}
 use Rattle.record_printer.proofs.KeptRows.{folds_kept}
 use Rattle.record_printer.proofs.Stops.{less_room}
 use Rattle.record_printer.proofs.fold.kept_row.KeptRow.fold_on.Goals as goal
@@ -15,10 +15,10 @@ fold_chain-requires-clause-room g c =
 pub returns-clause-ok : goal.returns-clause-ok
 returns-clause-ok g c =
     let old = c.self.inside in
-    let next = c.in_ok-chain.chain.next in
+    let last = c.in_ok-chain.chain.last in
     let new = record old {
       last = c.max-last.result;
-      done = next - 1;
+      done = last;
       fold = c.fold_chain.new.fold;
       early = c.fold_chain.new.early;
     } in
@@ -26,4 +26,5 @@ returns-clause-ok g c =
     let chain = rw (c.in_ok-chain.ensures.ok_part, e) at c.chain_from.ensures.chain in
     let folded = rw (c.take.ensures.fold, c.reserve.ensures.same, e) at c.fold_chain.ensures.fold in
     rw (← c.self.view_is)
-    (folds_kept old new next c.args.note refl refl c.max-last.ensures chain refl folded c.fold_chain.ensures.left)
+    (folds_kept old new (last + 1) c.args.note refl refl c.max-last.ensures chain (omega arith) folded
+    c.fold_chain.ensures.left)

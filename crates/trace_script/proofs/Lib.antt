@@ -2,6 +2,7 @@ pub mod Births
 pub mod ByteWords
 pub mod CaseBack
 pub mod Cases
+pub mod Deaths
 pub mod Fills
 pub mod FourteenWords
 pub mod Images

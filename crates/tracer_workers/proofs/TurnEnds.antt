@@ -1,5 +1,5 @@
 -- A tracee's turn ends: by a stop that is published, by a death, or held back.
-use Rattle.std.proofs.Common.{refl, ◌≡◌, ◌≢◌, ◌<◌, ◌≤◌, ◌+◌, ◌∷◌, [], ℕ, zero, suc, List, Option, Some, None, IsErr, inl, inr}
+use Rattle.std.proofs.Common.{refl, ◌≡◌, ◌≢◌, ◌<◌, ◌+◌, ◌∷◌, [], ℕ, zero, suc, List, Option, Some, None, IsErr, inl, inr}
 use Rattle.std.proofs.Common.{Ok, length, ◌∙◌, sym, ap, subst, arith, slice_get, slice_index_or, slice_set}
 use Rattle.std.proofs.lemmas.Bool.{cases_eq}
 use Rattle.trace_record.specs.Content.{Content}
@@ -13,7 +13,6 @@ use Rattle.trace_script.specs.StopTrace.{Position, StopIs}
 use Rattle.record_printer.specs.Represents.{Represents}
 use Rattle.tracer_workers.specs.Scheduled.{CameTo}
 use Rattle.stop_history.specs.declared.actor.Actor.TheVariants.{Tracee}
-use Rattle.stop_history.specs.declared.limits.TheConstants.{LAST_NUMBER}
 use Rattle.stop_history.specs.declared.state.State.TheVariants as state
 use Rattle.stop_history.specs.Event as event
 use Rattle.stop_history.specs.Sequential.{exit_answer, exit_by, publish_answer, unless_held}
@@ -63,7 +62,6 @@ set_there (y ∷ xs) (suc i) x within = set_there xs i x (omega (arith, within))
 -- what a caller must know before the stop is published
 pub record CanPublish (content : CaseContent) (run : RunState) (h : List Entry) (row : ℕ) (c : Content) : Type 0 where
   pub within : row < length run.rows
-  pub number : c.number ≤ LAST_NUMBER
   pub stop : IsStop c.stop
   pub world : CameTo run.world (history_of h)
   pub answer : publish_answer run.world.rows (history_of h) row c.stop ≡ Ok (last_number (history_of h) row + 1)
@@ -85,7 +83,6 @@ module _ (content : CaseContent) (before : RunState) (h : List Entry) (row : ℕ
       let next = stop_due content before h row c made within due in
       record {
         within = omega (arith, within, made.long, long_set before.rows row stopped);
-        number = omega (arith, next.few);
         stop = next.stop;
         world = made.world;
         answer = ap (λ rows. publish_answer rows (history_of h) row c.stop) made.world_rows
@@ -173,7 +170,6 @@ pub record CanEnd (content : CaseContent) (run : RunState) (h : List Entry) (row
   pub world : CameTo run.world (history_of h)
   pub folder : Represents run.folder (pieces_of (show_of run.config) content.rows h)
   -- of the row that is kept at the place
-  pub number : (k : KeptRow) → slice_get run.rows row ≡ Some k → k.number ≤ LAST_NUMBER
   pub taken : (k : KeptRow) → slice_get run.rows row ≡ Some k
       → refusal run.folder.rows (pieces_of (show_of run.config) content.rows h) (Died k.tid k.number death) ≡ None
 
@@ -200,7 +196,6 @@ module _ (content : CaseContent) (before : RunState) (h : List Entry) (row : ℕ
         range = range;
         world = made.world;
         folder = made.folder;
-        number = λ it is. let numbers = kept_numbers it is in let few = last_most content before h row stands.0 within in omega (arith, numbers.1, few);
         taken = λ it is.
             let numbers = kept_numbers it is in
             ap (λ rows. refusal rows (pieces_of (show_of before.config) content.rows h) (Died it.tid it.number death)) made.folder_rows

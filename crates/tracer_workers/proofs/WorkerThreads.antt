@@ -11,7 +11,6 @@ use Rattle.record_printer.specs.Piece.{Died, Piece}
 use Rattle.record_printer.specs.declared.call.show.Show.{Show}
 use Rattle.stop_history.specs.declared.actor.Actor.{Actor}
 use Rattle.stop_history.specs.declared.actor.Actor.TheVariants.{Tracer}
-use Rattle.stop_history.specs.declared.limits.TheConstants.{LAST_NUMBER}
 use Rattle.stop_history.specs.declared.phase.Phase.TheVariants as phase
 use Rattle.stop_history.specs.declared.roster.Row.{Row}
 use Rattle.stop_history.specs.declared.state.State.TheVariants as state
@@ -27,14 +26,14 @@ use Rattle.stop_table.specs.Entry.{resume_of}
 use Rattle.stop_table.specs.Handle.{EndsWith, Grows, IsSame, Looked}
 use Rattle.stop_table.specs.Tracer.{IsTracerHandle, held_rows, is_claimed_by, is_held}
 use Rattle.stop_table.specs.View.{View, actors_of, is_among}
-use Rattle.stop_table.proofs.Entries.{cell_from, content_number, own_cell, word_ranged}
+use Rattle.stop_table.proofs.Entries.{cell_from, own_cell}
 use Rattle.stop_table.proofs.Own.{same_actors}
 use Rattle.stop_table.proofs.Walking.{itself, same_trans}
 use Rattle.trace_calls.specs.declared.row_status.RowStatus.{RowStatus}
 use Rattle.trace_calls.specs.Answer.{HasFound}
 use Rattle.trace_calls.specs.ByRow.{HasClaimedRow, IsRowRestart}
 use Rattle.trace_calls.specs.Handle.{CallsHandle, HasRecords, claimed_record, tracer_of}
-use Rattle.trace_calls.specs.Request.{anyone}
+use Rattle.stop_history.specs.WaitRequest.{anyone}
 use Rattle.trace_calls.specs.Waiting.{NoChild}
 use Rattle.trace_options.specs.declared.errno.Errno.{Errno}
 use Rattle.trace_options.specs.declared.errno.Errno.TheVariants as errno
@@ -309,7 +308,7 @@ stays_driven config content v w rows same r driven =
 -- ---- what a wait has claimed
 
 module _ (v : View) (b : CallsHandle) (found : RowStatus) (mine : is_among v.number v.tracers ≡ true)
-    (placed : IsRoster v.roster) (none : held_rows v ≡ []) (h : HasWaited v b.view found) where
+    (none : held_rows v ≡ []) (h : HasWaited v b.view found) where
   abbrev w : View
   w = b.view
 
@@ -392,14 +391,6 @@ module _ (v : View) (b : CallsHandle) (found : RowStatus) (mine : is_among v.num
         ap (λ (c : Cell). is_claimed_by w.number c.phase) own ∙ ap (is_claimed_by w.number) claimed
             ∙ eq-eqb v.number w.number (sym made.same.number),
       )
-
-  pub few : (d : Death) → death_in s ≡ Some d → found.number ≤ LAST_NUMBER
-  few d dies =
-      let last = death_last d dies in
-      let word = word_ranged v.roster before placed legal false found.row h.within in
-      let number : number_in es ≡ found.number = ap number_in last.2 ∙ last.3 in
-      let most = word.last in
-      omega (arith, number, most)
 
   -- the pieces with that of the stop, and with that of the death
   pub stop_kept : (show : Show) → death_in s ≡ None → claimed_record b found.row ≡ content_after w.roster w.seen found.row
@@ -521,15 +512,6 @@ tracer_on a b is same legal =
       mine = (λ i. is_among (same.number i) (same.tracers i)) ∙ is.mine;
       legal = legal;
     }
-
-pub claimed_few : (a : CallsHandle) → IsTracerHandle (tracer_of a) → HasRecords a → (row : ℕ) → HasClaimedRow a row
-    → (claimed_record a row).number ≤ LAST_NUMBER
-claimed_few a is records row has =
-    let word = word_ranged a.view.roster a.view.seen is.placed is.legal false row has.0 in
-    let number = (content_number a.view.roster a.view.seen is.legal row).0 in
-    let few = word.last in
-    let same = (records.written row has.0 has.1).number in
-    omega (arith, number, few, same)
 
 -- ---- restarts
 

@@ -1,8 +1,7 @@
 //! A worker's thread.
 
-ghost use Rattle.std.specs.Prelude.{◌≡◌, ◌≢◌, ◌≤◌, ◌∷◌, ◌++◌, [], List, MatchOption, None, Ok, Some, false};
+ghost use Rattle.std.specs.Prelude.{◌≡◌, ◌≢◌, ◌∷◌, ◌++◌, [], List, MatchOption, None, Ok, Some, false};
 ghost use Rattle.record_printer.specs.Piece as pieces;
-ghost use Rattle.stop_history.specs.declared.limits.TheConstants.{LAST_NUMBER};
 ghost use Rattle.stop_table.specs.Entry.{content_after};
 ghost use Rattle.stop_table.specs.Handle.{IsSame};
 ghost use Rattle.stop_table.specs.Tracer.{IsTracerHandle, held_rows};
@@ -10,7 +9,7 @@ ghost use Rattle.trace_calls.specs.declared.row_status.RowStatus.{RowStatus};
 ghost use Rattle.trace_calls.specs.Answer.{HasFound};
 ghost use Rattle.trace_calls.specs.ByRow.{HasClaimedRow};
 ghost use Rattle.trace_calls.specs.Handle.{KeepsTable, claimed_record, tracer_of};
-ghost use Rattle.trace_calls.specs.Request.{anyone};
+ghost use Rattle.stop_history.specs.WaitRequest.{anyone};
 ghost use Rattle.trace_calls.specs.Waiting.{NoChild};
 ghost use Rattle.trace_status.specs.WaitStatus.{pid_of};
 ghost use Rattle.tracer_workers.specs.Config.{show_of};
@@ -155,7 +154,6 @@ impl<A: Allocator> Worked<A> {
 
     /// Keeps the piece of a death that was claimed, with the number of the last stop.
     fn keep_death(&mut self, tid: u32, number: u32, death: Death)
-        requires { number ≤ LAST_NUMBER }
         ensures { (before after : List pieces.Piece) →
             AreKept before after self.old.pieces.items self.old.short →
             AreKept before (after ++ pieces.Died tid number death ∷ []) self.new.pieces.items self.new.short }
@@ -175,7 +173,6 @@ impl<A: Allocator + Copy> Worked<A> {
             AreKept before (after ++ stop_piece (show_of config.now) (claimed_record calls.now row) ∷ [])
             self.new.pieces.items self.new.short }
     {
-        invariants::of_calls(calls);
         let Some(stop) = calls.claimed_row(row) else {
             unreachable!()
         };

@@ -4,12 +4,13 @@ ghost use Rattle.std.specs.Prelude.{◌≡◌, ◌<◌, ◌≤◌, [], ℕ, drop
 ghost use Rattle.stop_history.specs.Roster.{row_at};
 ghost use Rattle.trace_options.specs.Options.{AreValidOptions, option_bits};
 ghost use Rattle.trace_record.specs.Content.{content_by};
+ghost use Rattle.trace_record.specs.declared.death.Death.{Death};
 ghost use Rattle.trace_record.specs.declared.stop.Stop.TheVariants as stop;
 ghost use Rattle.trace_script.specs.Arrivals.{reached};
 ghost use Rattle.trace_script.specs.CaseFile.{script_at};
 ghost use Rattle.trace_script.specs.Kept.{script_of};
 ghost use Rattle.trace_script.specs.Left.{left_in};
-ghost use Rattle.trace_script.specs.Machine.{IsAnswer};
+ghost use Rattle.trace_script.specs.Machine.{IsAnswer, IsAtDeath, StaysAtStop};
 ghost use Rattle.trace_script.specs.Registers.{first_regs};
 ghost use Rattle.trace_script.specs.StopTrace.{advance, context_of, next_element, next_position, opening_position};
 ghost use Rattle.trace_script.specs.declared.step.effect.Reached.TheVariants as reached_at;
@@ -96,10 +97,10 @@ impl<A: Allocator> Machine<A> {
     /// Runs the tracee on, to its next stop or its death. The first call ignores the restart and what the record
     /// holds: it loads the program. Where TRACEEXIT is set, a stop (`Stop::Ending`) comes before the death, with the
     /// registers and the memory as they were (ptrace(2), `PTRACE_EVENT_EXIT`); after it the death comes whatever the
-    /// restart is. It takes no memory. Where it puts a program in, it gives back the pages of the one before, and at the
-    /// exit the memory of the steps and of the bytes of fills.
+    /// restart is, and the record is left as it is. It takes no memory.
     pub fn next(&mut self, how: Resume, held: &mut StopRecord<A>) -> Next
         ensures element { IsAnswer (next_element self.old how (context_of held.old)) result held.old held.new }
+        ensures ended { IsAtDeath self.old → held.new ≡ held.old }
         ensures position { self.new ≡ next_position self.old how (context_of held.old) }
     {
         match self.progress {
@@ -151,7 +152,7 @@ impl<A: Allocator> Machine<A> {
     }
 }
 
-/// Lets steps, bytes or memories go, of which none is left after the exit, and what they take with them.
+/// Drops steps, bytes or memories, which nothing needs after the exit, and frees what they take.
 fn let_go<T: Drop, A: Allocator>(items: &mut Vec<T, A>)
     ensures { items.new.items ≡ [] }
 {
@@ -199,6 +200,7 @@ fn go_on<A: Allocator>(
     ensures len { length steps.new ≡ length steps.old }
     ensures fault { (address : ℕ) → result ≡ reached_at.Faulted address →
         (steps.new ≡ steps.old) × (held.new ≡ held.old) }
+    ensures exits { (death : Death) → result ≡ reached_at.AtExit death → StaysAtStop held.old held.new }
 {
     if let Some(addr) = fault_ahead(walk, steps, index, place, &held.memory) {
         return Reached::Faulted(addr);

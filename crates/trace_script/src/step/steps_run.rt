@@ -1,6 +1,6 @@
 //! The acts of steps, done one after the other, up to the next stop, the exit or a fault.
 
-ghost use Rattle.std.specs.Prelude.{◌≡◌, ◌≢◌, ◌<◌, ◌+◌, ℕ, List, None, IfSome, drop, if◌then◌else◌, length};
+ghost use Rattle.std.specs.Prelude.{◌≡◌, ◌≢◌, ◌<◌, ◌+◌, ℕ, List, None, Some, IfSome, drop, if◌then◌else◌, length};
 ghost use Rattle.std.specs.Prelude.{◌==◌, false, option_map, slice_get};
 ghost use Rattle.trace_pages.specs.FlatMemory.{run_end, stored};
 ghost use Rattle.trace_pages.specs.Memory.{store_answer};
@@ -8,6 +8,7 @@ ghost use Rattle.trace_script.specs.Arrivals.{effect_by, next_outcome, reached};
 ghost use Rattle.trace_script.specs.Kept.{fill_of, step_of};
 ghost use Rattle.trace_script.specs.KeptActs.{act_in, program_of, when_in};
 ghost use Rattle.trace_script.specs.Left.{acts_at, left_in, most_acts};
+ghost use Rattle.trace_script.specs.Machine.{StaysAtStop};
 ghost use Rattle.trace_script.specs.Registers.{with_start};
 ghost use Rattle.trace_script.specs.StepStops.{Becomes, acts_of, halts};
 ghost use Rattle.trace_script.specs.StopTrace.{GoesOn, Stops, advance, context, context_of};
@@ -16,6 +17,7 @@ ghost use Rattle.trace_record.specs.declared.death.Death.{Death};
 ghost use Rattle.trace_record.specs.declared.death.Death.TheVariants.{Signaled};
 ghost use Rattle.trace_script.specs.declared.setting.Setting.{Setting};
 ghost use Rattle.trace_script.specs.declared.step.effect.Effect.TheVariants as effect;
+ghost use Rattle.trace_script.specs.declared.step.effect.Reached.TheVariants as reached_at;
 
 use crate::script::{Fill, Image, Step};
 use crate::step::act::{Act, When};
@@ -42,6 +44,7 @@ pub(crate) fn run_steps<A: Allocator>(
         ≡ reached walk.now.setting.now walk.now.how result walk.now.filled.now steps.new held.new.stop
         (context_of held.new) }
     ensures len { length steps.new ≡ length steps.old }
+    ensures exits { (death : Death) → result ≡ reached_at.AtExit death → StaysAtStop held.old held.new }
 {
     let mut index = from;
     let mut at = place;
@@ -78,6 +81,7 @@ fn run_here<A: Allocator>(
         held.new.stop (context_of held.new) }
     ensures few { result ≢ None → place < most_acts }
     ensures len { length steps.new ≡ length steps.old }
+    ensures still { result ≢ Some effect.Stops → StaysAtStop held.old held.new }
 {
     let step = &mut steps[index];
     match act_at(step, walk.setting, place) {
@@ -99,6 +103,7 @@ fn run_act<A: Allocator>(
         ≡ effect_by walk.now.setting.now result held.new.stop (context_of held.new)) }
     ensures stays { result ≡ effect.Stops → context_of held.new ≡ context_of held.old }
     ensures exits { (death : Death) → result ≡ effect.Exits death → context_of held.new ≡ context_of held.old }
+    ensures still { result ≢ effect.Stops → StaysAtStop held.old held.new }
     ensures rest { (place : ℕ) → act_in walk.now.filled.now (step_of walk.now.filled.now step.old) act
         ≡ slice_get (acts_of walk.now.setting.now (step_of walk.now.filled.now step.old)) place →
         acts_at walk.now.setting.now (step_of walk.now.filled.now step.new) (place + 1)
@@ -137,6 +142,7 @@ fn halt<A: Allocator>(
         else GoesOn (context_of held.old))
         ≡ effect_by walk.now.setting.now result held.new.stop (context_of held.new) }
     ensures stays { context_of held.new ≡ context_of held.old }
+    ensures still { result ≢ effect.Stops → StaysAtStop held.old held.new }
 {
     if !halts(walk, when, step) {
         return Effect::GoesOn;
@@ -154,6 +160,7 @@ fn start<A: Allocator>(
     ensures context { (filled : List ℕ) → IfSome (program_of (step_of filled step.old))
         (λ image. context_of held.new
         ≡ context (with_start image.rip image.rsp held.old.regs) image.memory) }
+    ensures still { StaysAtStop held.old held.new }
     ensures rest { (filled : List ℕ) (s : Setting) (place : ℕ) →
         option_map Becomes (program_of (step_of filled step.old))
         ≡ slice_get (acts_of s (step_of filled step.old)) place →
@@ -177,6 +184,7 @@ fn put_in<A: Allocator>(
 )
     ensures memory { held.new.memory ≡ image.old.memory }
     ensures regs { held.new.regs ≡ with_start image.old.rip image.old.rsp held.old.regs }
+    ensures still { StaysAtStop held.old held.new }
 {
     put_memory_in(image, held, empties);
     held.regs = with_start(image.rip, image.rsp, &held.regs);
@@ -191,6 +199,7 @@ pub(crate) fn put_memory_in<A: Allocator>(
 )
     ensures memory { held.new.memory ≡ image.old.memory }
     ensures regs { held.new.regs ≡ held.old.regs }
+    ensures still { StaysAtStop held.old held.new }
     ensures rip { image.new.rip ≡ image.old.rip }
     ensures rsp { image.new.rsp ≡ image.old.rsp }
 {
@@ -208,6 +217,7 @@ fn store<A: Allocator>(walk: &Walk<'_>, fill: Fill, held: &mut StopRecord<A>) ->
         ≡ effect_by walk.now.setting.now result held.new.stop (context_of held.new) }
     ensures stays { result ≢ effect.Stops }
     ensures exits { (death : Death) → result ≢ effect.Exits death }
+    ensures still { StaysAtStop held.old held.new }
 {
     match held.memory.store(fill.addr, fill.bytes(walk.filled)) {
         Ok(()) => Effect::GoesOn,

@@ -2,13 +2,12 @@
 
 ghost use Rattle.record_printer.specs.Piece as pieces;
 ghost use Rattle.stop_history.specs.Event as event;
-ghost use Rattle.std.specs.Prelude.{◌≡◌, ◌≤◌, ◌∷◌, List, None, true, false, IfOk, OnOk, ◌+◌, IsErr, Ok};
+ghost use Rattle.std.specs.Prelude.{◌≡◌, ◌∷◌, List, None, true, false, IfOk, OnOk, ◌+◌, IsErr, Ok};
 ghost use Rattle.record_printer.specs.FolderAnswers.{lost, pieces_text, refusal};
 ghost use Rattle.record_printer.specs.Represents.{Represents};
 ghost use Rattle.stop_history.specs.Event.{History};
 ghost use Rattle.stop_history.specs.Sequential.{exit_answer, publish_answer};
 ghost use Rattle.stop_history.specs.State.{last_number};
-ghost use Rattle.stop_history.specs.declared.limits.TheConstants.{LAST_NUMBER};
 ghost use Rattle.trace_record.specs.Death.{IsDeath};
 ghost use Rattle.trace_record.specs.Stop.{IsStop};
 ghost use Rattle.tracer_workers.specs.Scheduled.{CameTo};
@@ -86,7 +85,6 @@ pub(crate) fn end_row<A: Allocator + Copy>(
     row: u32,
     death: Death,
 ) -> Result<bool, NoMemory>
-    requires number { traced.now.number ≤ LAST_NUMBER }
     requires death { IsDeath death }
     requires taken { (came : List pieces.Piece) × Represents folder.old came
         × (refusal folder.old.rows came (pieces.Died traced.now.tid traced.now.number death) ≡ None) }

@@ -1,7 +1,6 @@
 //! What is kept of a row beside its stop cell.
 
-ghost use Rattle.std.specs.Prelude.{◌≡◌, ◌<◌, ◌≤◌, ℕ, Some, IfOk, length, slice_get};
-ghost use Rattle.stop_history.specs.declared.limits.TheConstants.{LAST_NUMBER};
+ghost use Rattle.std.specs.Prelude.{◌≡◌, ◌<◌, ℕ, Some, IfOk, length, slice_get};
 ghost use Rattle.trace_record.specs.Content.{Content};
 ghost use Rattle.trace_script.specs.Machine.{IsAnswer};
 ghost use Rattle.trace_script.specs.StopTrace.{Position, context_of, next_element, next_position};
@@ -81,7 +80,6 @@ impl<'a, A: Allocator + Copy> TracedRow<'a, A> {
     /// The piece of the stop in its record. It is compiled into its caller, so that the piece is moved less often.
     #[inline(always)]
     pub(crate) fn piece(&self, alloc: A, show: &Show) -> Result<Piece<A>, NoMemory>
-        requires { self.now.content.number ≤ LAST_NUMBER }
         ensures { IfOk result (λ piece. piece ≡ stop_piece show.now self.now.content) }
     {
         let piece = piece_of(alloc, &self.content, show)?;

@@ -1,10 +1,12 @@
--- No number passes the last one; and what is left after the program was loaded.
+-- No number passes the last one; what is left after the program was loaded; and that more than a death is left before
+-- an exit.
 use Rattle.std.proofs.Common.{ap, drop, subst, sym, ◌+◌, ◌∙◌}
 use Rattle.stop_history.specs.declared.limits.TheConstants.{LAST_NUMBER}
 use Rattle.trace_script.specs.Arrivals.{reached}
 use Rattle.trace_script.specs.Left.{left_in}
 use Rattle.trace_script.specs.StopNumbers.{IsWithin}
 use Rattle.trace_script.specs.StopTrace.{advance, context_of, position}
+use Rattle.trace_script.proofs.Deaths.{left_not_over}
 use Rattle.trace_script.proofs.Steps.{left_first, written_back}
 use Rattle.trace_script.proofs.StopNumbers.{exiting_within, loaded_within, stopped_within}
 use Rattle.trace_script.proofs.machine.Machine.next.Goals as goal
@@ -60,3 +62,9 @@ returns-in-New-clause-position g c =
     rw (← c.self.view_is, c.in-New.is)
     (ap (position c.self.inside.setting (c.self.inside.number + 1))
     (left_first c.self.inside.setting c.self.inside.filled.items c.self.inside.steps.items))
+
+pub returns-then-not-has_option-clause-ended : goal.returns-then-not-has_option-clause-ended
+returns-then-not-has_option-clause-ended g c =
+    rw (← c.self.view_is, c.in-Going.is) (λ at.
+    absurd (left_not_over c.self.inside.setting c.self.inside.filled.items
+    (drop c.in-Going.index c.self.inside.steps.items) c.in-Going.place at.0 at.1))

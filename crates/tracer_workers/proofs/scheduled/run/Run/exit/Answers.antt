@@ -1,11 +1,10 @@
 -- The death is the row's, and the folder takes its piece; a row that is held back stays as it was.
-use Rattle.std.proofs.Common.{◌≡◌, ◌≤◌, ◌∷◌, None, refl, sym, subst, inl, inr}
+use Rattle.std.proofs.Common.{◌≡◌, ◌∷◌, None, refl, sym, subst, inl, inr}
 use Rattle.std.proofs.lemmas.Bool.{cases_Bool}
 use Rattle.record_printer.specs.FolderAnswers.{refusal}
 use Rattle.record_printer.specs.Piece.{Died}
 use Rattle.record_printer.specs.Represents.{Folded, Represents}
 use Rattle.stop_board.specs.World.{Contents}
-use Rattle.stop_history.specs.declared.limits.TheConstants.{LAST_NUMBER}
 use Rattle.stop_table.specs.Entry.{history_of}
 use Rattle.tracer_workers.specs.Config.{show_of}
 use Rattle.tracer_workers.specs.HistoryPieces.{pieces_of}
@@ -15,14 +14,6 @@ use Rattle.tracer_workers.proofs.Fewer.{same_left}
 use Rattle.tracer_workers.proofs.Rounds.{stands_over}
 use Rattle.tracer_workers.proofs.TurnEnds.{can_end, died_there, end_moves, found_row, held_back, held_stays}
 use Rattle.tracer_workers.proofs.scheduled.run.Run.exit.Goals as goal
-
-pub end_row-requires-clause-number : goal.end_row-requires-clause-number
-end_row-requires-clause-number g c =
-    let s = subst (λ r. HasDied c.requires.0 r c.requires.1 c.args.row c.args.death) (sym c.self.view_is) c.requires.2 in
-    let there = died_there c.requires.0 _ c.requires.1 c.args.row c.args.death s in
-    let is = found_row c.self.inside.rows.items c.args.row c.index-traced.result.now _ c.index-traced.ensures there in
-    let can = can_end c.requires.0 _ c.requires.1 c.args.row c.args.death s in
-    subst (λ (k : KeptRow). k.number ≤ LAST_NUMBER) (sym is) (can.number _ there)
 
 pub end_row-requires-clause-death : goal.end_row-requires-clause-death
 end_row-requires-clause-death g c =

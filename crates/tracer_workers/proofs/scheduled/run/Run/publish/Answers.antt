@@ -1,5 +1,5 @@
 -- The stop is the row's next one, and the folder takes its piece.
-use Rattle.std.proofs.Common.{◌≡◌, ◌≤◌, ◌+◌, ◌∷◌, ◌∙◌, Ok, None, refl, sym, ap, subst, slice_set}
+use Rattle.std.proofs.Common.{◌≡◌, ◌+◌, ◌∷◌, ◌∙◌, Ok, None, refl, sym, ap, subst, slice_set}
 use Rattle.record_printer.specs.FolderAnswers.{refusal}
 use Rattle.record_printer.specs.Piece.{Piece}
 use Rattle.record_printer.specs.Represents.{Represents}
@@ -7,7 +7,6 @@ use Rattle.tracer_workers.specs.Scheduled.{CameTo}
 use Rattle.stop_history.specs.Event as event
 use Rattle.stop_history.specs.Sequential.{publish_answer}
 use Rattle.stop_history.specs.State.{last_number}
-use Rattle.stop_history.specs.declared.limits.TheConstants.{LAST_NUMBER}
 use Rattle.stop_table.specs.Entry.{history_of}
 use Rattle.trace_record.specs.Stop.{IsStop}
 use Rattle.tracer_workers.specs.Config.{show_of}
@@ -16,14 +15,6 @@ use Rattle.tracer_workers.specs.Scheduled.{KeptRow}
 use Rattle.tracer_workers.specs.Turn.{HasStopped, with_number}
 use Rattle.tracer_workers.proofs.TurnEnds.{can_publish, found_row, publish_moves, stopped_there}
 use Rattle.tracer_workers.proofs.scheduled.run.Run.publish.Goals as goal
-
-pub piece-requires : goal.piece-requires
-piece-requires g c =
-    let s = subst (λ r. HasStopped c.requires.0 r c.requires.1 c.args.row c.requires.2) (sym c.self.view_is) c.requires.3 in
-    let is = found_row c.self.inside.rows.items c.args.row c.index_mut-traced.result.now _ c.index_mut-traced.ensures.value
-    (stopped_there c.requires.0 _ c.requires.1 c.args.row c.requires.2 s) in
-    subst (λ (k : KeptRow). k.content.number ≤ LAST_NUMBER) (sym is)
-    (can_publish c.requires.0 _ c.requires.1 c.args.row c.requires.2 s).number
 
 pub publish_stop-requires-clause-stop : goal.publish_stop-requires-clause-stop
 publish_stop-requires-clause-stop g c =

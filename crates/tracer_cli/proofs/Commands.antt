@@ -10,7 +10,7 @@ use Rattle.tracer_cli.specs.declared.arguments.Request.{Request}
 use Rattle.tracer_cli.specs.declared.arguments.Request.TheVariants.{Replay, Run, Explore, Help}
 use Rattle.tracer_cli.specs.declared.failure.Failure.{Failure}
 use Rattle.tracer_cli.specs.declared.failure.Failure.TheVariants.{Usage, NoMemory}
-use Rattle.tracer_cli.specs.Arguments.{IsAskedBy, IsFailureBy, IsHelp, IsNamedBy, IsTakenBy}
+use Rattle.tracer_cli.specs.Arguments.{IsAskedBy, IsFailureBy, IsHelp, IsNamedBy}
 use Rattle.tracer_cli.specs.Arguments.{shows_text, tracer_app}
 
 pub is_known : is_simple tracer_app ≡ true
@@ -44,16 +44,6 @@ named words (Ok (Replay file)) fits is_named = (fits, is_named)
 named words (Ok (Run options file)) fits is_named = (fits, is_named)
 named words (Ok (Explore options file)) fits is_named = (fits, is_named)
 named words (Ok (Help text)) fits is_named = absurd is_named
-named words (Err (Usage text)) fits is_named = inr (fits, is_named)
+named words (Err (Usage text)) fits is_named = inr ((fits, is_named.0), is_named.1)
 named words (Err NoMemory) fits is_named = tt
 named words (Err failure) fits is_named = absurd is_named
-
-pub named_is_taken : (words : List (List ℕ)) (asked : Result Request Failure)
-    → IsNamedBy (subcommand_of tracer_app words) asked → IsTakenBy words asked
-named_is_taken words (Ok (Replay file)) is_named = tt
-named_is_taken words (Ok (Run options file)) is_named = tt
-named_is_taken words (Ok (Explore options file)) is_named = tt
-named_is_taken words (Ok (Help text)) is_named = absurd is_named
-named_is_taken words (Err (Usage text)) is_named = is_named
-named_is_taken words (Err NoMemory) is_named = tt
-named_is_taken words (Err failure) is_named = absurd is_named

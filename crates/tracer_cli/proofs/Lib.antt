@@ -2,6 +2,7 @@ pub mod AllChosen
 pub mod AllOf
 pub mod Beginnings
 pub mod CameTrue
+pub mod CommandLines
 pub mod Commands
 pub mod DoneTurns
 pub mod EqualStates

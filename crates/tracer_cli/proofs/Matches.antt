@@ -47,6 +47,6 @@ explore_is_named name rows file (Ok (Run options other)) run explore file_is is 
 explore_is_named name rows file (Ok (Help text)) run explore file_is is = absurd is
 explore_is_named name rows file (Ok (Explore options named)) run explore file_is is =
     (run, explore, is.0, ap (option_map (λ (text : Bor Text). text.now)) is.1 ∙ file_is)
-explore_is_named name rows file (Err (Usage text)) run explore file_is is = (run, explore, is)
+explore_is_named name rows file (Err (Usage text)) run explore file_is is = ((run, explore, is.0), is.1)
 explore_is_named name rows file (Err NoMemory) run explore file_is is = tt
 explore_is_named name rows file (Err failure) run explore file_is is = absurd is

@@ -6,7 +6,6 @@ use Rattle.std.proofs.Common.{length-take}
 use Rattle.std.proofs.lemmas.Bool.Decides.{nat_tests}
 use Rattle.std.proofs.lemmas.List.{take_all}
 use Rattle.std.specs.Option.{option_map}
-use Rattle.clap.specs.Words.{takes}
 use Rattle.tracer_cli.specs.declared.arguments.Request.TheVariants.{Replay, Run, Explore, Help}
 use Rattle.tracer_cli.specs.declared.arguments.ExploreOptions.{ExploreOptions}
 use Rattle.tracer_cli.specs.declared.arguments.Request.{Request}
@@ -20,20 +19,18 @@ use Rattle.text_lines.specs.Ranges.{◌>>=◌}
 use Rattle.tracer_workers.specs.Config.{plain, text_of}
 use Rattle.tracer_workers.specs.declared.config.Config.{Config}
 use Rattle.tracer_cli.specs.declared.failure.Failure.{Failure}
-use Rattle.tracer_cli.specs.declared.failure.Failure.TheVariants.{UnknownCall, NoMemory, Usage}
+use Rattle.tracer_cli.specs.declared.failure.Failure.TheVariants.{UnknownCall, NoMemory}
 use Rattle.tracer_cli.specs.declared.failure.Failure.TheVariants.{CannotRead, CannotWrite, Forbidden}
 use Rattle.trace_script.specs.Reading.{most_bytes}
-use Rattle.tracer_cli.specs.Arguments.{AreExploreOptionsOf, AreOptionsOf, AskExplore, AskReplay, AskRun, IsAskedBy}
-use Rattle.tracer_cli.specs.Arguments.{IsTakenBy, tracer_app}
 use Rattle.tracer_cli.specs.CaseText.{HasConfig, case_text_of, config_of}
 use Rattle.tracer_cli.specs.Explored.{PrintsOutcomes}
 use Rattle.tracer_cli.specs.File.{content_of}
 use Rattle.tracer_cli.specs.Job.{HasNoJob, IsDone, IsJob}
 use Rattle.tracer_cli.specs.LitmusFile.{LitmusContent, litmus_content_of}
 use Rattle.tracer_cli.specs.Replay.{replay_of, text_from}
-use Rattle.tracer_cli.specs.Run.{AnswersRequest, Ends, Explores, ExploresNamed, IsReported, run_status}
+use Rattle.tracer_cli.specs.Run.{AnswersRequest, Ends, Explores, IsReported, MayBeRead, run_status}
 use Rattle.tracer_cli.specs.Run.{IsReadFailure, IsReadOf, IsUnwritten, Prints}
-use Rattle.tracer_cli.specs.Run.{PrintsCase, Replays, Runs, RunsNamed, Writes}
+use Rattle.tracer_cli.specs.Run.{PrintsCase, Replays, Runs, Writes}
 use Rattle.tracer_cli.specs.Shown.{unknown_name}
 
 -- a reader's bytes up to a limit
@@ -139,37 +136,20 @@ runs_alike options a b before after other same runs =
       (runs.1.0, runs.1.1, subst P same runs.1.2),
     )
 
--- what is read of standard input is replayed as all of it would be
-replay_answered : (file : Option (Bor (List ℕ))) (text : List ℕ) (input before after : Option (List ℕ))
-    (result : Result (Unit {0}) Failure)
-    → (file ≡ None → IsReadOf input text) → Replays text before after result
-    → AnswersRequest (Replay file) input before after result
-replay_answered None text None before after result read replays = tt
-replay_answered None text (Some all) before after result read replays = replays_alike text all before after result
-    (ap replay_of (read refl) ∙ cut_alike replay_of replay_too_long all _ refl) replays
-replay_answered (Some path) text input before after result read replays = (text, replays)
+-- what holds of a text that is read holds of one that may be read
+answered : (Q : List ℕ → Type 0) (file : Option (Bor (List ℕ))) (text : List ℕ) (input : Option (List ℕ))
+    → (file ≡ None → IsReadOf input text) → ((all : List ℕ) → Q (take (most_bytes + 1) all) → Q all) → Q text
+    → (read : List ℕ) × MayBeRead file input read × Q read
+answered Q None text None read whole holds = (text, tt, holds)
+answered Q None text (Some all) read whole holds = (all, refl, whole all (subst Q (read refl) holds))
+answered Q (Some path) text input read whole holds = (text, tt, holds)
 
--- and so it is run
-run_answered : (options : RunOptions) (file : Option (Bor (List ℕ))) (text : List ℕ)
-    (input before after : Option (List ℕ)) (result : Result (Unit {0}) Failure)
-    → (file ≡ None → IsReadOf input text) → Runs options text before after result
-    → AnswersRequest (Run options file) input before after result
-run_answered options None text None before after result read runs = tt
-run_answered options None text (Some all) before after result read runs =
-    runs_alike options text all before after result
-    (ap case_of (read refl) ∙ cut_alike case_of case_too_long all _ refl) runs
-run_answered options (Some path) text input before after result read runs = (text, runs)
-
--- and so it is explored
-explore_answered : (options : ExploreOptions) (file : Option (Bor (List ℕ))) (text : List ℕ)
-    (input before after : Option (List ℕ)) (result : Result (Unit {0}) Failure)
-    → (file ≡ None → IsReadOf input text) → Explores options text before after result
-    → AnswersRequest (Explore options file) input before after result
-explore_answered options None text None before after result read explores = tt
-explore_answered options None text (Some all) before after result read explores =
-    explores_alike options text all before after result
-    (ap litmus_content_of (read refl) ∙ cut_alike litmus_content_of litmus_too_long all _ refl) explores
-explore_answered options (Some path) text input before after result read explores = (text, explores)
+-- and what holds of every text
+always : (Q : List ℕ → Type 0) (file : Option (Bor (List ℕ))) (input : Option (List ℕ)) → ((text : List ℕ) → Q text)
+    → (read : List ℕ) × MayBeRead file input read × Q read
+always Q None None holds = ([], tt, holds [])
+always Q None (Some all) holds = (all, refl, holds all)
+always Q (Some path) input holds = ([], tt, holds [])
 
 -- a job that is done answers its request
 pub job_answered : (request : Request) (job : Job) (input before after : Option (List ℕ))
@@ -182,20 +162,24 @@ job_answered (Help text) (job.Run config bytes) input before after result is don
 job_answered (Help text) (job.Explore asked bytes) input before after result is done = absurd is
 job_answered (Replay file) (job.Print told) input before after result is done = absurd is
 job_answered (Replay file) (job.Replay bytes) input before after result is done =
-    replay_answered file bytes.items input before after result is (replayed bytes.items before after result done)
+    answered (λ (text : List ℕ). Replays text before after result) file bytes.items input is
+    (λ all. replays_alike _ all before after result (cut_alike replay_of replay_too_long all _ refl))
+    (replayed bytes.items before after result done)
 job_answered (Replay file) (job.Run config bytes) input before after result is done = absurd is
 job_answered (Replay file) (job.Explore asked bytes) input before after result is done = absurd is
 job_answered (Run options file) (job.Print told) input before after result is done = absurd is
 job_answered (Run options file) (job.Replay bytes) input before after result is done = absurd is
 job_answered (Run options file) (job.Run config bytes) input before after result is done =
-    run_answered options file bytes.items input before after result is.2
+    answered (λ (text : List ℕ). Runs options text before after result) file bytes.items input is.2
+    (λ all. runs_alike options _ all before after result (cut_alike case_of case_too_long all _ refl))
     (case_ran options config bytes.items before after result is.0 is.1 done)
 job_answered (Run options file) (job.Explore asked bytes) input before after result is done = absurd is
 job_answered (Explore options file) (job.Print told) input before after result is done = absurd is
 job_answered (Explore options file) (job.Replay bytes) input before after result is done = absurd is
 job_answered (Explore options file) (job.Run config bytes) input before after result is done = absurd is
 job_answered (Explore options file) (job.Explore asked bytes) input before after result is done =
-    explore_answered options file bytes.items input before after result is.1
+    answered (λ (text : List ℕ). Explores options text before after result) file bytes.items input is.1
+    (λ all. explores_alike options _ all before after result (cut_alike litmus_content_of litmus_too_long all _ refl))
     (explored options bytes.items before after result
     (subst (λ (o : ExploreOptions). PrintsOutcomes o (litmus_content_of bytes.items) before after result) is.0 done))
 
@@ -223,177 +207,15 @@ unread_explore options text before after failure is = absurd is
 pub no_job_answered : (request : Request) (input before after : Option (List ℕ)) (failure : Failure)
     → HasNoJob request failure → AnswersRequest request input before after (Err failure)
 no_job_answered (Help text) input before after failure has = absurd has
-no_job_answered (Replay None) None before after failure has = tt
-no_job_answered (Replay None) (Some text) before after failure has = unread_replay text before after failure has
-no_job_answered (Replay (Some path)) input before after failure has = ([], unread_replay [] before after failure has)
-no_job_answered (Run options None) None before after failure has = tt
-no_job_answered (Run options None) (Some text) before after failure has =
-    unread_run options None text before after failure has
-no_job_answered (Run options (Some path)) input before after failure has =
-    ([], unread_run options (Some path) [] before after failure has)
-no_job_answered (Explore options None) None before after failure has = tt
-no_job_answered (Explore options None) (Some text) before after failure has =
-    unread_explore options text before after failure has
-no_job_answered (Explore options (Some path)) input before after failure has =
-    ([], unread_explore options [] before after failure has)
-
--- ---- by the words
-
-replay_named : (words : List (List ℕ)) (request : Request) (input before after : Option (List ℕ))
-    (result : Result (Unit {0}) Failure)
-    → AskReplay words → IsAskedBy words (Ok request) → IsTakenBy words (Ok request)
-    → AnswersRequest request input before after result
-    → IfSome input (λ text. Replays text before after result)
-replay_named words (Help text) input before after result ask asked taken answers = absurd taken
-replay_named words (Replay None) input before after result ask asked taken answers = answers
-replay_named words (Replay (Some file)) input before after result ask asked taken answers =
-    absurd (let is : Some file.now ≡ None = asked.1.2 ∙ ask.3 in cc)
-replay_named words (Run options file) input before after result ask asked taken answers =
-    absurd (let is : false ≡ true = sym ask.1 ∙ asked.1.0 in cc)
-replay_named words (Explore options file) input before after result ask asked taken answers =
-    absurd (let is : false ≡ true = sym ask.2 ∙ asked.1.1 in cc)
-
-named_runs : (words : List (List ℕ)) (options : RunOptions) (text : List ℕ) (before after : Option (List ℕ))
-    (result : Result (Unit {0}) Failure)
-    → AreOptionsOf words options → Runs options text before after result → RunsNamed words text before after result
-named_runs words options text before after (Err NoMemory) are runs = tt
-named_runs words options text before after other are runs = (options, are, runs)
-
-of_input : (words : List (List ℕ)) (options : RunOptions) (input before after : Option (List ℕ))
-    (result : Result (Unit {0}) Failure)
-    → AreOptionsOf words options → IfSome input (λ text. Runs options text before after result)
-    → IfSome input (λ text. RunsNamed words text before after result)
-of_input words options None before after result are runs = tt
-of_input words options (Some text) before after result are runs =
-    named_runs words options text before after result are runs
-
-run_named : (words : List (List ℕ)) (request : Request) (input before after : Option (List ℕ))
-    (result : Result (Unit {0}) Failure)
-    → AskRun words → IsAskedBy words (Ok request) → IsTakenBy words (Ok request)
-    → AnswersRequest request input before after result
-    → IfSome input (λ text. RunsNamed words text before after result)
-run_named words (Help text) input before after result ask asked taken answers = absurd taken
-run_named words (Replay file) input before after result ask asked taken answers =
-    absurd (let is : true ≡ false = sym ask.1 ∙ asked.1.0 in cc)
-run_named words (Run options None) input before after result ask asked taken answers =
-    of_input words options input before after result asked.1.1 answers
-run_named words (Run options (Some file)) input before after result ask asked taken answers =
-    absurd (let is : Some file.now ≡ None = asked.1.2 ∙ ask.2 in cc)
-run_named words (Explore options file) input before after result ask asked taken answers =
-    absurd (let is : true ≡ false = sym ask.1 ∙ asked.1.0 in cc)
-
-named_explores : (words : List (List ℕ)) (options : ExploreOptions) (text : List ℕ) (before after : Option (List ℕ))
-    (result : Result (Unit {0}) Failure)
-    → AreExploreOptionsOf words options → Explores options text before after result
-    → ExploresNamed words text before after result
-named_explores words options text before after (Err NoMemory) are explores = tt
-named_explores words options text before after other are explores = (options, are, explores)
-
-explores_input : (words : List (List ℕ)) (options : ExploreOptions) (input before after : Option (List ℕ))
-    (result : Result (Unit {0}) Failure)
-    → AreExploreOptionsOf words options → IfSome input (λ text. Explores options text before after result)
-    → IfSome input (λ text. ExploresNamed words text before after result)
-explores_input words options None before after result are explores = tt
-explores_input words options (Some text) before after result are explores =
-    named_explores words options text before after result are explores
-
-explore_named : (words : List (List ℕ)) (request : Request) (input before after : Option (List ℕ))
-    (result : Result (Unit {0}) Failure)
-    → AskExplore words → IsAskedBy words (Ok request) → IsTakenBy words (Ok request)
-    → AnswersRequest request input before after result
-    → IfSome input (λ text. ExploresNamed words text before after result)
-explore_named words (Help text) input before after result ask asked taken answers = absurd taken
-explore_named words (Replay file) input before after result ask asked taken answers =
-    absurd (let is : true ≡ false = sym ask.2 ∙ asked.1.1 in cc)
-explore_named words (Run options file) input before after result ask asked taken answers =
-    absurd (let is : false ≡ true = sym ask.1 ∙ asked.1.0 in cc)
-explore_named words (Explore options None) input before after result ask asked taken answers =
-    explores_input words options input before after result asked.1.2 answers
-explore_named words (Explore options (Some file)) input before after result ask asked taken answers =
-    absurd (let is : Some file.now ≡ None = asked.1.3 ∙ ask.4 in cc)
-
--- words of a replay of standard input ask for it
-pub replay_asked : (given words : List (List ℕ)) (request : Request) (input before after : Option (List ℕ))
-    (result : Result (Unit {0}) Failure)
-    → given ≡ words → AskReplay words → IsAskedBy given (Ok request)
-    → (takes tracer_app given ≡ true → IsTakenBy given (Ok request)) → AnswersRequest request input before after result
-    → IfSome input (λ text. Replays text before after result)
-replay_asked given words request input before after result same ask asked taken answers =
-    replay_named words request input before after result ask
-    (subst (λ (w : List (List ℕ)). IsAskedBy w (Ok request)) same asked)
-    (subst (λ (w : List (List ℕ)). IsTakenBy w (Ok request)) same (taken (rw same ask.0))) answers
-
--- and so do words of a run of it
-pub run_asked : (given words : List (List ℕ)) (request : Request) (input before after : Option (List ℕ))
-    (result : Result (Unit {0}) Failure)
-    → given ≡ words → AskRun words → IsAskedBy given (Ok request)
-    → (takes tracer_app given ≡ true → IsTakenBy given (Ok request)) → AnswersRequest request input before after result
-    → IfSome input (λ text. RunsNamed words text before after result)
-run_asked given words request input before after result same ask asked taken answers =
-    run_named words request input before after result ask
-    (subst (λ (w : List (List ℕ)). IsAskedBy w (Ok request)) same asked)
-    (subst (λ (w : List (List ℕ)). IsTakenBy w (Ok request)) same (taken (rw same ask.0))) answers
-
--- and words of an exploration of it
-pub explore_asked : (given words : List (List ℕ)) (request : Request) (input before after : Option (List ℕ))
-    (result : Result (Unit {0}) Failure)
-    → given ≡ words → AskExplore words → IsAskedBy given (Ok request)
-    → (takes tracer_app given ≡ true → IsTakenBy given (Ok request)) → AnswersRequest request input before after result
-    → IfSome input (λ text. ExploresNamed words text before after result)
-explore_asked given words request input before after result same ask asked taken answers =
-    explore_named words request input before after result ask
-    (subst (λ (w : List (List ℕ)). IsAskedBy w (Ok request)) same asked)
-    (subst (λ (w : List (List ℕ)). IsTakenBy w (Ok request)) same (taken (rw same ask.0))) answers
-
--- ---- words that clap takes, and that ask for nothing
-
-replay_fails : (words : List (List ℕ)) (failure : Failure) → AskReplay words → IsTakenBy words (Err failure)
-    → failure ≡ NoMemory
-replay_fails words NoMemory ask taken = refl
-replay_fails words (Usage text) ask taken = absurd (let is : false ≡ true = sym ask.2 ∙ taken.1 in cc)
-replay_fails words failure ask taken = absurd taken
-
-run_fails : (words : List (List ℕ)) (failure : Failure) → AskRun words → IsTakenBy words (Err failure)
-    → failure ≡ NoMemory
-run_fails words NoMemory ask taken = refl
-run_fails words (Usage text) ask taken = absurd (let is : true ≡ false = sym ask.1 ∙ taken.0 in cc)
-run_fails words failure ask taken = absurd taken
-
-explore_fails : (words : List (List ℕ)) (failure : Failure) → AskExplore words → IsTakenBy words (Err failure)
-    → failure ≡ NoMemory
-explore_fails words NoMemory ask taken = refl
-explore_fails words (Usage text) ask taken = absurd (ask.3 taken.2)
-explore_fails words failure ask taken = absurd taken
-
-nothing_known : (input : Option (List ℕ)) → IfSome input (λ text. Unit {0})
-nothing_known None = tt
-nothing_known (Some text) = tt
-
-pub no_replay : (given words : List (List ℕ)) (failure : Failure) (input before after : Option (List ℕ))
-    → given ≡ words → AskReplay words → (takes tracer_app given ≡ true → IsTakenBy given (Err failure))
-    → IfSome input (λ text. Replays text before after (Err failure))
-no_replay given words failure input before after same ask taken =
-    let is = replay_fails words failure ask
-    (subst (λ (w : List (List ℕ)). IsTakenBy w (Err failure)) same (taken (rw same ask.0))) in
-    subst (λ (f : Failure). IfSome input (λ text. Replays text before after (Err f))) (sym is) (nothing_known input)
-
-pub no_run : (given words : List (List ℕ)) (failure : Failure) (input before after : Option (List ℕ))
-    → given ≡ words → AskRun words → (takes tracer_app given ≡ true → IsTakenBy given (Err failure))
-    → IfSome input (λ text. RunsNamed words text before after (Err failure))
-no_run given words failure input before after same ask taken =
-    let is = run_fails words failure ask
-    (subst (λ (w : List (List ℕ)). IsTakenBy w (Err failure)) same (taken (rw same ask.0))) in
-    subst (λ (f : Failure). IfSome input (λ text. RunsNamed words text before after (Err f))) (sym is)
-    (nothing_known input)
-
-pub no_exploration : (given words : List (List ℕ)) (failure : Failure) (input before after : Option (List ℕ))
-    → given ≡ words → AskExplore words → (takes tracer_app given ≡ true → IsTakenBy given (Err failure))
-    → IfSome input (λ text. ExploresNamed words text before after (Err failure))
-no_exploration given words failure input before after same ask taken =
-    let is = explore_fails words failure ask
-    (subst (λ (w : List (List ℕ)). IsTakenBy w (Err failure)) same (taken (rw same ask.0))) in
-    subst (λ (f : Failure). IfSome input (λ text. ExploresNamed words text before after (Err f))) (sym is)
-    (nothing_known input)
+no_job_answered (Replay file) input before after failure has =
+    always (λ (text : List ℕ). Replays text before after (Err failure)) file input
+    (λ text. unread_replay text before after failure has)
+no_job_answered (Run options file) input before after failure has =
+    always (λ (text : List ℕ). Runs options text before after (Err failure)) file input
+    (λ text. unread_run options file text before after failure has)
+no_job_answered (Explore options file) input before after failure has =
+    always (λ (text : List ℕ). Explores options text before after (Err failure)) file input
+    (λ text. unread_explore options text before after failure has)
 
 -- ---- how the program ends
 

@@ -3,14 +3,14 @@
 -- `tracer explore [--budget N] [--replay K] [--ends] [FILE]`, and `tracer --version`.
 use Rattle.std.specs.Borrow.{Bor}
 use Rattle.std.specs.Prelude.{◌≡◌, ◌≢◌, ◌≤◌, ◌⊎◌, ◌∷◌, [], ℕ, Bool, true, false, IsTrue, IsFalse, List}
-use Rattle.std.specs.Prelude.{Option, Some, None, Result, Ok, Err, codes, option_map, pos}
+use Rattle.std.specs.Prelude.{Option, Some, None, Result, Ok, Err, codes, option_map, pos, string_bytes}
 use Rattle.std.specs.Option.{option_map_or}
 use Rattle.std.specs.Str.{bytes_eq}
 use Rattle.std.specs.Str.Parse.{digits_value, without_leading_plus}
 use Rattle.clap.specs.Simple.{with_rule, with_subcommand}
 use Rattle.clap.specs.Values.{IsUnsignedIn}
 use Rattle.clap.specs.Walk.{Row, Rule, Text, first_of, one_of}
-use Rattle.clap.specs.Words.{App, IsAmong, fault_of, new_app, new_rule, subcommand_of, takes}
+use Rattle.clap.specs.Words.{App, IsAmong, fault_of, new_app, new_rule, subcommand_of}
 use Rattle.clap.specs.declared.error.kind.ErrorKind.{ErrorKind}
 use Rattle.clap.specs.declared.error.kind.ErrorKind.TheVariants as kind
 use Rattle.clap.specs.declared.builder.ArgAction.TheVariants.{Set, SetTrue}
@@ -193,16 +193,21 @@ IsNamed found (Help text) = ⊥
 abbrev pub IsContradictory : FoundSubcommand → Type 0
 IsContradictory found = (is_run found ≡ false) × (is_explore found ≡ true) × AskBoth (rows_in found)
 
+-- what is said then
+abbrev pub ends_or_replay : Text
+ends_or_replay =
+    codes "error: the argument '--ends' cannot be used with '--replay <K>'\n\nFor more information, try '--help'.\n"
+
 abbrev pub IsNamedBy : FoundSubcommand → Result Request Failure → Type 0
 IsNamedBy found (Ok request) = IsNamed found request
-IsNamedBy found (Err (Usage text)) = IsContradictory found
+IsNamedBy found (Err (Usage text)) = IsContradictory found × (string_bytes text ≡ ends_or_replay)
 IsNamedBy found (Err NoMemory) = Unit {0}
 IsNamedBy found (Err failure) = ⊥
 
 -- of an exploration, by what was found for its arguments
 abbrev pub IsExploreRequest : List Row → (file : Option (Bor Text)) → Result Request Failure → Type 0
 IsExploreRequest rows file (Ok (Explore options named)) = AreExploreOptions rows options × (named ≡ file)
-IsExploreRequest rows file (Err (Usage text)) = AskBoth rows
+IsExploreRequest rows file (Err (Usage text)) = AskBoth rows × (string_bytes text ≡ ends_or_replay)
 IsExploreRequest rows file (Err NoMemory) = Unit {0}
 IsExploreRequest rows file other = ⊥
 
@@ -224,40 +229,54 @@ IsFailureBy of (Usage text) = (of ≢ kind.OutOfMemory) × IsFalse (shows_text o
 IsFailureBy of NoMemory = Unit {0}
 IsFailureBy of failure = ⊥
 
--- what any words ask for, by clap's definitions of when words fail and of what they match: a replay or a run, as they
--- name it, only of words that do not fail; help or wrong use by a kind of error that they fail with; wrong use of words
--- that ask for two things which do not go together; or there is no memory
+-- words that clap finds no fault in
+abbrev pub HaveNoFault : (words : List Text) → Type 0
+HaveNoFault words = fault_of tracer_app words ≡ []
+
+-- words with a fault whose text is shown: they ask for help or the version
+abbrev pub HaveShownFault : (words : List Text) → Type 0
+HaveShownFault words = (of : ErrorKind) × IsAmong of (fault_of tracer_app words) × IsTrue (shows_text of)
+
+-- words with a fault that is reported: they are wrong
+abbrev pub HaveReportedFault : (words : List Text) → Type 0
+HaveReportedFault words = (of : ErrorKind) × IsAmong of (fault_of tracer_app words) × IsFalse (shows_text of)
+
+-- words without a fault that may ask for two things which do not go together
+abbrev pub MayContradict : (words : List Text) → Type 0
+MayContradict words = HaveNoFault words × IsContradictory (subcommand_of tracer_app words)
+
+-- what any words ask for, by clap's definitions of when words fail and of what they match: a replay, a run or an
+-- exploration, as they name it, only of words that do not fail; help or wrong use by a kind of error that they fail
+-- with; wrong use of words that ask for two things which do not go together, with its text; or there is no memory
 abbrev pub IsAskedBy : (words : List Text) → Result Request Failure → Type 0
-IsAskedBy words (Ok (Help text)) = (of : ErrorKind) × IsAmong of (fault_of tracer_app words) × IsTrue (shows_text of)
-IsAskedBy words (Ok request) = (fault_of tracer_app words ≡ []) × IsNamed (subcommand_of tracer_app words) request
+IsAskedBy words (Ok (Help text)) = HaveShownFault words
+IsAskedBy words (Ok request) = HaveNoFault words × IsNamed (subcommand_of tracer_app words) request
 IsAskedBy words (Err (Usage text)) =
-    ((of : ErrorKind) × IsAmong of (fault_of tracer_app words) × IsFalse (shows_text of))
-    ⊎ ((fault_of tracer_app words ≡ []) × IsContradictory (subcommand_of tracer_app words))
+    HaveReportedFault words ⊎ (MayContradict words × (string_bytes text ≡ ends_or_replay))
 IsAskedBy words (Err NoMemory) = Unit {0}
 IsAskedBy words (Err failure) = ⊥
 
--- words that clap takes ask for no help, and fail only without memory or where they ask for two things which do not go
--- together
-abbrev pub IsTakenBy : (words : List Text) → Result Request Failure → Type 0
-IsTakenBy words (Ok (Help text)) = ⊥
-IsTakenBy words (Ok request) = Unit {0}
-IsTakenBy words (Err NoMemory) = Unit {0}
-IsTakenBy words (Err (Usage text)) = IsContradictory (subcommand_of tracer_app words)
-IsTakenBy words (Err failure) = ⊥
-
 -- words of a replay, of a run, or of an exploration, of standard input
 abbrev pub AskReplay : (words : List Text) → Type 0
-AskReplay words = (takes tracer_app words ≡ true) × (is_run (subcommand_of tracer_app words) ≡ false)
+AskReplay words = HaveNoFault words × (is_run (subcommand_of tracer_app words) ≡ false)
     × (is_explore (subcommand_of tracer_app words) ≡ false) × (file_in (subcommand_of tracer_app words) ≡ None)
 
 abbrev pub AskExplore : (words : List Text) → Type 0
-AskExplore words = (takes tracer_app words ≡ true) × (is_run (subcommand_of tracer_app words) ≡ false)
+AskExplore words = HaveNoFault words × (is_run (subcommand_of tracer_app words) ≡ false)
     × (is_explore (subcommand_of tracer_app words) ≡ true) × (¬ AskBoth (rows_in (subcommand_of tracer_app words)))
     × (file_in (subcommand_of tracer_app words) ≡ None)
 
 abbrev pub AskRun : (words : List Text) → Type 0
-AskRun words = (takes tracer_app words ≡ true) × (is_run (subcommand_of tracer_app words) ≡ true)
+AskRun words = HaveNoFault words × (is_run (subcommand_of tracer_app words) ≡ true)
     × (file_in (subcommand_of tracer_app words) ≡ None)
+
+-- words of help or the version: they have a fault, and none that is reported
+abbrev pub AskText : (words : List Text) → Type 0
+AskText words = (¬ HaveNoFault words) × (¬ HaveReportedFault words)
+
+-- words of standard input, whatever is to be done with it
+abbrev pub AskInput : (words : List Text) → Type 0
+AskInput words = HaveNoFault words × (file_in (subcommand_of tracer_app words) ≡ None)
 
 -- the options that words of a run name
 abbrev pub AreOptionsOf : (words : List Text) → RunOptions → Type 0
@@ -265,6 +284,12 @@ AreOptionsOf words options = AreOptions (rows_in (subcommand_of tracer_app words
 
 abbrev pub AreExploreOptionsOf : (words : List Text) → ExploreOptions → Type 0
 AreExploreOptionsOf words options = AreExploreOptions (rows_in (subcommand_of tracer_app words)) options
+
+-- words of an exploration that ask for two things which do not go together: they name no options
+abbrev pub Contradict : (words : List Text) → Type 0
+Contradict words = HaveNoFault words × (is_run (subcommand_of tracer_app words) ≡ false)
+    × (is_explore (subcommand_of tracer_app words) ≡ true)
+    × (¬ ((options : ExploreOptions) × AreExploreOptionsOf words options))
 
 -- what `explore` asks for
 pub record IsExploredWhole (options : ExploreOptions) : Type 0 where

@@ -3,6 +3,7 @@ pub mod Arguments
 pub mod CaseText
 pub mod Chosen
 pub mod Command
+pub mod CommandLine
 pub mod CommandText
 pub mod Conditions
 pub mod CutOff

@@ -39,7 +39,7 @@ is_group_word word = bytes_eq word (codes "group")
 abbrev pub is_it_word : List ℕ → Bool
 is_it_word word = bytes_eq word (codes "it")
 
--- in the place of a number
+-- in the place of a number, or of the name of a refusal
 abbrev pub is_star : List ℕ → Bool
 is_star word = bytes_eq word (codes "*")
 
@@ -79,9 +79,9 @@ stop_number word = number_between 0 LAST_NUMBER word
 abbrev pub status_number : List ℕ → Result ℕ LineFault
 status_number word = number_between 0 (2 ^ 32 - 1) word
 
--- `*` asks for no number
-abbrev pub unless_star : (word : List ℕ) → Result ℕ LineFault → Result (Option ℕ) LineFault
-unless_star word read = if is_star word then Ok None else (read >>= λ n. Ok (Some n))
+-- `*` leaves open what is in its place
+abbrev pub unless_star : {A : Type 0} → (word : List ℕ) → Result A LineFault → Result (Option A) LineFault
+unless_star word read = if is_star word then Ok None else (read >>= λ a. Ok (Some a))
 
 abbrev pub wanted_stop : List ℕ → Result (Option ℕ) LineFault
 wanted_stop word = unless_star word (stop_number word)
@@ -140,14 +140,17 @@ state_of_words words =
 
 -- ---- what a command may be answered about a tracee
 
--- refused NAME
+abbrev pub wanted_refusal : (refusals : List (List ℕ × Refused)) → List ℕ → Result (Option Refused) LineFault
+wanted_refusal refusals word = unless_star word (value_beside refusals word)
+
+-- refused NAME, refused *
 abbrev pub refused_reply : (refusals : List (List ℕ × Refused)) → List (List ℕ) → Result WantedAnswer LineFault
 refused_reply refusals words =
     if length words == 2 && bytes_eq (nth_word words 0) (codes "refused")
-    then (value_beside refusals (nth_word words 1) >>= λ refusal. Ok (answer.Refused refusal))
+    then (wanted_refusal refusals (nth_word words 1) >>= λ refusal. Ok (answer.Refused refusal))
     else Err UnknownWord
 
--- published N, refused NotNext, refused Full
+-- published N, refused NotNext, refused Full, refused *
 abbrev pub publish_reply : List (List ℕ) → Result WantedAnswer LineFault
 publish_reply words =
     if length words == 2 && bytes_eq (nth_word words 0) (codes "published")
@@ -169,14 +172,14 @@ got_reply keyword words =
     then (got_of_words (nth_word words 0) (nth_word words 1) (nth_word words 2) >>= λ g. Ok (got_told keyword g))
     else Err UnknownWord
 
--- of a claim or a peek: these; of one for a TID also refused Unborn, refused NotWaitable
+-- of a claim or a peek: these; of one for a TID also refused Unborn, refused NotWaitable, refused *
 abbrev pub claim_row_reply : CommandKeyword → (named : List ℕ) → List (List ℕ) → Result WantedAnswer LineFault
 claim_row_reply keyword named words =
     if length words == 3 then got_reply keyword words
     else if names_several keyword named then Err UnknownWord
     else refused_reply claim_refusals words
 
--- resumed, refused Unborn, refused NotClaimed, refused NotHolder
+-- resumed, refused Unborn, refused NotClaimed, refused NotHolder, refused *
 abbrev pub resume_reply : List (List ℕ) → Result WantedAnswer LineFault
 resume_reply words =
     if length words == 1 && bytes_eq (nth_word words 0) (codes "resumed") then Ok answer.Done

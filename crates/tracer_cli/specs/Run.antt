@@ -1,6 +1,7 @@
 -- A run of the program: what it reads, what it prints, and how it fails.
 use Rattle.std.specs.Prelude.{◌≡◌, ◌+◌, ℕ, List, Option, Some, None, Result, Ok, Err, IfSome, IsOk, IsOkAnd}
 use Rattle.std.specs.Prelude.{string_bytes, take}
+use Rattle.std.specs.Borrow.{Bor}
 use Rattle.std.specs.Io.KnownBytes.{Appends}
 use Rattle.trace_options.specs.Calls.{Calls}
 use Rattle.trace_script.specs.declared.cause.CaseError.{CaseError}
@@ -116,21 +117,21 @@ ExploresNamed words text before after (Err NoMemory) = Unit {0}
 ExploresNamed words text before after result =
     (options : ExploreOptions) × AreExploreOptionsOf words options × Explores options text before after result
 
--- help is printed, or what standard input has is replayed, run or explored, where its bytes are known; of a file that
--- is named, some bytes are, since nothing is known of what it has
+-- what may be read of the file that a request names, of which nothing is known, or of standard input
+abbrev pub MayBeRead : (file : Option (Bor (List ℕ))) → (input : Option (List ℕ)) → (text : List ℕ) → Type 0
+MayBeRead None input text = IfSome input (λ all. text ≡ all)
+MayBeRead (Some path) input text = Unit {0}
+
+-- help is printed, or what may be read is replayed, run or explored
 abbrev pub AnswersRequest : Request → (input : Option (List ℕ)) → (before after : Option (List ℕ))
     → Result (Unit {0}) Failure → Type 0
 AnswersRequest (Help text) input before after result = Writes (string_bytes text) before after result
-AnswersRequest (Replay None) input before after result = IfSome input (λ text. Replays text before after result)
-AnswersRequest (Replay (Some file)) input before after result = (text : List ℕ) × Replays text before after result
-AnswersRequest (Run options None) input before after result =
-    IfSome input (λ text. Runs options text before after result)
-AnswersRequest (Run options (Some file)) input before after result =
-    (text : List ℕ) × Runs options text before after result
-AnswersRequest (Explore options None) input before after result =
-    IfSome input (λ text. Explores options text before after result)
-AnswersRequest (Explore options (Some file)) input before after result =
-    (text : List ℕ) × Explores options text before after result
+AnswersRequest (Replay file) input before after result =
+    (text : List ℕ) × MayBeRead file input text × Replays text before after result
+AnswersRequest (Run options file) input before after result =
+    (text : List ℕ) × MayBeRead file input text × Runs options text before after result
+AnswersRequest (Explore options file) input before after result =
+    (text : List ℕ) × MayBeRead file input text × Explores options text before after result
 
 -- ---- how the program ends
 

@@ -1,10 +1,10 @@
 //! The command line.
 
 ghost use Rattle.std.specs.Prelude.{◌≡◌, ◌≤◌, IfErr, IfOk, IsTrue, Some, false, map, true};
-ghost use Rattle.clap.specs.Words.{app_of, found_of, kind_of, one_text, rows_of, rule_of, subcommand_rows_of, takes};
+ghost use Rattle.clap.specs.Words.{app_of, found_of, kind_of, one_text, rows_of, rule_of, subcommand_rows_of};
 ghost use Rattle.clap.specs.declared.builder.command.Command.TheViews.{out-Command};
 ghost use Rattle.tracer_cli.specs.Arguments.{AreAskedOptions, AreOptions, IsAskedBy, IsExploreRequest, IsFailureBy};
-ghost use Rattle.tracer_cli.specs.Arguments.{IsHelp, IsNamedBy, IsNumber, IsOptionalNumber, IsTakenBy, budget_rule};
+ghost use Rattle.tracer_cli.specs.Arguments.{IsHelp, IsNamedBy, IsNumber, IsOptionalNumber, budget_rule};
 ghost use Rattle.tracer_cli.specs.Arguments.{ends_rule, explore_app, file_rule, follow_rule, limit_rule, listing_of};
 ghost use Rattle.tracer_cli.specs.Arguments.{names_rule, outcome_rule, replay_app};
 ghost use Rattle.tracer_cli.specs.Arguments.{run_app, seccomp_rule, shows_text, tracer_app, workers_rule};
@@ -122,9 +122,7 @@ pub(crate) fn read_arguments<'a>(
     alloc: Global,
     words: &'a [&'a str],
 ) -> Result<Request<'a>, Failure>
-    ensures words { IsAskedBy (map (λ word. word.now) words.now) result }
-    ensures taken { takes tracer_app (map (λ word. word.now) words.now) ≡ true →
-        IsTakenBy (map (λ word. word.now) words.now) result }
+    ensures { IsAskedBy (map (λ word. word.now) words.now) result }
 {
     let command = tracer(alloc)?;
     match command.try_get_matches_from(words) {

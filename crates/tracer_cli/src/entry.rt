@@ -2,7 +2,8 @@
 
 ghost use Rattle.std.specs.Prelude.{◌≡◌, ◌≤◌, ◌⊎◌, IfErr, IfOk, IfSome, map, string_bytes};
 ghost use Rattle.std.specs.IoError.{error_kind};
-ghost use Rattle.tracer_cli.specs.Arguments.{AskExplore, AskReplay, AskRun};
+ghost use Rattle.tracer_cli.specs.Arguments.{AskExplore, AskInput, AskReplay, AskRun};
+ghost use Rattle.tracer_cli.specs.CommandLine.{AnswersWords, IsExitStatusOf};
 ghost use Rattle.tracer_cli.specs.CutOff.{IsBegun};
 ghost use Rattle.tracer_cli.specs.Failure.{failure_at, failure_status, failure_text};
 ghost use Rattle.tracer_cli.specs.Run.{Ends, ExploresNamed, IsUnread, IsUnwritten, Replays, RunsNamed};
@@ -35,6 +36,13 @@ pub fn process<H: Files + AllocGlobal + Threads + Wait + Clock + Sync, R: Read, 
     ensures output { Ends (IsUnwritten output.old output.new) (E.contents errors.old) (E.contents errors.new) result }
     ensures quiet { result ≡ 0 → errors.new ≡ errors.old }
     ensures untouched { result ≡ 2 → input.new ≡ input.old }
+    ensures input { IfOk words (λ words. ¬ (AskInput (map string_bytes words.items)) → input.new ≡ input.old) }
+    ensures words { IfOk words (λ words. IsExitStatusOf (map string_bytes words.items) result) }
+
+    // What the words ask for is done or fails, and nothing else is written.
+    ensures asked { IfOk words (λ words. Ends (λ ended. AnswersWords (map string_bytes words.items)
+        (R.remaining input.old) (W.contents output.old) (W.contents output.new) ended
+        × IsUnwritten output.old output.new ended) (E.contents errors.old) (E.contents errors.new) result) }
 
     // The words of a replay of standard input, where what it has is known.
     ensures replay { IfOk words (λ words. AskReplay (map string_bytes words.items) →
@@ -80,6 +88,15 @@ pub fn program<H: Files + AllocGlobal + Threads + Wait + Clock + Sync, R: Read, 
     // The command line and the names of `-e` are tested before anything is read.
     ensures untouched { result ≡ 2 → input.new ≡ input.old }
 
+    // Nothing is read of standard input for help, nor where a file is named.
+    ensures input { ¬ (AskInput (map string_bytes words.now)) → input.new ≡ input.old }
+    ensures words { IsExitStatusOf (map string_bytes words.now) result }
+
+    // What the words ask for is done or fails, and nothing else is written.
+    ensures asked { Ends (λ ended. AnswersWords (map string_bytes words.now) (R.remaining input.old)
+        (W.contents output.old) (W.contents output.new) ended × IsUnwritten output.old output.new ended)
+        (E.contents errors.old) (E.contents errors.new) result }
+
     // The words of a replay of standard input, where what it has is known.
     ensures replay { AskReplay (map string_bytes words.now) → IfSome (R.remaining input.old) (λ text.
         Ends (Replays text (W.contents output.old) (W.contents output.new))
@@ -120,12 +137,9 @@ fn run<H: Files + AllocGlobal + Threads + Wait + Clock + Sync, R: Read, W: Write
 ) -> Result<(), Failure>
     ensures unwritten { IsUnwritten output.old output.new result }
     ensures unread { IfErr result (IsUnread input.old input.new) }
-    ensures replay { AskReplay (map string_bytes words.now) → IfSome (R.remaining input.old) (λ text.
-        Replays text (W.contents output.old) (W.contents output.new) result) }
-    ensures run { AskRun (map string_bytes words.now) → IfSome (R.remaining input.old) (λ text.
-        RunsNamed (map string_bytes words.now) text (W.contents output.old) (W.contents output.new) result) }
-    ensures explore { AskExplore (map string_bytes words.now) → IfSome (R.remaining input.old) (λ text.
-        ExploresNamed (map string_bytes words.now) text (W.contents output.old) (W.contents output.new) result) }
+    ensures input { ¬ (AskInput (map string_bytes words.now)) → input.new ≡ input.old }
+    ensures asked { AnswersWords (map string_bytes words.now) (R.remaining input.old) (W.contents output.old)
+        (W.contents output.new) result }
 {
     let alloc = rt.alloc();
     let words = texts_of(alloc, words)?;

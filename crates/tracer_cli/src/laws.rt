@@ -14,7 +14,7 @@ ghost use Rattle.stop_history.specs.State.{state_after};
 ghost use Rattle.stop_history.specs.declared.refused.Refused.{Refused};
 ghost use Rattle.stop_history.specs.declared.roster.Row.{Row};
 ghost use Rattle.tracer_cli.specs.Arguments.{AreExploreOptionsOf, AreOptionsOf, AskExplore, AskReplay, AskRun};
-ghost use Rattle.tracer_cli.specs.Arguments.{IsExploredWhole, IsFollowed};
+ghost use Rattle.tracer_cli.specs.Arguments.{AskText, Contradict, IsExploredWhole, IsFollowed};
 ghost use Rattle.tracer_cli.specs.declared.arguments.ExploreOptions.{ExploreOptions};
 ghost use Rattle.tracer_cli.specs.declared.arguments.RunOptions.{RunOptions};
 ghost use Rattle.tracer_cli.specs.declared.arguments.TheConstants.{MOST_PLACES, MOST_SHOWN};
@@ -73,6 +73,15 @@ pub fn plain_words_are_taken()
     ensures explore { (name : List ℕ) → AskExplore (name ∷ codes "explore" ∷ []) }
     ensures whole { (name : List ℕ) (options : ExploreOptions) →
         AreExploreOptionsOf (name ∷ codes "explore" ∷ []) options → IsExploredWhole options }
+{}
+
+/// What other short words are, the program's name first: `--help` and `--version` ask for a text, and `--ends` beside
+/// `--replay 1` contradicts it.
+pub fn plain_words_show_or_contradict()
+    ensures help { (name : List ℕ) → AskText (name ∷ codes "--help" ∷ []) }
+    ensures version { (name : List ℕ) → AskText (name ∷ codes "--version" ∷ []) }
+    ensures contradictory { (name : List ℕ) →
+        Contradict (name ∷ codes "explore" ∷ codes "--ends" ∷ codes "--replay" ∷ codes "1" ∷ []) }
 {}
 
 /// The refusal that a call is said to wait for is the one that it gets at each history that leaves these states, if

@@ -7,8 +7,8 @@ ghost use Rattle.tracer_cli.specs.LitmusReply.{none_reply, nothing_reply, number
 ghost use Rattle.tracer_cli.specs.LitmusReply.{publish_reply};
 ghost use Rattle.tracer_cli.specs.LitmusReply.{refused_reply, reply_of_words, resume_reply, row_reply, scan_reply};
 ghost use Rattle.tracer_cli.specs.LitmusReply.{state_of_words, state_reply, status_number};
-ghost use Rattle.tracer_cli.specs.LitmusReply.{stop_number, tid_reply, wanted_status, wanted_stop, wanted_tracer};
-ghost use Rattle.tracer_cli.specs.LitmusReply.{tid_before, without_tid};
+ghost use Rattle.tracer_cli.specs.LitmusReply.{stop_number, tid_reply, wanted_refusal, wanted_status, wanted_stop};
+ghost use Rattle.tracer_cli.specs.LitmusReply.{tid_before, wanted_tracer, without_tid};
 
 use crate::grammar::tracer_of;
 use crate::litmus::keyword::{CommandKeyword, is_any_word, is_group_word, is_it_word};
@@ -224,17 +224,27 @@ fn resume_reply(words: &[&[u8]]) -> Result<WantedAnswer, LineFault>
     }
 }
 
-/// A refusal that is one of these.
+/// A refusal that is one of these, or any.
 fn refused_reply(refusals: &[(&str, Refused)], words: &[&[u8]]) -> Result<WantedAnswer, LineFault>
     ensures { result
         ≡ refused_reply (map (λ row. (row.0.now, row.1)) refusals.now) (map (λ w. w.now) words.now) }
 {
     match words {
         [word, name] if *word == b"refused".as_slice() => {
-            Ok(WantedAnswer::Refused(keyword(refusals, name)?))
+            Ok(WantedAnswer::Refused(wanted_refusal(refusals, name)?))
         }
         _ => Err(LineFault::UnknownWord),
     }
+}
+
+/// The refusal that is asked for, if one is.
+fn wanted_refusal(refusals: &[(&str, Refused)], word: &[u8]) -> Result<Option<Refused>, LineFault>
+    ensures { result ≡ wanted_refusal (map (λ row. (row.0.now, row.1)) refusals.now) word.now }
+{
+    if is_star(word) {
+        return Ok(None);
+    }
+    Ok(Some(keyword(refusals, word)?))
 }
 
 // ---- about no tracee
@@ -363,7 +373,7 @@ fn numbered_state(name: StateName, number: &[u8], last: &[u8]) -> Result<WantedS
 
 // ---- numbers
 
-/// Whether a word stands for any number.
+/// Whether a word stands for any number, or any refusal.
 fn is_star(word: &[u8]) -> bool
     ensures { result ≡ is_star word.now }
 {

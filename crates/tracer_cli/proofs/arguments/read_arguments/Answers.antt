@@ -1,27 +1,12 @@
 -- What clap's definitions say of these words.
 use Rattle.std.proofs.Common.{◌∙◌, ap, map, subst, sym, List, ℕ}
-use Rattle.clap.specs.Words.{App, HasKind, fault_of, is_simple, is_simple_and_free, subcommand_of, takes}
+use Rattle.clap.specs.Words.{App, HasKind, fault_of, is_simple, is_simple_and_free, subcommand_of}
 use Rattle.tracer_cli.specs.Arguments.{FoundSubcommand, IsNamedBy}
-use Rattle.tracer_cli.proofs.Commands.{failed, is_free, is_known, named, named_is_taken}
+use Rattle.tracer_cli.proofs.Commands.{failed, is_free, is_known, named}
 use Rattle.tracer_cli.proofs.arguments.read_arguments.Goals as goal
 
-pub returns-in-Ok-clause-taken : goal.returns-in-Ok-clause-taken
-returns-in-Ok-clause-taken c = λ taken.
-    let words : List (List ℕ) = map (λ word. word.now) c.args.words.now in
-    let entered = (c.in-Ok.ensures.matches (ap is_simple c.in_ok-command.ensures ∙ is_known)).1
-    ∙ ap (λ (a : App). subcommand_of a words) c.in_ok-command.ensures in
-    named_is_taken words c.named_request.result
-    (subst (λ (found : FoundSubcommand). IsNamedBy found c.named_request.result) entered c.named_request.ensures)
-
-pub returns-in-Err-clause-taken : goal.returns-in-Err-clause-taken
-returns-in-Err-clause-taken c = λ taken.
-    let words : List (List ℕ) = map (λ word. word.now) c.args.words.now in
-    let none = c.without_matches.ensures.memory
-    (c.in-Err.ensures.passes (ap (λ (a : App). takes a words) c.in_ok-command.ensures ∙ taken)) in
-    rw none tt
-
-pub returns-in-Ok-clause-words : goal.returns-in-Ok-clause-words
-returns-in-Ok-clause-words c =
+pub returns-in-Ok : goal.returns-in-Ok
+returns-in-Ok c =
     let words : List (List ℕ) = map (λ word. word.now) c.args.words.now in
     let entered = (c.in-Ok.ensures.matches (ap is_simple c.in_ok-command.ensures ∙ is_known)).1
     ∙ ap (λ (a : App). subcommand_of a words) c.in_ok-command.ensures in
@@ -29,8 +14,8 @@ returns-in-Ok-clause-words c =
     named words c.named_request.result (sym (ap (λ (a : App). fault_of a words) c.in_ok-command.ensures) ∙ fits)
     (subst (λ (found : FoundSubcommand). IsNamedBy found c.named_request.result) entered c.named_request.ensures)
 
-pub returns-in-Err-clause-words : goal.returns-in-Err-clause-words
-returns-in-Err-clause-words c =
+pub returns-in-Err : goal.returns-in-Err
+returns-in-Err c =
     let words : List (List ℕ) = map (λ word. word.now) c.args.words.now in
     let P : App → Type 0 = λ a. HasKind (fault_of a words) c.in-Err.error in
     let has =

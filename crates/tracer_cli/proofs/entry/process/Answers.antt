@@ -11,6 +11,15 @@ returns-in-Err-clause-output g c = (
   c.fail.ensures.status,
 )
 
+pub returns-in-Ok-clause-asked : goal.returns-in-Ok-clause-asked
+returns-in-Ok-clause-asked g c = rw c.in-Ok.is (rw c.as_slice.ensures.value at c.program.ensures.asked)
+
+pub returns-in-Ok-clause-words : goal.returns-in-Ok-clause-words
+returns-in-Ok-clause-words g c = rw c.in-Ok.is (rw c.as_slice.ensures.value at c.program.ensures.words)
+
+pub returns-in-Ok-clause-input : goal.returns-in-Ok-clause-input
+returns-in-Ok-clause-input g c = rw c.in-Ok.is (rw c.as_slice.ensures.value at c.program.ensures.input)
+
 pub returns-in-Ok-clause-run : goal.returns-in-Ok-clause-run
 returns-in-Ok-clause-run g c = rw c.in-Ok.is (rw c.as_slice.ensures.value at c.program.ensures.run)
 

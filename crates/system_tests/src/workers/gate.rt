@@ -29,8 +29,8 @@ const TURNS: u32 = 50;
 /// For how many milliseconds each call of worker 1 is held.
 const LONG: u32 = 1_000;
 
-/// How often the root runs then: its stops are served by whoever comes first.
-const RUNS: u32 = 3;
+/// How often the root runs at most until worker 1 serves one of its stops: they are served by whoever comes first.
+const RUNS: u32 = 20;
 
 /// Waits for this many turns of a millisecond.
 fn hold<R: Clock>(rt: &R, turns: u32) {
@@ -39,15 +39,17 @@ fn hold<R: Clock>(rt: &R, turns: u32) {
     }
 }
 
-/// A gate that holds each call of worker 1.
+/// A gate that holds each call of worker 1, and counts them.
 #[derive(Drop)]
 struct Late<'a, R> {
     rt: &'a R,
+    calls: AtomicU32,
 }
 
 impl<'a, R: Clock> Gate for Late<'a, R> {
     fn between(&self, worker: u32, _tid: u32, _number: u32) {
         if worker == 1 {
+            let _before = self.calls.fetch_add(1, Ordering::SeqCst);
             hold(self.rt, LONG);
         }
     }
@@ -113,27 +115,48 @@ fn a_tracee_stays_at_a_stop_that_a_gate_holds(rt: HostRuntime) -> Result<(), Fai
     Ok(())
 }
 
-/// Whether the root's text is printed by two workers of which the second is held at each of its calls.
+/// A run of the root by two workers of which the second is held at each of its calls: whether it prints the root's
+/// text, and how often the second was held.
 fn prints_late<R: Threads + Wait + Clock + AllocGlobal + Sync>(
     rt: &R,
     seccomp: bool,
-) -> Result<bool, Fail> {
+) -> Result<(bool, u32), Fail> {
     let case = Case::read(rt.alloc(), ROOT.as_bytes())?;
     let config = Config {
         seccomp,
         workers: WORKERS,
         ..all()
     };
-    let printed = run_case(rt, rt.alloc(), &case, &config, &Late { rt })?;
-    Ok(printed.as_bytes() == ROOT_TEXT.as_bytes())
+    let gate = Late {
+        rt,
+        calls: AtomicU32::new(0),
+    };
+    let printed = run_case(rt, rt.alloc(), &case, &config, &gate)?;
+    Ok((
+        printed.as_bytes() == ROOT_TEXT.as_bytes(),
+        gate.calls.load(Ordering::SeqCst),
+    ))
+}
+
+/// Runs the root until the second worker was held, at most `RUNS` times. Whether it was, in a run that printed the
+/// root's text as each run before it did.
+fn prints_held<R: Threads + Wait + Clock + AllocGlobal + Sync>(
+    rt: &R,
+    seccomp: bool,
+) -> Result<bool, Fail> {
+    for _ in 0..RUNS {
+        let (is_right, calls) = prints_late(rt, seccomp)?;
+        if !is_right || calls > 0 {
+            return Ok(is_right);
+        }
+    }
+    Ok(false)
 }
 
 #[test]
 fn a_worker_that_is_held_for_a_second_changes_no_byte(rt: HostRuntime) -> Result<(), Fail> {
-    for _ in 0..RUNS {
-        for seccomp in [false, true] {
-            assert!(rt; prints_late(&rt, seccomp)?);
-        }
+    for seccomp in [false, true] {
+        assert!(rt; prints_held(&rt, seccomp)?);
     }
     Ok(())
 }

@@ -11,7 +11,7 @@ use crate::compare::same;
 use record_printer::{Piece, Show, Text, death_piece, piece_of};
 use refusing_allocator::RefusingAllocator;
 use std::alloc::{Allocator, Global};
-use stop_history::{LAST_NUMBER, NoMemory, Roster, Row};
+use stop_history::{LAST_NUMBER, Roster, Row};
 use stop_table::laws::a_record_is_its_rows;
 use stop_table::{GroupAlive, Taken, Tracee, Tracer, open};
 use trace_options::CallSet;
@@ -164,11 +164,7 @@ impl<A: Allocator + Copy> Party<A> {
             Taken::Nothing(_shown) => return None,
         };
         let record = claim.record();
-        let piece = if record.number <= LAST_NUMBER {
-            piece_of(alloc, record, &show())
-        } else {
-            Err(NoMemory)
-        };
+        let piece = piece_of(alloc, record, &show());
         tracer.resume(claim, how);
         let piece = piece.ok()?;
         if tracer.held() != 0 {
@@ -198,7 +194,7 @@ impl<A: Allocator + Copy> Party<A> {
         }
         match tracer.claim(0) {
             Taken::Ended { death, number } => {
-                if tracer.held() != 0 || number > LAST_NUMBER {
+                if tracer.held() != 0 {
                     return None;
                 }
                 let party = Party {

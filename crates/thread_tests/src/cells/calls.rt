@@ -1,7 +1,7 @@
 //! One thread that plays every actor.
 
 use crate::cells::cast::{Cast, Trio, open_for, open_trio, opened, stopped_trio};
-use crate::cells::desk::{Answer, CONT, Desk};
+use crate::cells::desk::{Answer, CONT, Desk, START};
 use crate::cells::runner::AtRest;
 use crate::compare::{holds, same};
 use crate::rows::{ROOT, THREAD, roots};
@@ -10,9 +10,6 @@ use std::test::Fail;
 use stop_history::Roster;
 use stop_table::{OpenError, Shown, Start};
 use trace_record::{Death, Kind, Resume, Stop};
-
-/// The status of `Stop::Start`: `PTRACE_EVENT_STOP` above `SIGTRAP` above 0x7f.
-const START: u32 = 0x80057f;
 
 const SYSCALL: Resume = Resume {
     kind: Kind::Syscall,

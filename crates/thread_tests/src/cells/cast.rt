@@ -35,9 +35,21 @@ pub(crate) fn open_for<A: Allocator + Copy>(
     requires { tracers < TRACERS }
 {
     let roster = Roster::new(alloc, rows)?;
+    let cast = open_over(alloc, roster, tracers)?;
+    Ok(cast)
+}
+
+/// New cells over a roster. The opening's refusal comes back as it is.
+pub(crate) fn open_over<A: Allocator + Copy>(
+    alloc: A,
+    roster: Roster<A>,
+    tracers: u32,
+) -> Result<Cast<A>, OpenError>
+    requires { tracers < TRACERS }
+{
     let mut ends = open(alloc, &roster, tracers + 1)?;
     let Some(unused) = ends.tracers.pop() else {
-        return Err(Fail::new("no tracer was opened"));
+        unreachable!()
     };
     Ok(Cast {
         ends,

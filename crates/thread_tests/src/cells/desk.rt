@@ -20,6 +20,9 @@ pub(crate) const CONT: Resume = Resume {
     signal: 0,
 };
 
+/// The status of `Stop::Start`: `PTRACE_EVENT_STOP` above `SIGTRAP` above 0x7f.
+pub(crate) const START: u32 = 0x80057f;
+
 /// What an attempt to claim a row answered, in a plain value.
 #[derive(Clone, Copy, Debug, PartialEq, Eq)]
 pub(crate) enum Answer {

@@ -80,7 +80,7 @@ fn waits<A: Allocator>(calls: &mut Calls<A>, pids: [i32; 2]) -> [Result<WaitStat
 }
 
 /// What a wait with WNOWAIT answers, and the number of stops and whether there is a claim after it.
-fn looked<A: Allocator>(
+pub(crate) fn looked<A: Allocator>(
     calls: &mut Calls<A>,
     more: WaitFlags,
 ) -> (Result<WaitStatus, Errno>, Option<u32>, bool) {

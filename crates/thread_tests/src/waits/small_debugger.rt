@@ -8,7 +8,7 @@ use record_printer::{Folder, Piece, Show, Text, death_piece, piece_of};
 use std::alloc::{Allocator, Global};
 use std::sync::Wait;
 use std::test::Fail;
-use stop_history::{LAST_NUMBER, Roster};
+use stop_history::Roster;
 use trace_calls::Calls;
 use trace_options::{CallSet, Errno, Filter, Options, WaitFlags, check};
 use trace_record::{Death, Stop};
@@ -50,9 +50,6 @@ fn machine_of(alloc: Global, file: &[u8]) -> Option<Machine> {
 /// The piece of the claimed stop of the root.
 fn piece(alloc: Global, calls: &Calls) -> Option<Piece> {
     let stop = calls.claimed(100)?;
-    if stop.number > LAST_NUMBER {
-        return None;
-    }
     let show = Show {
         limit: 32,
         calls: CallSet::all(),

@@ -81,22 +81,23 @@ fn random_answer(numbers: &mut RandomNumbers, call: BoardCall) -> WantedAnswer {
     let choice = numbers.below(8);
     match (call, choice) {
         (BoardCall::State, _) => WantedAnswer::State(random_state(numbers)),
-        (BoardCall::Publish(_), 0) => WantedAnswer::Refused(Refused::NotNext),
+        (_, 4) => WantedAnswer::Refused(None),
+        (BoardCall::Publish(_), 0) => WantedAnswer::Refused(Some(Refused::NotNext)),
         (BoardCall::Publish(_) | BoardCall::Exit(_), 1) => {
-            WantedAnswer::Refused(Refused::NotRunning)
+            WantedAnswer::Refused(Some(Refused::NotRunning))
         }
-        (BoardCall::Publish(_), 2) => WantedAnswer::Refused(Refused::Unborn),
+        (BoardCall::Publish(_), 2) => WantedAnswer::Refused(Some(Refused::Unborn)),
         (BoardCall::Publish(_), _) => WantedAnswer::Number(random_number(numbers)),
         (BoardCall::Look(_) | BoardCall::Claim(_), 0) => WantedAnswer::NoChild,
         (BoardCall::Look(_) | BoardCall::Claim(_) | BoardCall::Resume(..), 1) => {
             WantedAnswer::Nothing
         }
-        (BoardCall::Claim(_), 2) => WantedAnswer::Refused(Refused::NotWaitable),
+        (BoardCall::Claim(_), 2) => WantedAnswer::Refused(Some(Refused::NotWaitable)),
         (BoardCall::Look(_), _) => WantedAnswer::Saw(random_got(numbers)),
         (BoardCall::Claim(_), _) => WantedAnswer::Got(random_got(numbers)),
-        (BoardCall::Resume(..), 2) => WantedAnswer::Refused(Refused::NotClaimed),
-        (BoardCall::Resume(..), 3) => WantedAnswer::Refused(Refused::NotHolder),
-        (BoardCall::Exit(_), 2) => WantedAnswer::Refused(Refused::GroupAlive(1)),
+        (BoardCall::Resume(..), 2) => WantedAnswer::Refused(Some(Refused::NotClaimed)),
+        (BoardCall::Resume(..), 3) => WantedAnswer::Refused(Some(Refused::NotHolder)),
+        (BoardCall::Exit(_), 2) => WantedAnswer::Refused(Some(Refused::GroupAlive(1))),
         (BoardCall::Resume(..) | BoardCall::Exit(_), _) => WantedAnswer::Done,
     }
 }

@@ -4,7 +4,7 @@ use Rattle.std.specs.List.{slice_get}
 use Rattle.stop_table.specs.Opening.{new_tracee, new_tracer}
 use Rattle.stop_table.specs.Tracer.{TracerHandle}
 use Rattle.refusing_allocator.proofs.Lists.{at_end, in_front}
-use Rattle.thread_tests.proofs.cells.cast.open_for.Goals as goal
+use Rattle.thread_tests.proofs.cells.cast.open_over.Goals as goal
 
 pub invariant_of-result : goal.invariant_of-result
 invariant_of-result g c =

@@ -1,0 +1,9 @@
+pub mod Board
+pub mod Error
+pub mod Got
+pub mod Record
+pub mod Regs
+pub mod Restart
+pub mod State
+pub mod Stop
+pub mod Waited

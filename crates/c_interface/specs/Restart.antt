@@ -1,0 +1,18 @@
+-- A restart in two numbers (ptrace(2), PTRACE_CONT, PTRACE_SYSCALL).
+use Rattle.std.specs.Prelude.{◌≡◌, ℕ}
+use Rattle.trace_record.specs.declared.resume.Kind.{Kind}
+use Rattle.trace_record.specs.declared.resume.Kind.TheVariants as kind
+use Rattle.trace_record.specs.declared.resume.Resume.{Resume}
+use Rattle.c_interface.specs.declared.restart.CRestart.{CRestart}
+use Rattle.c_interface.specs.declared.restart.TheConstants.CRestart.{CONT, SYSCALL}
+
+abbrev pub restart_kind : Kind → ℕ
+restart_kind kind.Cont = CONT
+restart_kind kind.Syscall = SYSCALL
+
+abbrev pub restart_numbers : Resume → CRestart
+restart_numbers how = record { kind = restart_kind how.kind; signal = how.signal }
+
+-- no kind has this number
+abbrev pub IsOfNoKind : ℕ → Type 0
+IsOfNoKind number = (kind : Kind) → restart_kind kind ≡ number → ⊥

@@ -1,7 +1,7 @@
 //! Claims: the record of a claimed stop, which its holder may write to and must spend by a resume, and what an attempt
 //! to claim answers.
 
-ghost use Rattle.std.specs.Prelude.{◌≡◌, OnErr, OnOk};
+ghost use Rattle.std.specs.Prelude.{◌≡◌, OnErr, OnOk, length};
 ghost use Rattle.trace_pages.specs.FlatMemory.{run_end};
 ghost use Rattle.trace_pages.specs.Memory.{store_answer};
 ghost use Rattle.stop_table.specs.Claiming.{IsSameClaim};
@@ -64,7 +64,19 @@ impl<A: Allocator> Claim<A> {
         ensures err { OnErr result (self.new.stop ≡ self.old.stop) }
         ensures claim { IsSameClaim self.old self.new }
     {
-        self.stop.store(addr, bytes.as_slice())
+        self.store(addr, bytes.as_slice())
+    }
+
+    /// Stores bytes of any number in the record's memory from an address on, as `poke` does eight: all of them, or none
+    /// where an address of theirs is not mapped or lies after the last one. The fault's address is the first that is not
+    /// mapped, or 2^64 - 1 where bytes remain after the last address. No byte at all is stored at any address.
+    pub fn store(&mut self, addr: u64, bytes: &[u8]) -> Result<(), Fault>
+        ensures answer { result ≡ store_answer (run_end self.old.stop.memory addr (length bytes.now)) }
+        ensures ok { OnOk result (self.new.stop ≡ with_bytes self.old.stop addr bytes.now) }
+        ensures err { OnErr result (self.new.stop ≡ self.old.stop) }
+        ensures claim { IsSameClaim self.old self.new }
+    {
+        self.stop.store(addr, bytes)
     }
 }
 

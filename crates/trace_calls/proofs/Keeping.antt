@@ -117,6 +117,17 @@ kept_claim v w row (Some claim) k is =
       },
     )
 
+-- while the tracer only looks, all claims are kept
+pub looked_calls : {A : Type 0} (t u : TracerHandle) (rows : List Row) (held : List (Option (Claim A))) (counts : List ℕ)
+    → IsTracerHandle t → IsCalls t rows held counts → Looked t.view u.view → IsCalls u rows held counts
+looked_calls t u rows held counts is calls l = record {
+  roster = calls.roster ∙ sym l.grows.same.roster;
+  held_long = calls.held_long;
+  counts_long = calls.counts_long;
+  claims = λ row claim at.
+      kept_claim t.view u.view row claim (keeps_look t.view u.view is.mine l row) (calls.claims row claim at);
+}
+
 -- the record of a row that is claimed is that of its claim
 written_by : {A : Type 0} (v : View) (row : ℕ) (claim : Option (Claim A)) (recorded : Option Content)
     → KeepsClaim v row claim → is_held v row ≡ true → recorded ≡ record_of claim
@@ -356,11 +367,11 @@ done_run Full is = refl
 done_run (Absent address) is = cc
 done_run Top is = cc
 
-pub done_stores : (r : Result (Unit {0}) Fault) (address : ℕ) (memory : FlatMemory)
-    → r ≡ store_answer (run_end memory address 8) → r ≡ Ok tt → run_end memory address 8 ≡ Full
-done_stores r address memory answer is = done_run (run_end memory address 8) (sym answer ∙ is)
+pub done_stores : (r : Result (Unit {0}) Fault) (address count : ℕ) (memory : FlatMemory)
+    → r ≡ store_answer (run_end memory address count) → r ≡ Ok tt → run_end memory address count ≡ Full
+done_stores r address count memory answer is = done_run (run_end memory address count) (sym answer ∙ is)
 
-pub refused_faults : (r : Result (Unit {0}) Fault) (address : ℕ) (memory : FlatMemory) (fault : Fault)
-    → r ≡ store_answer (run_end memory address 8) → r ≡ Err fault → run_end memory address 8 ≡ Full → ⊥
-refused_faults r address memory fault answer is whole =
+pub refused_faults : (r : Result (Unit {0}) Fault) (address count : ℕ) (memory : FlatMemory) (fault : Fault)
+    → r ≡ store_answer (run_end memory address count) → r ≡ Err fault → run_end memory address count ≡ Full → ⊥
+refused_faults r address count memory fault answer is whole =
     let clash : Err fault ≡ Ok tt = sym is ∙ answer ∙ ap store_answer whole in cc

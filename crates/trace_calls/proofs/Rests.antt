@@ -7,7 +7,7 @@ use Rattle.stop_history.specs.declared.state.State.{State}
 use Rattle.stop_history.specs.declared.state.State.TheVariants as state
 use Rattle.stop_history.specs.Event as event
 use Rattle.stop_history.specs.Event.{Event, events_of}
-use Rattle.stop_history.specs.Over.{IsClosed, IsOver, is_gone}
+use Rattle.stop_history.specs.Over.{IsOver, is_gone}
 use Rattle.stop_history.specs.Roster.{IsRoster, row_at}
 use Rattle.stop_history.specs.State.{claimed_state, is_born, is_pending, is_waitable_for, number_in, state_after, state_in}
 use Rattle.stop_history.proofs.Over.{closed_over, over_is_gone, over_stays, selection_closed}
@@ -16,7 +16,6 @@ use Rattle.stop_table.specs.Entry.{AreLegal, Begins, Entry, history_of}
 use Rattle.stop_table.specs.View.{View}
 use Rattle.stop_table.proofs.Entries.{legal_append, history_append, legal_back}
 use Rattle.stop_history.specs.declared.selection.Selection.{Selection}
-use Rattle.stop_history.specs.declared.selection.Selection.TheVariants.{All, Tracee, Group}
 use Rattle.stop_history.specs.Selection.{IsSelected, has_parents, is_selected}
 use Rattle.trace_calls.specs.Waiting.{AreGoneForGood, SawState}
 

@@ -37,8 +37,8 @@ use Rattle.trace_calls.specs.Handle.{CallsHandle, IsCalls, KeepsClaim, KeepsClai
 use Rattle.trace_calls.specs.Scan.{IsFinding}
 use Rattle.trace_calls.specs.Settling.{AnswersStatus, CanSettle, IsReportable, Settles}
 use Rattle.trace_calls.specs.Waiting.{Found, ReportsStatus, Took}
-use Rattle.trace_calls.proofs.Keeping.{holding_held, kept_claim, keeps_beside, keeps_look, no_claim, record_set}
-use Rattle.trace_calls.proofs.Keeping.{reports_free}
+use Rattle.trace_calls.proofs.Keeping.{holding_held, kept_claim, keeps_beside, keeps_look, looked_calls}
+use Rattle.trace_calls.proofs.Keeping.{no_claim, record_set, reports_free}
 use Rattle.trace_calls.proofs.Places.{set_place}
 
 -- ---- statuses
@@ -191,8 +191,7 @@ module _ {A : Type 0} (request : WaitRequest) (rows : List Row) (t t' : TracerHa
 
   -- while the tracer makes no event
   kept_looking : Looked t.view t'.view → KeepsClaims t'.view held
-  kept_looking l row claim at =
-      kept_claim t.view t'.view row claim (keeps_look t.view t'.view is.mine l row) (calls.claims row claim at)
+  kept_looking l row claim at = (looked_calls t t' rows held counts is calls l).claims row claim at
 
   -- where it makes one of another row
   kept_beside : (at number status : ℕ) → (keeps : Bool) → keeps ≡ false

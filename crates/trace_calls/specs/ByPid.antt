@@ -109,14 +109,18 @@ IsRegsWrite a b pid regs (Err errno.EINVAL) = ⊥
 IsRegsWrite a b pid regs (Err errno.ECHILD) = ⊥
 IsRegsWrite a b pid regs (Err errno.EIO) = ⊥
 
--- all bytes of the word at an address are mapped, and they are now those of the value, the lowest first; or nothing has
--- changed
+-- all addresses of the bytes, from one on, are mapped, and these are the bytes there now; or nothing has changed
+abbrev pub IsBytesWrite : CallsHandle → CallsHandle → ℤ → ℕ → (bytes : List ℕ) → Result (Unit {0}) Errno → Type 0
+IsBytesWrite a b pid address bytes (Ok done) =
+    (row : ℕ) × HasClaimed a pid row × (run_end (claimed_record a row).memory address (length bytes) ≡ Full)
+    × (b ≡ with_record a row (with_bytes (claimed_record a row) address bytes))
+IsBytesWrite a b pid address bytes (Err errno.ESRCH) = HasNotClaimed a pid × (b ≡ a)
+IsBytesWrite a b pid address bytes (Err errno.EIO) =
+    ((row : ℕ) × HasClaimed a pid row × (run_end (claimed_record a row).memory address (length bytes) ≢ Full)) × (b ≡ a)
+IsBytesWrite a b pid address bytes (Err errno.EINVAL) = ⊥
+IsBytesWrite a b pid address bytes (Err errno.ECHILD) = ⊥
+
+-- the bytes of a word are those of its value, the lowest first
 abbrev pub IsWordWrite : CallsHandle → CallsHandle → ℤ → ℕ → (value : ℤ) → Result (Unit {0}) Errno → Type 0
-IsWordWrite a b pid address value (Ok done) =
-    (row : ℕ) × HasClaimed a pid row × (run_end (claimed_record a row).memory address WORD ≡ Full)
-    × (b ≡ with_record a row (with_bytes (claimed_record a row) address (to_le_bytes w64 (cast_unsigned w64 value))))
-IsWordWrite a b pid address value (Err errno.ESRCH) = HasNotClaimed a pid × (b ≡ a)
-IsWordWrite a b pid address value (Err errno.EIO) =
-    ((row : ℕ) × HasClaimed a pid row × (run_end (claimed_record a row).memory address WORD ≢ Full)) × (b ≡ a)
-IsWordWrite a b pid address value (Err errno.EINVAL) = ⊥
-IsWordWrite a b pid address value (Err errno.ECHILD) = ⊥
+IsWordWrite a b pid address value result =
+    IsBytesWrite a b pid address (to_le_bytes w64 (cast_unsigned w64 value)) result

@@ -1,10 +1,10 @@
 //! Waits and calls by row, which need no search of the roster. Those by pid stand on them.
 
 ghost use Rattle.std.specs.Prelude.{◌≡◌, ◌<◌, IfNone, IfSome, length};
-ghost use Rattle.stop_table.specs.Handle.{TriesOnce};
+ghost use Rattle.stop_table.specs.Handle.{IsRowOrParent, LooksAt, LooksOnce, TriesOnce};
 ghost use Rattle.trace_calls.specs.Answer.{IsRowAnswer, IsWaitRowAnswer, without_row};
 ghost use Rattle.trace_calls.specs.ByRow.{HasClaimedRow, HasNotClaimedRow, IsRowRestart};
-ghost use Rattle.trace_calls.specs.Handle.{KeepsTable, claimed_record};
+ghost use Rattle.trace_calls.specs.Handle.{KeepsRows, KeepsTable, claimed_record};
 ghost use Rattle.stop_history.specs.WaitRequest.{one_row, waitid_request};
 ghost use Rattle.trace_calls.specs.Waiting.{IsOneTry};
 
@@ -15,6 +15,7 @@ use crate::scan::scan_one;
 use crate::settle::settle;
 use std::alloc::Allocator;
 use stop_history::{Id, Selection, WaitRequest, waitid_request};
+use stop_table::Shown;
 use trace_options::{Errno, LAST_SIGNAL, WaitFlags};
 use trace_record::{Resume, StopRecord};
 use trace_status::WaitStatus;
@@ -48,6 +49,19 @@ impl<A: Allocator> Calls<A> {
         };
         let found = scan_one(&mut self.tracer, row, request);
         settle(found, &self.roster, &mut self.held, &mut self.counts)
+    }
+
+    /// The state of a row at a point of this call, as the tracer's handle shows it (`Tracer::look`). It claims nothing, and
+    /// it looks at the parent's word first, then at the row's, once each at most.
+    pub fn look(&mut self, row: u32) -> Shown
+        requires { row < length self.old.view.roster }
+        ensures table { KeepsTable self.old self.new }
+        ensures rows { KeepsRows self.old self.new }
+        ensures shown { LooksAt self.old.view self.new.view row result }
+        ensures once { LooksOnce (IsRowOrParent self.old.view.roster row) self.old.view self.new.view }
+    {
+        handle_is_legal(&self.tracer);
+        self.tracer.look(row)
     }
 
     /// `claimed` by row: the record of the stop that this caller has claimed of a row, with what the caller has written

@@ -7,8 +7,8 @@
 //!
 //! - Under their plain names the waits do not block: they act as with WNOHANG. The `_blocking` ones try again.
 //! - "No child" for all tracees or for a process group is final: none of them will ever be reported again.
-//! - `setregs` and `write` change a claimed tracee, which runs on with what they left.
-//! - `wait_row`, `claimed_row` and `restart_row` name a tracee by its row of the roster, and search for no pid.
+//! - `setregs`, `write` and `store` change a claimed tracee, which runs on with what they left.
+//! - `wait_row`, `look`, `claimed_row` and `restart_row` name a tracee by its row of the roster, and search for no pid.
 //! - No call but `Calls::new` takes memory.
 //!
 //! Which of several tracees is answered when all of them stop at once, and when a blocking wait returns, is not said.

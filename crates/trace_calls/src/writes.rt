@@ -1,7 +1,7 @@
 //! The calls by pid that write to a claimed tracee (ptrace(2)).
 
 ghost use Rattle.std.specs.Prelude.{◌≡◌};
-ghost use Rattle.trace_calls.specs.ByPid.{IsRegsWrite, IsWordWrite};
+ghost use Rattle.trace_calls.specs.ByPid.{IsBytesWrite, IsRegsWrite, IsWordWrite};
 
 use crate::calls::Calls;
 use std::alloc::Allocator;
@@ -30,14 +30,23 @@ impl<A: Allocator> Calls<A> {
     pub fn write(&mut self, pid: i32, addr: u64, value: i64) -> Result<(), Errno>
         ensures { IsWordWrite self.old self.new pid addr value result }
     {
+        let bytes = value.cast_unsigned().to_le_bytes();
+        self.store(pid, addr, bytes.as_slice())
+    }
+
+    /// Writes bytes, any number of them, to a claimed tracee from an address on: all of them, or none, in place of the
+    /// partial writes of process_vm_writev(2). ESRCH: this caller has not claimed it. EIO: one of the bytes has an address
+    /// that is not mapped, or would lie after the last address; nothing is written then.
+    pub fn store(&mut self, pid: i32, addr: u64, bytes: &[u8]) -> Result<(), Errno>
+        ensures { IsBytesWrite self.old self.new pid addr bytes.now result }
+    {
         let Some(row) = self.place(pid) else {
             return Err(Errno::ESRCH);
         };
-        let bytes = value.cast_unsigned().to_le_bytes();
         let Some(held) = &mut self.held[row as usize] else {
             return Err(Errno::ESRCH);
         };
-        let Err(_) = held.poke(addr, bytes) else {
+        let Err(_) = held.store(addr, bytes) else {
             return Ok(());
         };
         Err(Errno::EIO)

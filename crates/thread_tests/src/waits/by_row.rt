@@ -1,5 +1,6 @@
 //! Waits and calls by row.
 
+use crate::cells::desk::START;
 use crate::compare::{holds, same};
 use crate::waits::answers::{over_a_death, over_a_fork, started};
 use crate::waits::by_pid::restart_of;
@@ -12,6 +13,7 @@ use std::sync::Wait;
 use std::test::Fail;
 use std::thread;
 use std::time::Clock;
+use stop_table::Shown;
 use trace_calls::{Calls, Id, Patience, RowStatus};
 use trace_options::{Errno, WaitFlags};
 use trace_record::{Kind, Resume, Stop};
@@ -60,6 +62,41 @@ fn a_wait_by_row_reports_the_row_and_claims_it(rt: HostRuntime) -> Result<(), Fa
     let held = claims(&calls);
     same(&rt, &held, &[None, Some((101, 1)), None]);
     same(&rt, &calls.wait_row(Id::Pid(101), stops), &Ok(None));
+    let _tracer = end(&rt, calls, &[101]);
+    Ok(())
+}
+
+/// What a look at a row shows, or None if the roster has no such row.
+fn shown<A: Allocator>(calls: &mut Calls<A>, row: u32) -> Option<Shown> {
+    if row >= calls.rows() {
+        return None;
+    }
+    Some(calls.look(row))
+}
+
+#[test]
+fn a_look_shows_a_row_and_claims_nothing(rt: HostRuntime) -> Result<(), Fail> {
+    // Row 0 is the parent, 100, at its fork; row 1 its child, 101, at its start.
+    let mut calls = over_a_fork(rt.alloc())?;
+    // PTRACE_EVENT_FORK is 1, above SIGTRAP above 0x7f.
+    let forked = Shown::Stopped {
+        number: 1,
+        status: 0x1057f,
+    };
+    let started = Shown::Stopped {
+        number: 1,
+        status: START,
+    };
+    same(&rt, &shown(&mut calls, 0), &Some(forked));
+    same(&rt, &shown(&mut calls, 1), &Some(started));
+    same(&rt, &shown(&mut calls, 2), &None);
+    same(&rt, &claims(&calls), &[None; 3]);
+    same(&rt, &calls.count(101), &Some(0));
+    let stops = WaitFlags::WSTOPPED;
+    same(&rt, &calls.wait_row(Id::Pid(101), stops), &start_of(1, 101));
+    let claimed = Shown::Claimed { number: 1 };
+    same(&rt, &shown(&mut calls, 1), &Some(claimed));
+    same(&rt, &claims(&calls), &[None, Some((101, 1)), None]);
     let _tracer = end(&rt, calls, &[101]);
     Ok(())
 }

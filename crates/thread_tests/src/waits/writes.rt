@@ -140,6 +140,34 @@ fn a_write_is_whole_or_not_done(rt: HostRuntime) -> Result<(), Fail> {
     Ok(())
 }
 
+#[test]
+fn bytes_are_stored_all_or_none(rt: HostRuntime) -> Result<(), Fail> {
+    let mut calls = over_pages(rt.alloc())?;
+    let (eio, esrch) = (Err(Errno::EIO), Err(Errno::ESRCH));
+    // Over a page's end into the next page, into a hole, at the last three bytes of all, and beyond.
+    let places = [
+        0x10fff,
+        0x11ffe,
+        0xffff_ffff_ffff_fffd,
+        0xffff_ffff_ffff_fffe,
+    ];
+    let stored = places.map(|at| calls.store(100, at, &[1, 2, 3]));
+    same(&rt, &stored, &[Ok(()), eio, Ok(()), eio]);
+    // No byte has no address that may be missing.
+    same(&rt, &calls.store(100, 0, &[]), &Ok(()));
+    same(&rt, &calls.store(999, 0x10000, &[]), &esrch);
+    same(&rt, &calls.read(100, 0x10ff8), &Ok(0x0100_0000_0000_0000));
+    same(&rt, &calls.read(100, 0x11000), &Ok(0x0302));
+    same(&rt, &calls.read(100, 0x11ff8), &Ok(0));
+    same(
+        &rt,
+        &calls.read(100, 0xffff_ffff_ffff_fff8),
+        &Ok(0x0302_0100_0000_0000),
+    );
+    let _tracer = end(&rt, calls, &[100]);
+    Ok(())
+}
+
 /// A tracer's thread: it waits for the start of the root, writes, and lets it run on. Then it answers what `rbx` and the
 /// first word of the page are at the next stop; None where there was no memory.
 fn write_and_read<R: Wait + Clock>(

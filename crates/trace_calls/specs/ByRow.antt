@@ -1,13 +1,30 @@
 -- The calls by row (ptrace(2)): the row must be stopped and claimed by the caller.
-use Rattle.std.specs.Prelude.{◌≡◌, ◌<◌, ◌≤◌, ℕ, true, false, List, None, Result, Ok, Err, length, slice_set}
+use Rattle.std.specs.Prelude.{◌≡◌, ◌<◌, ◌≤◌, ℕ, true, false, List, Option, None, Result, Ok, Err, length, option_map}
+use Rattle.std.specs.Prelude.{slice_set}
 use Rattle.trace_options.specs.declared.errno.Errno.{Errno}
 use Rattle.trace_options.specs.declared.errno.Errno.TheVariants as errno
 use Rattle.trace_options.specs.declared.signal.TheConstants.{LAST_SIGNAL}
 use Rattle.trace_record.specs.declared.resume.Resume.{Resume as Restart}
+use Rattle.trace_options.specs.declared.wait_flags.WaitFlags.{WaitFlags}
+use Rattle.stop_history.specs.declared.id.Id.TheVariants as ids
+use Rattle.stop_history.specs.declared.roster.Row.{Row}
+use Rattle.stop_history.specs.declared.selection.Selection.{Selection}
+use Rattle.stop_history.specs.declared.selection.Selection.TheVariants.{Tracee}
+use Rattle.stop_history.specs.declared.wait_request.WaitRequest.{WaitRequest}
+use Rattle.stop_history.specs.Roster.{row_at}
+use Rattle.stop_history.specs.WaitRequest.{waitid_request}
 use Rattle.stop_table.specs.Entry.{Entry, resume_of}
 use Rattle.stop_table.specs.Handle.{EndsWith}
 use Rattle.stop_table.specs.Tracer.{is_held}
 use Rattle.trace_calls.specs.Handle.{CallsHandle, claimed_record}
+
+-- what a wait asks for, asked of these tracees
+abbrev pub asked_of : Selection → WaitRequest → WaitRequest
+asked_of selection request = record { selection = selection; deaths = request.deaths; keeps = request.keeps }
+
+-- what waitid(2) asks for with these flags, asked of the tracee of a row
+abbrev pub row_request : List Row → (row : ℕ) → WaitFlags → Option WaitRequest
+row_request rows row flags = option_map (asked_of (Tracee (row_at rows row).tid)) (waitid_request ids.All flags)
 
 -- a row of the roster that the caller has claimed
 abbrev pub HasClaimedRow : CallsHandle → ℕ → Type 0

@@ -3,7 +3,7 @@
 ghost use Rattle.std.specs.Prelude.{◌≡◌, ◌<◌, IfNone, IfSome, length};
 ghost use Rattle.stop_table.specs.Handle.{IsRowOrParent, LooksAt, LooksOnce, TriesOnce};
 ghost use Rattle.trace_calls.specs.Answer.{IsRowAnswer, IsWaitRowAnswer, without_row};
-ghost use Rattle.trace_calls.specs.ByRow.{HasClaimedRow, HasNotClaimedRow, IsRowRestart};
+ghost use Rattle.trace_calls.specs.ByRow.{HasClaimedRow, HasNotClaimedRow, IsRowRestart, row_request};
 ghost use Rattle.trace_calls.specs.Handle.{KeepsRows, KeepsTable, claimed_record};
 ghost use Rattle.stop_history.specs.WaitRequest.{one_row, waitid_request};
 ghost use Rattle.trace_calls.specs.Waiting.{IsOneTry};
@@ -31,6 +31,26 @@ impl<A: Allocator> Calls<A> {
             return Err(Errno::EINVAL);
         };
         self.wait(request)
+    }
+
+    /// `wait_row` for the tracee of one row, which needs no thread id. EINVAL: neither WEXITED nor WSTOPPED, or WCONTINUED.
+    /// ECHILD: the row is unborn or reaped, or dead and WEXITED is not given.
+    pub fn wait_at(&mut self, row: u32, flags: WaitFlags) -> Result<Option<RowStatus>, Errno>
+        requires { row < length self.old.view.roster }
+        ensures table { KeepsTable self.old self.new }
+        ensures answer { IsWaitRowAnswer (row_request self.old.view.roster row flags) self.old self.new result }
+        ensures once { IfSome (row_request self.old.view.roster row flags) (λ request.
+            IsOneTry request self.old.view self.new.view) }
+    {
+        let Some(request) = waitid_request(Id::All, flags) else {
+            return Err(Errno::EINVAL);
+        };
+        let selection = Selection::Tracee(self.roster.row(row).tid);
+        self.wait(WaitRequest {
+            selection,
+            deaths: request.deaths,
+            keeps: request.keeps,
+        })
     }
 
     /// `wait_row` for the tracee of one row, with WEXITED and WNOHANG, without a search: its stop is claimed, or its death

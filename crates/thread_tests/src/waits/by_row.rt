@@ -128,6 +128,45 @@ fn a_wait_for_one_row_claims_that_row_alone(rt: HostRuntime) -> Result<(), Fail>
     Ok(())
 }
 
+/// The answer of a wait for one row with these flags, or None if the roster has no such row.
+fn waited_at<A: Allocator>(
+    calls: &mut Calls<A>,
+    row: u32,
+    flags: WaitFlags,
+) -> Option<Result<Option<RowStatus>, Errno>> {
+    if row >= calls.rows() {
+        return None;
+    }
+    Some(calls.wait_at(row, flags))
+}
+
+#[test]
+fn a_wait_for_one_row_takes_flags(rt: HostRuntime) -> Result<(), Fail> {
+    // Row 0 is the parent, 100, at its fork; row 1 its child, 101, at its start.
+    let mut calls = over_a_fork(rt.alloc())?;
+    let stops = WaitFlags::WSTOPPED;
+    let mut peek = stops;
+    peek.insert(WaitFlags::WNOWAIT);
+    for _ in 0..2 {
+        same(
+            &rt,
+            &waited_at(&mut calls, 1, peek),
+            &Some(start_of(1, 101)),
+        );
+    }
+    same(&rt, &claims(&calls), &[None; 3]);
+    same(
+        &rt,
+        &waited_at(&mut calls, 1, stops),
+        &Some(start_of(1, 101)),
+    );
+    same(&rt, &claims(&calls), &[None, Some((101, 1)), None]);
+    let nohang = waited_at(&mut calls, 0, WaitFlags::WNOHANG);
+    same(&rt, &nohang, &Some(Err(Errno::EINVAL)));
+    let _tracer = end(&rt, calls, &[101]);
+    Ok(())
+}
+
 #[test]
 fn a_wait_for_one_row_reaps_its_death(rt: HostRuntime) -> Result<(), Fail> {
     let mut calls = over_a_death(rt.alloc())?;

@@ -14,8 +14,8 @@ invariant_of-result g c =
     let same = ap (λ (x : TracerHandle). x.table_id)
     (opened.4 (length left) c.in-Some.unused (ap (λ xs. slice_get xs (length left)) items ∙ at_end left c.in-Some.unused)) in
     record {
-      tracees = λ k e at. opened.3 k e at ∙ ap (λ id. new_tracee id c.in_ok-roster.roster k) (sym same);
+      tracees = λ k e at. opened.3 k e at ∙ ap (λ id. new_tracee id c.args.roster k) (sym same);
       tracers = λ k e at. opened.4 k e
           (ap (λ xs. slice_get xs k) items ∙ in_front left (c.in-Some.unused ∷ []) k e at)
-          ∙ ap (λ id. new_tracer id c.in_ok-roster.roster k) (sym same);
+          ∙ ap (λ id. new_tracer id c.args.roster k) (sym same);
     }

@@ -3,3 +3,4 @@
 mod case;
 mod growth;
 mod machine;
+mod settings;

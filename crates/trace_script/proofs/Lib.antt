@@ -2,6 +2,7 @@ pub mod Births
 pub mod ByteWords
 pub mod CaseBack
 pub mod Cases
+pub mod ChildrenLeft
 pub mod Deaths
 pub mod Fills
 pub mod FourteenWords
@@ -18,6 +19,7 @@ pub mod ReadFacts
 pub mod Refusals
 pub mod Reloads
 pub mod RowsBack
+pub mod Settings
 pub mod StepActs
 pub mod StepFacts
 pub mod Steps

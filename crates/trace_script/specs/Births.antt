@@ -1,6 +1,7 @@
 -- The children of a tracee: those that its script creates, and those that its stops name (ptrace(2),
 -- PTRACE_EVENT_FORK, PTRACE_EVENT_CLONE). And acts whose stops and deaths are ones that a tracee can have.
 use Rattle.std.specs.Prelude.{◌≡◌, ◌∷◌, ◌++◌, [], ℕ, Bool, true, false, List, Option, Some, None, if◌then◌else◌}
+use Rattle.std.specs.List.{filter_map}
 use Rattle.trace_options.specs.declared.options.TheConstants.Options.{TRACECLONE, TRACEFORK}
 use Rattle.trace_record.specs.Death.{IsDeath}
 use Rattle.trace_record.specs.Stop.{IsStop, child_of}
@@ -61,6 +62,15 @@ children_reported s (Answers answer ∷ acts) = children_reported s acts
 children_reported s (Delivers ∷ acts) = children_reported s acts
 children_reported s (Exits death ∷ acts) = children_reported s acts
 children_reported s (Dies death ∷ acts) = children_reported s acts
+
+-- the child that a stop at a place would name
+abbrev pub child_at : Act → Option ℕ
+child_at (Halts when at) = child_of at
+child_at other = None
+
+-- the children that acts create, in order, whether stops name them or not
+abbrev pub children_left : List Act → List ℕ
+children_left acts = filter_map child_at acts
 
 -- a stop that names a child comes by an option alone
 abbrev pub NamesByOption : When → Option ℕ → Type 0

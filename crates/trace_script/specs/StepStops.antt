@@ -6,6 +6,7 @@ use Rattle.std.specs.Prelude.{if◌then◌else◌}
 use Rattle.std.specs.Int.RustNames.{bit_and}
 use Rattle.trace_options.specs.Calls.{has_call}
 use Rattle.trace_options.specs.Options.{option_bits}
+use Rattle.trace_options.specs.declared.filter.Filter.{Filter}
 use Rattle.trace_options.specs.declared.options.Options.{Options}
 use Rattle.trace_options.specs.declared.options.TheConstants.Options.{TRACEFORK, TRACECLONE, TRACEEXEC, TRACESECCOMP}
 use Rattle.trace_record.specs.declared.death.Death.{Death}
@@ -149,3 +150,14 @@ acts_of_steps s (step ∷ steps) = acts_of s step ++ acts_of_steps s steps
 -- the whole script: its program is loaded, and the tracee's first stop is made
 abbrev pub acts_of_script : Setting → Script → List Act
 acts_of_script s script = Loads script.image ∷ Halts Always stop.Start ∷ acts_of_steps s script.steps
+
+-- ---- another filter
+
+-- a stop by this filter: a seccomp stop has its data (seccomp(2), SECCOMP_RET_TRACE)
+abbrev pub stop_by : Filter → Stop → Stop
+stop_by filter (stop.Seccomp ret_data) = stop.Seccomp filter.ret_data
+stop_by filter other = other
+
+abbrev pub act_by : Filter → Act → Act
+act_by filter (Halts when at) = Halts when (stop_by filter at)
+act_by filter other = other

@@ -1,7 +1,9 @@
 -- The stop trace of a script: what comes next at a position, for the restart and the content that the tracee takes up,
 -- and from it the whole list of stops and the death under a restart policy (ptrace(2), "Stopped states").
-use Rattle.std.specs.Prelude.{◌≡◌, ◌==◌, ◌+◌, ◌∷◌, [], ℕ, false, List, Result, Ok, Err, length, if◌then◌else◌}
+use Rattle.std.specs.Prelude.{◌≡◌, ◌==◌, ◌+◌, ◌∷◌, [], ℕ, false, List, Result, Ok, Err, length, map, if◌then◌else◌}
 use Rattle.std.specs.FinMap as finite
+use Rattle.trace_options.specs.declared.filter.Filter.{Filter}
+use Rattle.trace_options.specs.declared.options.Options.{Options}
 use Rattle.trace_options.specs.declared.options.TheConstants.Options.{TRACEEXIT}
 use Rattle.trace_pages.specs.FlatMemory.{FlatMemory, run_end, stored}
 use Rattle.trace_pages.specs.Memory.{store_answer}
@@ -17,7 +19,7 @@ use Rattle.trace_record.specs.declared.stop.Stop.TheVariants as stop
 use Rattle.trace_script.specs.Registers.{first_regs, with_answer, with_call, with_start}
 use Rattle.trace_script.specs.Script.{Script}
 use Rattle.trace_script.specs.StepStops.{Act, Halts, Loads, Calls, Becomes, Stores, Answers, Delivers, Exits, Dies}
-use Rattle.trace_script.specs.StepStops.{acts_of_script, halts, has_option}
+use Rattle.trace_script.specs.StepStops.{act_by, acts_of_script, halts, has_option}
 use Rattle.trace_script.specs.declared.setting.Setting.{Setting}
 
 -- what a tracee computes with
@@ -97,6 +99,17 @@ position s number left = record { setting = s; number = number; left = left }
 
 abbrev pub opening_position : Setting → Script → Position
 opening_position s script = position s 0 (acts_of_script s script)
+
+-- a position from which the tracee stops by other options (ptrace(2), PTRACE_SETOPTIONS)
+abbrev pub under_options : Options → Position → Position
+under_options options p =
+    position (record { tid = p.setting.tid; options = options; filter = p.setting.filter }) p.number p.left
+
+-- a position from which another filter stops its calls (seccomp(2), SECCOMP_RET_TRACE)
+abbrev pub under_filter : Filter → Position → Position
+under_filter filter p =
+    position (record { tid = p.setting.tid; options = p.setting.options; filter = filter }) p.number
+    (map (act_by filter) p.left)
 
 -- the next element of a trace
 pub data Element : Type 0 where

@@ -7,6 +7,7 @@
 //! on, and the place in that one; from the exit on, the death. That no number of a stop that is left passes the
 //! last one is the type's invariant.
 
+mod births;
 mod calls;
 pub(crate) mod next;
 mod progress;

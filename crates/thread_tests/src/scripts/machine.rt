@@ -12,7 +12,7 @@ use trace_script::{Case, Machine, Next};
 pub(crate) const FORK: &[u8] = b"tracee 100 100 77 0\npage 0x10000\ndata 0x10000 68690a\n\
     call write 1 0x10000 3 = 3\nfork 101\nexit 3\nend\ntracee 101 101 77 100\nexit 0\nend\n";
 
-const SYSCALL: Resume = Resume {
+pub(crate) const SYSCALL: Resume = Resume {
     kind: Kind::Syscall,
     signal: 0,
 };

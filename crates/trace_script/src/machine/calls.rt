@@ -7,17 +7,20 @@ ghost use Rattle.trace_record.specs.Content.{content_by};
 ghost use Rattle.trace_record.specs.declared.death.Death.{Death};
 ghost use Rattle.trace_record.specs.declared.stop.Stop.TheVariants as stop;
 ghost use Rattle.trace_script.specs.Arrivals.{reached};
+ghost use Rattle.trace_script.specs.Births.{ReportsBirths, children_left, children_reported};
 ghost use Rattle.trace_script.specs.CaseFile.{script_at};
 ghost use Rattle.trace_script.specs.Kept.{script_of};
 ghost use Rattle.trace_script.specs.Left.{left_in};
 ghost use Rattle.trace_script.specs.Machine.{IsAnswer, IsAtDeath, StaysAtStop};
 ghost use Rattle.trace_script.specs.Registers.{first_regs};
 ghost use Rattle.trace_script.specs.StopTrace.{advance, context_of, next_element, next_position, opening_position};
+ghost use Rattle.trace_script.specs.StopTrace.{under_filter, under_options};
 ghost use Rattle.trace_script.specs.declared.step.effect.Reached.TheVariants as reached_at;
 
 use crate::case::Case;
 use crate::limits::MOST_STEPS;
 use crate::machine::Machine;
+use crate::machine::births::births_by;
 use crate::machine::next::Next;
 use crate::machine::progress::Progress;
 use crate::script::copies::{copy_image, copy_steps};
@@ -149,6 +152,39 @@ impl<A: Allocator> Machine<A> {
             }
             Progress::Ended(death) => Next::Death(death),
         }
+    }
+}
+
+impl<A: Allocator> Machine<A> {
+    /// Sets the options that the tracee stops by from its next stop on (ptrace(2), `PTRACE_SETOPTIONS`). They are ones
+    /// that a tracer takes (`check`). What is left of the script stays the same, and so does the number of the last stop.
+    /// Where they report births, stops name all the children that are left.
+    pub fn set_options(&mut self, options: Options)
+        requires { AreValidOptions (option_bits options) }
+        ensures position { self.new ≡ under_options options self.old }
+        ensures births { ReportsBirths self.new.setting →
+            children_reported self.new.setting self.new.left ≡ children_left self.old.left }
+    {
+        self.setting.options = options;
+    }
+
+    /// Sets the filter that stops the tracee's calls from its next stop on: each seccomp stop has the data of the new one
+    /// (seccomp(2), `SECCOMP_RET_TRACE`). What is left of the script stays the same otherwise, and so does the number of
+    /// the last stop.
+    pub fn set_filter(&mut self, filter: &Filter)
+        ensures { self.new ≡ under_filter filter.now self.old }
+    {
+        self.setting.filter = *filter;
+    }
+
+    /// How many children the script creates from the machine's place on, whether a stop names them or not
+    /// (`PTRACE_EVENT_FORK`, `PTRACE_EVENT_CLONE`). A birth is past once the tracee has come to its event, or would have
+    /// stopped there. Steps after an exit of the script's are counted too, until it exits; after that it is 0.
+    pub fn births_left(&self) -> u32
+        ensures { result ≡ length (children_left self.now.left) }
+    {
+        let births = births_by(self.progress, self.steps.as_slice());
+        births as u32
     }
 }
 

@@ -7,8 +7,8 @@ use Rattle.raw_box.proofs.Walks.{enter, alloc_all, pass_all, free_all, look_at, 
 use Rattle.raw_box.proofs.Walks.{whole, fact, tables, RawPtr, no, layout, bounded, Ptr, plain, nothing, only, heard}
 use Rattle.raw_box.proofs.Walks.{Tuple, calls_at, Lasts, lasts, triple_of, framed, Stays, stay_dropped, walk_of}
 use Rattle.raw_box.proofs.Walks.{ends_at}
-use Rattle.raw_box.proofs.RawBoxes.{pointer_typed, box_typed, Raw, of_parts, owned, typed, apart, together}
-use Rattle.std.proofs.BoxSteps.Form.{Bx, D, P, B}
+use Rattle.raw_box.proofs.RawBoxes.{pointer_typed, box_typed, alloc_of, Raw, of_parts, owned, typed, apart, together}
+use Rattle.std.proofs.BoxSteps.Form.{Bx, D, R, P, B}
 use Rattle.std.specs.contracts.boxed.Box.into_raw_with_allocator as g
 use Rattle.std.proofs.boxed.Box.into_raw_with_allocator.Met.{met}
 use Rattle.raw_box.specs.contracts.raw_box.RawBox.of as f
@@ -18,7 +18,7 @@ use Rattle.raw_box.proofs.raw_box.RawBox.of.Code as code
 pub of_spec : {M : Type 1} → statement M
 of_spec 𝓤 𝓛 𝓜 𝓡 wired T A LT LA ghosts d dx dd allocator glue glued =
     let E : Bx = record { row = T; laws = LT; al = record { row = A; laws = LA; g = ghosts; d = d; drops = dd } } in
-    let args = bounded (a_type ∷ a_type ∷ []) (T, (A, tt)) (dcons d (dcons dx (dcons dd dnil))) in
+    let Z = alloc_of E in let args = bounded (a_type ∷ a_type ∷ []) (T, (A, tt)) (dcons d (dcons dx (dcons dd dnil))) in
     let fn = inst_fn args code.function in let 𝓣 = tables 𝓤 𝓛.H 𝓜 𝓡 𝓡.env in
     let Ge = g.ended T A ghosts d dd dx in
     let G = triple_of 𝓛 (g.signature T A ghosts d dd dx) (g.spec T A ghosts d dd dx 𝓛 𝓜.mem 𝓡.returns) in
@@ -41,20 +41,20 @@ of_spec 𝓤 𝓛 𝓜 𝓡 wired T A LT LA ghosts d dx dd allocator glue glued 
     calls_at ! (framed 𝓤 𝓛.H 𝓜 𝓣) G g_met (z (has.0 ∷ [])) (and_then ! (get ! refl) (no_more !)) (λ u.
     use1 𝓛 (later (some (λ (r : Ptr × A.Denot). (tokens ⊛ ‵ (Pair.own_val r (u ∷ []))) ⊛
     some (λ (ws : Lasts Ge κs (v, tt)). ‵ (lasts Ge κs (v, tt) ws) ⊛ raw (fact 𝓤 (r.1 ≡ v.alloc))
-    ⊛ ‵ (owned E r.0 v.alloc v.value))))) (id⊢ 𝓤 _) $
+    ⊛ ‵ (owned (R E) Z r.0 v.alloc v.value))))) (id⊢ 𝓤 _) $
     await ! tt $ pick ! (λ r. split ! $ split ! $ move ! (2 ∷ []) $ pick ! (λ ws. split3 ! $ drop ! $
     heard ! (r.1 ≡ v.alloc) (λ same.
     -- [what the box owned; the tokens; the pair]
-    rewrite ! 0 (λ (a : A.Denot). ‵ (owned E r.0 a v.value)) (sym same) refl $ move ! (2 ∷ 0 ∷ []) $ fjoin ! $
-    use1 𝓛 (‵ ((Raw E).own_val (of_parts E r.0 r.1 v.value) (u ∷ []))) (id⊢ 𝓤 _) $
-    apart E ! (of_parts E r.0 r.1 v.value) (u ∷ []) (λ h us fits. let good = typed E r.0 h fits in
+    rewrite ! 0 (λ (a : A.Denot). ‵ (owned (R E) Z r.0 a v.value)) (sym same) refl $ move ! (2 ∷ 0 ∷ []) $ fjoin ! $
+    use1 𝓛 (‵ ((Raw (R E) Z).own_val (of_parts (R E) Z r.0 r.1 v.value) (u ∷ []))) (id⊢ 𝓤 _) $
+    apart (R E) Z ! (of_parts (R E) Z r.0 r.1 v.value) (u ∷ []) (λ h us fits. let good = typed Z r.0 h fits in
     lands_as ! (ap only us) refl good $
     sets ! (of_opd ! (get_in ! (fld ! refl (stop !)) (sub ! 0 refl (whole !)))) refl (pointer_typed r.0) $
     sets ! (of_opd ! (get_in ! (fld ! refl (stop !)) (sub ! 1 refl (whole !)))) refl fits $
     sets ! (of_opd ! (get ! refl)) refl fits $
     sets ! (agg ! (and_then ! (get ! refl) (and_then ! (get ! refl) (no_more !)))) refl good $
-    returns ! (look_at ! 0 refl) $ free_all ! refl $ together E ! r.0 h r.1 v.value $
+    returns ! (look_at ! 0 refl) $ free_all ! refl $ together (R E) Z ! r.0 h r.1 v.value $
     -- [the raw box; the tokens]
-    suffices ! _ (ends_at 𝓛 Fe stayed c y _ (of_parts E r.0 r.1 v.value) ((tt, (tt, tt)), tt) (tt, tt)) $
+    suffices ! _ (ends_at 𝓛 Fe stayed c y _ (of_parts (R E) Z r.0 r.1 v.value) ((tt, (tt, tt)), tt) (tt, tt)) $
     says_two ! (refl, same) $
     nothing ! $ nothing ! $ fjoin ! $ join ! $ move ! (1 ∷ 0 ∷ []) $ join ! $ done !)))))))

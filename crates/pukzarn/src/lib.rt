@@ -1,0 +1,6 @@
+//! Handles.
+#![tactic(auto)]
+
+mod end;
+mod handle;
+mod slot;

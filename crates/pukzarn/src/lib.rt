@@ -3,4 +3,6 @@
 
 mod end;
 mod handle;
+mod record;
+mod scratch;
 mod slot;

@@ -1,0 +1,40 @@
+//! Scratch.
+
+ghost use Rattle.std.specs.Prelude.{◌≡◌};
+ghost use Rattle.pukzarn.specs.Scratch.{IsNewRecord, error_number};
+
+#[derive(Clone, Copy, Debug, PartialEq, Eq, Hash)]
+pub enum Error {
+    EBADF,
+    ENOMEM,
+    EBUSY,
+    EINVAL,
+}
+
+impl Error {
+    pub fn number(self) -> u16
+        ensures { result ≡ error_number self }
+    {
+        match self {
+            Error::EBADF => 9,
+            Error::ENOMEM => 12,
+            Error::EBUSY => 16,
+            Error::EINVAL => 22,
+        }
+    }
+}
+
+pub fn record_open(tid: u32) -> Result<u64, Error>
+    ensures { IsNewRecord tid result }
+{
+    if tid == 0 {
+        return Err(Error::EINVAL);
+    }
+    Ok(u64::from(tid))
+}
+
+pub fn record_message(stopped: &u64) -> u64
+    ensures { result ≡ stopped.now }
+{
+    *stopped
+}

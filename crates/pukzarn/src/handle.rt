@@ -56,31 +56,3 @@ impl Handle {
         };
     }
 }
-
-ghost use Rattle.pukzarn.specs.Call.{IsKept, refusal};
-use crate::scratch::Error;
-
-/// The negative number of an error.
-pub fn refusal(why: Error) -> i32
-    ensures { result ≡ refusal why }
-{
-    -i32::from(why.number())
-}
-
-impl Handle {
-    /// Puts a new end in, unless it could not be made, or there is no memory for it.
-    pub fn keep(&mut self, alloc: Global, made: Result<End, Error>) -> i32
-        requires { self.now.slot.value ≡ None }
-        ensures { IsKept made self.new.slot.value result }
-    {
-        let end = match made {
-            Ok(end) => end,
-            Err(why) => return refusal(why),
-        };
-        let Ok(boxed) = Box::new(alloc, end) else {
-            return refusal(Error::ENOMEM);
-        };
-        self.fill(boxed);
-        0
-    }
-}

@@ -1,6 +1,7 @@
 //! Handles.
 #![tactic(auto)]
 
+mod answer;
 mod end;
 mod handle;
 mod record;

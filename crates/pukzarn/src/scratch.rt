@@ -1,7 +1,7 @@
 //! Scratch.
 
 ghost use Rattle.std.specs.Prelude.{◌≡◌};
-ghost use Rattle.pukzarn.specs.Scratch.{IsNewRecord, error_number};
+ghost use Rattle.pukzarn.specs.Scratch.{IsAdded, IsNewRecord, error_number};
 
 #[derive(Clone, Copy, Debug, PartialEq, Eq, Hash)]
 pub enum Error {
@@ -37,4 +37,14 @@ pub fn record_message(stopped: &u64) -> u64
     ensures { result ≡ stopped.now }
 {
     *stopped
+}
+
+pub fn add(stopped: &mut u64, more: u32) -> Result<(), Error>
+    ensures { IsAdded stopped.old stopped.new more result }
+{
+    if *stopped > 1000 {
+        return Err(Error::EINVAL);
+    }
+    *stopped += u64::from(more);
+    Ok(())
 }

@@ -1,8 +1,8 @@
 -- What a call answers on a handle that holds a before it and b after it.
 use Rattle.std.specs.Prelude.{◌≡◌, ◌⊎◌, ℕ, ℤ, pos, neg_ℤ, Option, None, Some, Result, Ok, Err}
-use Rattle.pukzarn.specs.Scratch.{error_number}
-use Rattle.pukzarn.specs.declared.scratch.Error.{Error}
-use Rattle.pukzarn.specs.declared.scratch.Error.TheVariants as error
+use Rattle.c_interface.specs.Error.{error_number}
+use Rattle.c_interface.specs.declared.error.Error.{Error}
+use Rattle.c_interface.specs.declared.error.Error.TheVariants as error
 use Rattle.pukzarn.specs.declared.end.End.{End}
 use Rattle.pukzarn.specs.declared.handle.Handle.{Handle}
 

@@ -1,10 +1,14 @@
-//! The ends that C holds.
+//! What C holds.
 
 use std::alloc::Global;
+use stop_board::Board;
+use trace_record::StopRecord;
 
-/// What a handle holds while it is open.
+/// What a handle holds while it is open: one of the ends that C works with.
 #[derive(Drop)]
 pub enum End {
-    Number(u64),
-    Bytes(Vec<u8, Global>),
+    /// A stop's record, by itself.
+    Stopped(StopRecord<Global>),
+    /// A board of one thread.
+    Board(Board<Global>),
 }

@@ -1,6 +1,6 @@
-//! What C holds: a struct of two words, which owns an end while it is open.
+//! What C keeps: a struct of two words, which owns an end while it is open.
 
-ghost use Rattle.std.specs.Prelude.{◌≡◌, None, Some, is_some, ◌==◌, MatchOption};
+ghost use Rattle.std.specs.Prelude.{◌≡◌, ◌==◌, None, Some, MatchOption, is_some};
 ghost use Rattle.pukzarn.specs.declared.handle.TheConstants.{LIVE};
 
 use crate::end::End;
@@ -9,11 +9,11 @@ use raw_box::RawBox;
 use std::alloc::Global;
 use std::mem::replace;
 
-/// The first word of a handle that is open. It is neither 0 nor what memory that was never written is likely to hold, so
-/// that such memory is not taken for an open handle.
-pub const LIVE: u64 = 0x6E72_617A_6B75_7001;
+/// The first word of an open handle. It is no number that memory is likely to hold by chance, so a struct that was never
+/// set to 0 is not taken for an open handle.
+pub const LIVE: u64 = 0x70C5_9A3E_D41B_6F27;
 
-/// A handle. It is closed while its first word is not `LIVE`.
+/// A handle. It is open while its first word is `LIVE`, and closed at any other, as at 0.
 #[repr(C)]
 #[derive(Drop)]
 pub struct Handle {
@@ -23,6 +23,16 @@ pub struct Handle {
 }
 
 impl Handle {
+    /// A handle that holds nothing.
+    pub fn closed() -> Handle
+        ensures { result.slot.value ≡ None }
+    {
+        Handle {
+            live: 0,
+            slot: Slot::empty(),
+        }
+    }
+
     /// Whether it holds an end.
     pub fn is_open(&self) -> bool
         ensures { result ≡ is_some self.now.slot.value }
@@ -38,15 +48,11 @@ impl Handle {
         if self.live != LIVE {
             return None;
         }
-        let closed = Handle {
-            live: 0,
-            slot: Slot::empty(),
-        };
-        let Handle { live: _, slot } = replace(self, closed);
+        let Handle { live: _, slot } = replace(self, Handle::closed());
         Some(slot.into_raw(alloc).into_box())
     }
 
-    /// Puts an end in.
+    /// Puts an end in. What it held before is lost, not freed: the handle is to be closed.
     pub fn fill(&mut self, end: Box<End, Global>)
         ensures { self.new.slot.value ≡ Some end.value }
     {

@@ -1,6 +1,8 @@
 //! The place of what a handle holds.
 
+ghost use Rattle.std.specs.Coded.{codes};
 ghost use Rattle.std.specs.Prelude.{◌≡◌, Option, None, Some, is_some, true};
+ghost use Rattle.trace_pages.specs.FlatMemory.{flat_code};
 ghost use Rattle.pukzarn.specs.declared.end.End.{End};
 
 use crate::end::End;
@@ -9,12 +11,12 @@ use std::alloc::Global;
 use std::marker::Model;
 use std::ptr::null_mut;
 
-/// The place of an end on the heap, or of none. It is one word for C, which sees no `Box`.
+/// The place of an end on the heap, or of none. It is one word for C, which cannot be shown a `Box`.
 #[repr(C)]
 #[derive(Drop)]
 pub struct Slot {
     at: *mut u8,
-    pub ghost value: { Option End },
+    pub ghost value: { Option End } by { Prim.hlevel (codes, flat_code) },
 }
 
 impl Model for Slot {

@@ -19,8 +19,10 @@ stayed = (stay_dropped (plain (λ _. S)) yes, (stay_dropped (plain (λ _. Z.row)
 pub into_raw_spec : {M : Type 1} → statement M
 into_raw_spec 𝓤 𝓛 𝓜 𝓡 wired =
     let c = f.clauses 𝓛 𝓜.mem 𝓡.returns in let W = walk_of 𝓛 f.ended stayed c in let 𝓣 = tables 𝓤 𝓛.H 𝓜 𝓡 𝓡.env in
-    proved_at 𝓛 f.ended stayed c 𝓜 𝓡 (Goes-dropped 𝓛 0 (plain (λ _. S)) yes (λ κs x w. refl),
-    (Goes-dropped 𝓛 0 (plain (λ _. Z.row)) yes (λ κs x w. refl), tt))
+    proved_at 𝓛 f.ended stayed c 𝓜 𝓡 (
+      Goes-dropped 𝓛 0 (plain (λ _. S)) yes (λ κs x w. refl),
+      (Goes-dropped 𝓛 0 (plain (λ _. Z.row)) yes (λ κs x w. refl), tt),
+    )
     f.Key.name code.function (code.unfolded 𝓤 𝓛.H 𝓜 𝓡 wired) (λ y are.
     let d = y.0.3.0 in let p = d.at in let a = y.0.3.1.0 in
     let Run : List Val → List Val → SProp 𝓤 = λ us ws. WpFn 𝓤 𝓛.H 𝓣.C 𝓣.Λ code.function (us ++ (ws ++ [])) (W.post y) in

@@ -45,8 +45,9 @@ HoldsNo {X} kind a = (x : X) → Holds a (kind x) → ⊥
 pub record IsCallOn {X T : Type 0} (kind : X → End) (a b : Handle) (answers : Result T Error → Type 0)
     (happens : X → X → Result T Error → Type 0) : Type 0 where
   pub refused : HoldsNo kind a → HoldsOn a b × answers (Err error.EBADF)
-  pub answered : (x : X) → Holds a (kind x)
-      → (y : X) × (done : Result T Error) × Holds b (kind y) × happens x y done × answers done
+  pub stays : (x : X) → Holds a (kind x) → HoldsNo kind b → ⊥
+  pub answered : (x y : X) → Holds a (kind x) → Holds b (kind y)
+      → (done : Result T Error) × happens x y done × answers done
 
 -- A close: it leaves no end of this kind.
 pub record IsClose {X : Type 0} (kind : X → End) (a b : Handle) (result : ℤ) : Type 0 where

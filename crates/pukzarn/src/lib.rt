@@ -5,6 +5,7 @@
 //! the negative number of an error (errno(3)). One call at a time uses a handle.
 #![tactic(auto)]
 
+mod board;
 mod call;
 mod end;
 mod handle;

@@ -1,15 +1,15 @@
 //! The calls on a record.
 
 ghost use Rattle.std.specs.Prelude.{◌≡◌, Ok};
-ghost use Rattle.c_interface.specs.Record.{IsNewRecord};
+ghost use Rattle.c_interface.specs.Record.{IsMapping, IsNewRecord};
 ghost use Rattle.trace_record.specs.Content.{message_of};
-ghost use Rattle.pukzarn.specs.Call.{IsCallOn, IsClose, IsOpening, IsStatusInto};
+ghost use Rattle.pukzarn.specs.Call.{IsCallOn, IsClose, IsOpening, IsStatus, IsStatusInto};
 ghost use Rattle.pukzarn.specs.declared.end.End.TheVariants as ends;
 
-use crate::call::refusal;
+use crate::call::{refusal, status};
 use crate::end::End;
 use crate::handle::Handle;
-use c_interface::{Error, record_message, record_open};
+use c_interface::{Error, record_map, record_message, record_open};
 use std::alloc::Global;
 
 /// Opens a record of a tracee that has made no stop: number 0, registers 0, no memory. EBUSY: the handle is open; EINVAL:
@@ -58,6 +58,22 @@ pub extern "C" fn pukzarn_record_message(
             *message = record_message(stopped);
             0
         }
+        _ => refusal(Error::EBADF),
+    };
+    handle.fill(end);
+    answer
+}
+
+/// Maps the page of zeros at an address.
+#[unsafe(no_mangle)]
+pub extern "C" fn pukzarn_record_map(alloc: Global, handle: &mut Handle, addr: u64) -> i32
+    ensures { IsCallOn ends.Stopped handle.old handle.new (IsStatus result) (λ a b. IsMapping a b addr) }
+{
+    let Some(mut end) = handle.take(alloc) else {
+        return refusal(Error::EBADF);
+    };
+    let answer = match &mut *end {
+        End::Stopped(stopped) => status(record_map(stopped, addr)),
         _ => refusal(Error::EBADF),
     };
     handle.fill(end);

@@ -1,5 +1,5 @@
 -- What a call answers on a handle that holds a before it and b after it.
-use Rattle.std.specs.Prelude.{◌≡◌, ◌⊎◌, ℕ, ℤ, pos, neg_ℤ, Option, None, Some, Result, Ok, Err}
+use Rattle.std.specs.Prelude.{◌≡◌, ◌⊎◌, ℕ, ℤ, pos, neg_ℤ, None, Some, Result, Ok, Err}
 use Rattle.c_interface.specs.Error.{error_number}
 use Rattle.c_interface.specs.declared.error.Error.{Error}
 use Rattle.c_interface.specs.declared.error.Error.TheVariants as error

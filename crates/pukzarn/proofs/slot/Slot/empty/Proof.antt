@@ -1,7 +1,7 @@
 -- A slot of nothing owns nothing.
-use Rattle.raw_box.proofs.Walks.{◌≡◌, [], ◌∷◌, refl, proved_at, ftrue, ‵, raw, ◌⊛◌, ◌$◌, ◌∵◌, !, qed, done, drop}
+use Rattle.raw_box.proofs.Walks.{[], ◌∷◌, refl, proved_at, ftrue, ‵, raw, ◌⊛◌, ◌$◌, ◌∵◌, !, qed, done, drop}
 use Rattle.raw_box.proofs.Walks.{join, suffices, lit, no_more, and_then, returns, enter, alloc_all, pass_all, free_all}
-use Rattle.raw_box.proofs.Walks.{look_at, sets, agg, null_ptr, nothing, Stays, walk_of, says, ends_at}
+use Rattle.raw_box.proofs.Walks.{look_at, sets, agg, null_ptr, nothing, Stays, says, ends_at}
 use Rattle.std.specs.Prelude.{None}
 use Rattle.pukzarn.proofs.Slots.{slot_of, word, word_typed, closed_over}
 use Rattle.pukzarn.specs.contracts.slot.Slot.empty as f

@@ -1,5 +1,5 @@
 -- The pointer moves, and with it what the raw box owned. A `Global` is nothing.
-use Rattle.raw_box.proofs.Walks.{◌≡◌, List, [], ◌∷◌, ◌++◌, refl, proved_at, Val, ftrue, WpFn, ‵, raw, ◌⊛◌, prop}
+use Rattle.raw_box.proofs.Walks.{List, [], ◌∷◌, ◌++◌, refl, proved_at, Val, ftrue, WpFn, ‵, raw, ◌⊛◌, prop}
 use Rattle.raw_box.proofs.Walks.{◌$◌, ◌∵◌, !, qed, done, keep, drop, split, join, fsplit, fjoin, regoal, suffices}
 use Rattle.raw_box.proofs.Walks.{stop, fld, of_opd, no_more, and_then, returns, enter, alloc_all, pass_all, free_all}
 use Rattle.raw_box.proofs.Walks.{look_at, get, get_in, sets, agg, sub, whole, tables, yes, owns, plain, nothing, Stays}

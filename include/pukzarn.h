@@ -279,7 +279,7 @@ int pukzarn_open(const struct pukzarn_row *rows, size_t row_count, pukzarn_trace
  * -EALREADY  it is taken up, or has ended */
 int pukzarn_tracee_take_up(pukzarn_tracee *tracee, struct pukzarn_restart *restart);
 
-/* The calls of a record on the one in hand. Each is also
+/* The calls of a record on the one in hand. Each is first of all
  * -ESRCH   the row is not taken up */
 int pukzarn_tracee_getregs(pukzarn_tracee *tracee, struct pukzarn_regs *regs);
 int pukzarn_tracee_setregs(pukzarn_tracee *tracee, const struct pukzarn_regs *regs);
@@ -335,7 +335,7 @@ int pukzarn_tracer_wait_row(pukzarn_tracer *tracer, uint32_t row, uint32_t optio
 int pukzarn_tracer_waitpid(pukzarn_tracer *tracer, int32_t pid, int *status, uint32_t options);
 
 /* The calls of a record on the one of a tracee whose stop this tracer has claimed. What it sets there the tracee takes
- * up at the restart. Each is also
+ * up at the restart. Each is first of all
  * -ESRCH   this tracer has not claimed a stop of this tracee */
 int pukzarn_tracer_stop(pukzarn_tracer *tracer, int32_t pid, uint32_t *number, struct pukzarn_stop *stop);
 int pukzarn_tracer_message(pukzarn_tracer *tracer, int32_t pid, uint64_t *message);

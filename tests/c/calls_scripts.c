@@ -157,6 +157,23 @@ static void faulty_files_are_refused(void)
     }
 }
 
+/* Its options are PTRACE_O_TRACESYSGOOD: calls stop, and a fork is not traced. */
+static void a_new_machine(void)
+{
+    struct traced traced;
+    memset(&traced, 0, sizeof traced);
+    open_case(&traced.script, worked);
+    CHECK(pukzarn_machine_open(&traced.machine, &traced.script, 0), 0);
+    CHECK(pukzarn_record_open(&traced.record, 100), 0);
+    stops(&traced, PUKZARN_CONT, 0, 1, PUKZARN_START, 0);
+    for (uint32_t number = 2; number < 6; number += 2) { /* write and fork */
+        stops(&traced, PUKZARN_SYSCALL, 0, number, PUKZARN_ENTER, 0);
+        stops(&traced, PUKZARN_SYSCALL, 0, number + 1, PUKZARN_EXIT, 0);
+    }
+    dies(&traced, PUKZARN_CONT, 0, STATUS_EXITED_3);
+    end(&traced);
+}
+
 /* The worked case, always restarted by PTRACE_SYSCALL. */
 static void each_syscall_stop(void)
 {
@@ -389,6 +406,7 @@ int main(void)
 {
     a_case_has_rows();
     faulty_files_are_refused();
+    a_new_machine();
     each_syscall_stop();
     a_filter();
     calls_are_bits();

@@ -9,10 +9,16 @@ PYTHON ?= python3
 PREFIX ?= /usr/local
 OUT = bench/out
 COMMA = ,
+# The library for C: the archive that is handed out, what rt makes of crates/pukzarn, the kit's functions for the heap.
+LIBRARY ?= lib/libpukzarn.a
+ARCHIVE ?= crates/pukzarn/out/libpukzarn.a
+HEAP ?= $(dir $(realpath $(shell command -v $(RT))))../c/liblibc_c.a
+VERSION = $(shell sed -n 's/.*\.version("\(.*\)").*/\1/p' crates/tracer_cli/src/arguments.rt)
 
 .PHONY: all kit demo examples scarce-memory refused-memory man-page documents one-source one-meaning refused-code check \
 	wrong-bodies wrong-bodies-changed wrong-bodies-test test bench bench-case bench-cells bench-pages bench-fold bench-run \
-	bench-threads bench-large bench-explore bench-rounds tools install clean
+	bench-threads bench-large bench-explore bench-rounds library library-test install-library install-program tools install \
+	clean
 
 all: kit
 	@echo "make: proving the program and what it stands on, over what earlier runs kept (the first time: 45 minutes)"
@@ -243,12 +249,74 @@ tools:
 		command -v $$command > /dev/null || { echo "bench: there is no command $$command, which it needs"; exit 2; }; \
 	done
 
-install: all
+# The library for C. The two archives become one, in which nothing but the calls of include/pukzarn.h is global.
+library:
+	@test -f "$(ARCHIVE)" || { echo "library: there is no $(ARCHIVE): cd crates/pukzarn && $(RT) lib" >&2; exit 2; }
+	@echo "library: making $(LIBRARY) of $(ARCHIVE) (a second)"
+	@mkdir -p $(dir $(LIBRARY)) && rm -f $(LIBRARY)
+	@ld -r -o $(LIBRARY:.a=.o) --whole-archive $(ARCHIVE) --no-whole-archive $(HEAP)
+	@objcopy --wildcard --keep-global-symbol='pukzarn_*' $(LIBRARY:.a=.o)
+	@ar rcs $(LIBRARY) $(LIBRARY:.a=.o) && rm $(LIBRARY:.a=.o)
+
+# How the programs of tests/c are built: each as C99, each with the sanitizers, and one as C++17.
+C_OUT = $(OUT)/c
+C_PROGRAMS = $(filter-out model,$(basename $(notdir $(wildcard tests/c/*.c))))
+CXX_PROGRAMS = misuse
+C_WARNINGS = -Wall -Wextra -Werror -D_POSIX_C_SOURCE=200809L -DLIBRARY_VERSION='"$(VERSION)"' -Iinclude
+C_LINKED = $(LIBRARY) $(C_WRAPPED) -lpthread
+$(C_OUT)/random_calls $(C_OUT)/random_calls.sanitized: tests/c/model.c
+$(C_OUT)/refused_memory $(C_OUT)/refused_memory.sanitized: C_WRAPPED = -Wl,--wrap=malloc,--wrap=realloc,--wrap=free
+
+$(C_OUT)/%: tests/c/%.c $(wildcard tests/c/*.h include/*.h) $(LIBRARY)
+	@$(CC) -O2 -std=c99 $(C_WARNINGS) $(filter %.c,$^) $(C_LINKED) -o $@
+
+$(C_OUT)/%.sanitized: tests/c/%.c $(wildcard tests/c/*.h include/*.h) $(LIBRARY)
+	@$(CC) -O1 -g -std=c99 $(C_WARNINGS) -fsanitize=address,undefined -fno-sanitize-recover $(filter %.c,$^) \
+	  $(C_LINKED) -o $@
+
+$(C_OUT)/%.c++: tests/c/%.c $(wildcard tests/c/*.h include/*.h) $(LIBRARY)
+	@$(CXX) -O2 -std=c++17 $(C_WARNINGS) -x c++ $(filter %.c,$^) -x none $(C_LINKED) -o $@
+
+$(LIBRARY):
+	@echo "library-test: there is no $(LIBRARY): make library" >&2; exit 2
+
+C_BUILT = $(C_PROGRAMS:%=$(C_OUT)/%) $(C_PROGRAMS:%=$(C_OUT)/%.sanitized) $(CXX_PROGRAMS:%=$(C_OUT)/%.c++)
+
+# LIBRARY=FILE is the archive, which is made already.
+library-test:
+	@echo "library-test: building and running the programs of tests/c with $(LIBRARY) (a minute)"
+	@$(PYTHON) tools/c_library.py --self-test
+	@$(PYTHON) tools/c_library.py
+	@$(PYTHON) tools/c_library.py archive $(LIBRARY)
+	@mkdir -p $(C_OUT)
+	@$(MAKE) --no-print-directory $(C_BUILT)
+	@for program in $(C_BUILT); do $$program > $(C_OUT)/printed.txt || { cat $(C_OUT)/printed.txt; \
+	  echo "library-test: FAILED: $$program" >&2; exit 1; }; done
+	@$(PYTHON) tools/c_library.py page $(C_OUT)/small_tracer
+	@rm -rf $(C_OUT)/root
+	@$(MAKE) --no-print-directory install-library DESTDIR=$(abspath $(C_OUT)/root)
+	@$(CC) -std=c99 -o $(C_OUT)/installed tests/c/small_tracer.c $$(PKG_CONFIG_SYSROOT_DIR=$(abspath $(C_OUT)/root) \
+	  PKG_CONFIG_PATH=$(abspath $(C_OUT)/root)$(PREFIX)/lib/pkgconfig pkg-config --cflags --libs pukzarn)
+	@$(PYTHON) tools/c_library.py page $(C_OUT)/installed
+	@echo "library-test: every program passed"
+
+install: install-program install-library
+
+install-program: all
 	@echo "install: copying bin/tracer and its manual page to $(DESTDIR)$(PREFIX)"
 	@install -d $(DESTDIR)$(PREFIX)/bin $(DESTDIR)$(PREFIX)/share/man/man1
 	@install -m 755 bin/tracer $(DESTDIR)$(PREFIX)/bin/tracer
 	@install -m 644 man/tracer.1 $(DESTDIR)$(PREFIX)/share/man/man1/tracer.1
 
+install-library: $(LIBRARY)
+	@echo "install: copying $(LIBRARY) and its headers to $(DESTDIR)$(PREFIX)"
+	@install -d $(DESTDIR)$(PREFIX)/include $(DESTDIR)$(PREFIX)/lib/pkgconfig
+	@install -m 644 include/pukzarn.h include/pukzarn_checked.h $(DESTDIR)$(PREFIX)/include
+	@install -m 644 $(LIBRARY) $(DESTDIR)$(PREFIX)/lib/libpukzarn.a
+	@sed 's|@PREFIX@|$(PREFIX)|; s|@VERSION@|$(VERSION)|' tools/pukzarn.pc.in \
+	  > $(DESTDIR)$(PREFIX)/lib/pkgconfig/pukzarn.pc
+	@chmod 644 $(DESTDIR)$(PREFIX)/lib/pkgconfig/pukzarn.pc
+
 clean:
 	@echo "clean: removing what was built and what earlier checks kept; the next check starts from nothing"
-	@rm -rf bin $(OUT) $(addsuffix /out,$(wildcard crates/*))
+	@rm -rf bin lib $(OUT) $(addsuffix /out,$(wildcard crates/*))

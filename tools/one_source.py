@@ -10,6 +10,7 @@
 | the same on two threads | crates/thread_tests/src/waits/two_tracers.rt | README.md, its second block of Rust |
 | the loop of a small tracer | crates/thread_tests/src/waits/small_tracer.rt | docs/calls.md, its first block of Rust |
 | a debugger that changes a call | crates/thread_tests/src/waits/small_debugger.rt | docs/calls.md, its second one |
+| a small tracer in C | tests/c/small_tracer.c | docs/C.md, its block of C |
 | the version | crates/tracer_cli/src/arguments.rt | man/tracer.1 |
 | the system calls, with their arguments | crates/trace_options/src/syscall.rt | docs/formats/tables.md, man/tracer.1 |
 | the options of ptrace(2) | crates/trace_options/specs/Options.antt | options.rt, docs/formats/tables.md |
@@ -32,6 +33,7 @@ TABLES, FORMATS, PAGE = "docs/formats/tables.md", "docs/FORMATS.md", "man/tracer
 EXAMPLE, LOOP = "crates/system_tests/src/readme.rt", "crates/thread_tests/src/waits/small_tracer.rt"
 THREADS = "crates/thread_tests/src/waits/two_tracers.rt"
 CHANGE = "crates/thread_tests/src/waits/small_debugger.rt"
+C_PAGE, C_TRACER = "docs/C.md", "tests/c/small_tracer.c"
 ARGUMENTS, SYSCALLS = "crates/tracer_cli/src/arguments.rt", "crates/trace_options/src/syscall.rt"
 OPTIONS, OPTION_BITS = "crates/trace_options/specs/Options.antt", "crates/trace_options/src/options.rt"
 MESSAGES, FAILURE = "crates/tracer_cli/specs/Failure.antt", "crates/tracer_cli/src/failure.rt"
@@ -109,9 +111,9 @@ def lines_of(text):
     return [line.rstrip() for line in text.splitlines() if line.strip()]
 
 
-def rust_blocks(text):
-    """The blocks of Rust in a page."""
-    return [lines_of(block) for block in re.findall(r"^```rust\n(.*?)^```", text, re.M | re.S)]
+def blocks_of(language, text):
+    """The blocks of a language in a page."""
+    return [lines_of(block) for block in re.findall(rf"^```{language}\n(.*?)^```", text, re.M | re.S)]
 
 
 def is_within(part, whole):
@@ -121,12 +123,14 @@ def is_within(part, whole):
 
 def code_faults(read):
     for page, sources in [(README, [EXAMPLE, THREADS]), (CALLS, [LOOP, CHANGE])]:
-        blocks = rust_blocks(read(page))
+        blocks = blocks_of("rust", read(page))
         if len(blocks) != len(sources):
             yield f"{page}: it has {len(blocks)} blocks of Rust, and {len(sources)} are known"
         for number, (block, source) in enumerate(zip(blocks, sources), 1):
             if not is_within(block, lines_of(read(source))):
                 yield f"{page}: its block of Rust number {number} is not in {source}"
+    if blocks_of("c", read(C_PAGE)) != [lines_of(read(C_TRACER))]:
+        yield f"{C_PAGE}: its block of C is not {C_TRACER}"
 
 
 def version_faults(read):
@@ -254,6 +258,7 @@ CHANGES = [
     (CALLS, "```rust\n/// Serves a stop", "```\n/// Serves a stop"),
     (CALLS, "calls.syscall(pid, signal)", "calls.cont(pid, signal)"),
     (CALLS, "regs.rdx = len", "regs.rsi = len"),
+    (C_PAGE, "while ((pid = pukzarn_tracer_waitpid", "if ((pid = pukzarn_tracer_waitpid"),
     (PAGE, '"tracer 0', '"tracer 9'),
     (TABLES, "| 80 | chdir |", "| 81 | chdir |"),
     (TABLES, "| 83 | mkdir | `CString`, `Mode` |", "| 83 | mkdir | `CString` |"),

@@ -135,14 +135,20 @@ static void a_leader_and_its_thread(void)
     CHECK(pukzarn_board_close(&board), 0);
 }
 
-/* Every refusal of publish, claim, resume and exit, each of which leaves the board as it was. */
-static void calls_are_refused(void)
+/* A root and two children, for refusals, each of which leaves the board as it was. */
+static void open_family(pukzarn_board *board)
 {
     struct pukzarn_row rows[3] = {row_of(100, 100, 77, 0), row_of(101, 101, 77, 100), row_of(102, 102, 77, 100)};
+    uint32_t faulty;
+    CHECK(pukzarn_board_open(board, rows, 3, &faulty), 0);
+}
+
+static void calls_of_a_running_row_are_refused(void)
+{
     pukzarn_board board = PUKZARN_CLOSED;
     struct pukzarn_got got = no_got();
-    uint32_t faulty, number = UNTOUCHED;
-    CHECK(pukzarn_board_open(&board, rows, 3, &faulty), 0);
+    uint32_t number = UNTOUCHED;
+    open_family(&board);
     CHECK(publish(&board, 3, PUKZARN_START, 0, &number), -EINVAL);
     CHECK(publish(&board, 0, 9, 0, &number), -EINVAL);
     CHECK(publish(&board, 1, PUKZARN_SIGNAL, 65, &number), -EINVAL); /* before -ECHILD */
@@ -158,7 +164,17 @@ static void calls_are_refused(void)
     CHECK(pukzarn_board_exit(&board, 0, 0x7f), -EINVAL);
     CHECK(pukzarn_board_exit(&board, 0, 65), -EINVAL);
     CHECK(number, UNTOUCHED);
+    CHECK(got.number, UNTOUCHED);
     CHECK_ROW(&board, 0, PUKZARN_RUNNING, 0, 0, 0);
+    CHECK(pukzarn_board_close(&board), 0);
+}
+
+static void calls_of_a_stopped_row_are_refused(void)
+{
+    pukzarn_board board = PUKZARN_CLOSED;
+    struct pukzarn_got got = no_got();
+    uint32_t number = UNTOUCHED;
+    open_family(&board);
     CHECK(publish(&board, 0, PUKZARN_FORK, 101, &number), 0);
     CHECK(number, 1);
     number = UNTOUCHED;
@@ -166,9 +182,9 @@ static void calls_are_refused(void)
     CHECK(pukzarn_board_exit(&board, 0, 0), -EALREADY);
     CHECK(resume(&board, 0, 0, PUKZARN_CONT, 0), -ESRCH);
     CHECK(number, UNTOUCHED);
-    CHECK(got.number, UNTOUCHED);
     CHECK_ROW(&board, 0, PUKZARN_STOPPED, 1, 0, STATUS_FORK);
     CHECK(pukzarn_board_claim(&board, 0, 15, &got), 0);
+    CHECK(pukzarn_board_claim(&board, 0, 14, &got), -EAGAIN);
     CHECK(resume(&board, 0, 14, PUKZARN_CONT, 65), -EPERM); /* before -EIO */
     CHECK(resume(&board, 0, 15, PUKZARN_CONT, 65), -EIO);
     CHECK_ROW(&board, 0, PUKZARN_CLAIMED, 1, 15, 0);
@@ -311,7 +327,8 @@ int main(void)
     opens_and_closes();
     faulty_rows_are_named();
     a_leader_and_its_thread();
-    calls_are_refused();
+    calls_of_a_running_row_are_refused();
+    calls_of_a_stopped_row_are_refused();
     statuses();
     waits_of_a_board();
     waits_that_are_refused();

@@ -247,21 +247,12 @@ static void waits_by_pid(void)
     close_cells(&cells);
 }
 
-/* What is in hand, and what the tracer that has claimed the stop sees and sets of it. */
-static void the_record_goes_to_and_fro(void)
+/* What is in hand: registers, and bytes at the end of the only page. */
+static void fill_record(pukzarn_tracee *root)
 {
-    struct cells cells;
-    pukzarn_tracee *root = &cells.tracees[ROOT];
-    pukzarn_tracer *tracer = &cells.tracers[0];
     struct pukzarn_restart restart;
     struct pukzarn_regs regs;
-    struct pukzarn_stop stop = no_stop();
-    uint32_t number = UNTOUCHED;
-    uint64_t message = UNTOUCHED;
     char bytes[9] = "xxxxxxxx";
-    unsigned char info[24];
-    int status;
-    open_cells(&cells);
     CHECK(pukzarn_tracee_take_up(root, &restart), 0);
     memset(&regs, 0xab, sizeof regs);
     CHECK(pukzarn_tracee_getregs(root, &regs), 0);
@@ -276,9 +267,17 @@ static void the_record_goes_to_and_fro(void)
     CHECK(pukzarn_tracee_write(root, 0x10ffa, "abcdef", 6), 0);
     CHECK(pukzarn_tracee_read(root, 0x10ffe, bytes, 8), 2);
     CHECK_TEXT(bytes, "efxxxxxx");
-    CHECK(publish(root, PUKZARN_CLONE, 101, &number), 0);
-    CHECK(pukzarn_tracer_waitpid(tracer, 100, &status, 0), 100);
-    CHECK(status, STATUS_CLONE);
+}
+
+/* What the tracer that has claimed the stop sees of it. */
+static void see_record(pukzarn_tracer *tracer)
+{
+    struct pukzarn_regs regs;
+    struct pukzarn_stop stop = no_stop();
+    uint32_t number = UNTOUCHED;
+    uint64_t message = UNTOUCHED;
+    char bytes[9] = "xxxxxxxx";
+    unsigned char info[24];
     CHECK(pukzarn_tracer_stop(tracer, 100, &number, &stop), 0);
     CHECK(number, 1);
     CHECK_STOP(stop, PUKZARN_CLONE, 101);
@@ -291,8 +290,28 @@ static void the_record_goes_to_and_fro(void)
     CHECK_BYTES(info, "\0\0\0\0\x3e\0\0\xc0\x02\x10\x40\0\0\0\0\0\0\0\0\0\0\0\0\0", 24);
     CHECK(pukzarn_tracer_read(tracer, 100, 0x10ffa, bytes, 8), 6);
     CHECK_TEXT(bytes, "abcdefxx");
+}
+
+/* The record goes to the tracer with the stop, and back with what the tracer has set. */
+static void the_record_goes_to_and_fro(void)
+{
+    struct cells cells;
+    pukzarn_tracee *root = &cells.tracees[ROOT];
+    pukzarn_tracer *tracer = &cells.tracers[0];
+    struct pukzarn_restart restart;
+    struct pukzarn_regs regs;
+    uint32_t number;
+    char bytes[9] = "xxxxxxxx";
+    int status = 0;
+    open_cells(&cells);
+    fill_record(root);
+    CHECK(publish(root, PUKZARN_CLONE, 101, &number), 0);
+    CHECK(pukzarn_tracer_waitpid(tracer, 100, &status, 0), 100);
+    CHECK(status, STATUS_CLONE);
+    see_record(tracer);
     CHECK(pukzarn_tracer_write(tracer, 100, 0x10ffe, "123", 3), -EIO);
     CHECK(pukzarn_tracer_write(tracer, 100, 0x10ffe, "12", 2), 0);
+    CHECK(pukzarn_tracer_getregs(tracer, 100, &regs), 0);
     regs.rbx = 7;
     CHECK(pukzarn_tracer_setregs(tracer, 100, &regs), 0);
     CHECK(resume(tracer, 100, PUKZARN_CONT, 0), 0);

@@ -72,17 +72,30 @@ static inline int pukzarn_check_begin(struct pukzarn_check *check, const uint64_
     return -EBADF;
 }
 
-/* Lets a call end: an open handle keeps its place. Answers what the call has answered. */
-static inline long pukzarn_check_end(struct pukzarn_check *check, const uint64_t *live, long answer)
+/* Lets a call end: an open handle keeps its place. */
+static inline void pukzarn_check_done(struct pukzarn_check *check, const uint64_t *live)
 {
     check->place = *live != 0 ? check : NULL;
     __atomic_store_n(&check->busy, 0, __ATOMIC_RELEASE);
+}
+
+/* The same, and answers what the call has answered, once it has. */
+static inline int pukzarn_check_end(struct pukzarn_check *check, const uint64_t *live, int answer)
+{
+    pukzarn_check_done(check, live);
+    return answer;
+}
+
+static inline long pukzarn_check_end_long(struct pukzarn_check *check, const uint64_t *live, long answer)
+{
+    pukzarn_check_done(check, live);
     return answer;
 }
 
 /* The same for a handle of any type, which may be NULL. They are undefined at the end of this file. */
 #define PUKZARN_BEGIN(it) ((it) == NULL ? -EFAULT : pukzarn_check_begin(&(it)->check, &(it)->handle.live))
 #define PUKZARN_END(it, answer) pukzarn_check_end(&(it)->check, &(it)->handle.live, (answer))
+#define PUKZARN_END_LONG(it, answer) pukzarn_check_end_long(&(it)->check, &(it)->handle.live, (answer))
 
 /* ---- The library ---- */
 
@@ -96,70 +109,70 @@ static inline long pukzarn_checked_version(char *to, size_t room)
 static inline int pukzarn_checked_record_open(pukzarn_checked_record *record, uint32_t tid)
 {
     int refused = PUKZARN_BEGIN(record);
-    return refused != 0 ? refused : (int)PUKZARN_END(record, pukzarn_record_open(&record->handle, tid));
+    return refused != 0 ? refused : PUKZARN_END(record, pukzarn_record_open(&record->handle, tid));
 }
 
 static inline int pukzarn_checked_record_close(pukzarn_checked_record *record)
 {
     int refused = PUKZARN_BEGIN(record);
-    return refused != 0 ? refused : (int)PUKZARN_END(record, pukzarn_record_close(&record->handle));
+    return refused != 0 ? refused : PUKZARN_END(record, pukzarn_record_close(&record->handle));
 }
 
 static inline int pukzarn_checked_record_set_stop(pukzarn_checked_record *record, uint32_t number,
                                                   const struct pukzarn_stop *stop)
 {
     int refused = stop == NULL ? -EFAULT : PUKZARN_BEGIN(record);
-    return refused != 0 ? refused : (int)PUKZARN_END(record, pukzarn_record_set_stop(&record->handle, number, stop));
+    return refused != 0 ? refused : PUKZARN_END(record, pukzarn_record_set_stop(&record->handle, number, stop));
 }
 
 static inline int pukzarn_checked_record_stop(pukzarn_checked_record *record, uint32_t *number,
                                               struct pukzarn_stop *stop)
 {
     int refused = number == NULL || stop == NULL ? -EFAULT : PUKZARN_BEGIN(record);
-    return refused != 0 ? refused : (int)PUKZARN_END(record, pukzarn_record_stop(&record->handle, number, stop));
+    return refused != 0 ? refused : PUKZARN_END(record, pukzarn_record_stop(&record->handle, number, stop));
 }
 
 static inline int pukzarn_checked_record_message(pukzarn_checked_record *record, uint64_t *message)
 {
     int refused = message == NULL ? -EFAULT : PUKZARN_BEGIN(record);
-    return refused != 0 ? refused : (int)PUKZARN_END(record, pukzarn_record_message(&record->handle, message));
+    return refused != 0 ? refused : PUKZARN_END(record, pukzarn_record_message(&record->handle, message));
 }
 
 static inline int pukzarn_checked_record_getregs(pukzarn_checked_record *record, struct pukzarn_regs *regs)
 {
     int refused = regs == NULL ? -EFAULT : PUKZARN_BEGIN(record);
-    return refused != 0 ? refused : (int)PUKZARN_END(record, pukzarn_record_getregs(&record->handle, regs));
+    return refused != 0 ? refused : PUKZARN_END(record, pukzarn_record_getregs(&record->handle, regs));
 }
 
 static inline int pukzarn_checked_record_setregs(pukzarn_checked_record *record, const struct pukzarn_regs *regs)
 {
     int refused = regs == NULL ? -EFAULT : PUKZARN_BEGIN(record);
-    return refused != 0 ? refused : (int)PUKZARN_END(record, pukzarn_record_setregs(&record->handle, regs));
+    return refused != 0 ? refused : PUKZARN_END(record, pukzarn_record_setregs(&record->handle, regs));
 }
 
 static inline int pukzarn_checked_record_map(pukzarn_checked_record *record, uint64_t addr)
 {
     int refused = PUKZARN_BEGIN(record);
-    return refused != 0 ? refused : (int)PUKZARN_END(record, pukzarn_record_map(&record->handle, addr));
+    return refused != 0 ? refused : PUKZARN_END(record, pukzarn_record_map(&record->handle, addr));
 }
 
 static inline long pukzarn_checked_record_read(pukzarn_checked_record *record, uint64_t addr, void *to, size_t len)
 {
     int refused = to == NULL ? -EFAULT : PUKZARN_BEGIN(record);
-    return refused != 0 ? refused : PUKZARN_END(record, pukzarn_record_read(&record->handle, addr, to, len));
+    return refused != 0 ? refused : PUKZARN_END_LONG(record, pukzarn_record_read(&record->handle, addr, to, len));
 }
 
 static inline int pukzarn_checked_record_write(pukzarn_checked_record *record, uint64_t addr, const void *from,
                                                size_t len)
 {
     int refused = from == NULL ? -EFAULT : PUKZARN_BEGIN(record);
-    return refused != 0 ? refused : (int)PUKZARN_END(record, pukzarn_record_write(&record->handle, addr, from, len));
+    return refused != 0 ? refused : PUKZARN_END(record, pukzarn_record_write(&record->handle, addr, from, len));
 }
 
 static inline long pukzarn_checked_record_syscall_info(pukzarn_checked_record *record, void *to, size_t len)
 {
     int refused = to == NULL ? -EFAULT : PUKZARN_BEGIN(record);
-    return refused != 0 ? refused : PUKZARN_END(record, pukzarn_record_syscall_info(&record->handle, to, len));
+    return refused != 0 ? refused : PUKZARN_END_LONG(record, pukzarn_record_syscall_info(&record->handle, to, len));
 }
 
 /* ---- The board of one thread ---- */
@@ -168,50 +181,46 @@ static inline int pukzarn_checked_board_open(pukzarn_checked_board *board, const
                                              size_t row_count, uint32_t *faulty)
 {
     int refused = rows == NULL || faulty == NULL ? -EFAULT : PUKZARN_BEGIN(board);
-    if (refused != 0)
-        return refused;
-    return (int)PUKZARN_END(board, pukzarn_board_open(&board->handle, rows, row_count, faulty));
+    return refused != 0 ? refused : PUKZARN_END(board, pukzarn_board_open(&board->handle, rows, row_count, faulty));
 }
 
 static inline int pukzarn_checked_board_close(pukzarn_checked_board *board)
 {
     int refused = PUKZARN_BEGIN(board);
-    return refused != 0 ? refused : (int)PUKZARN_END(board, pukzarn_board_close(&board->handle));
+    return refused != 0 ? refused : PUKZARN_END(board, pukzarn_board_close(&board->handle));
 }
 
 static inline int pukzarn_checked_board_state(pukzarn_checked_board *board, uint32_t row, struct pukzarn_state *state)
 {
     int refused = state == NULL ? -EFAULT : PUKZARN_BEGIN(board);
-    return refused != 0 ? refused : (int)PUKZARN_END(board, pukzarn_board_state(&board->handle, row, state));
+    return refused != 0 ? refused : PUKZARN_END(board, pukzarn_board_state(&board->handle, row, state));
 }
 
 static inline int pukzarn_checked_board_publish(pukzarn_checked_board *board, uint32_t row,
                                                 const struct pukzarn_stop *stop, uint32_t *number)
 {
     int refused = stop == NULL || number == NULL ? -EFAULT : PUKZARN_BEGIN(board);
-    return refused != 0 ? refused : (int)PUKZARN_END(board, pukzarn_board_publish(&board->handle, row, stop, number));
+    return refused != 0 ? refused : PUKZARN_END(board, pukzarn_board_publish(&board->handle, row, stop, number));
 }
 
 static inline int pukzarn_checked_board_claim(pukzarn_checked_board *board, uint32_t row, uint32_t tracer,
                                               struct pukzarn_got *got)
 {
     int refused = got == NULL ? -EFAULT : PUKZARN_BEGIN(board);
-    return refused != 0 ? refused : (int)PUKZARN_END(board, pukzarn_board_claim(&board->handle, row, tracer, got));
+    return refused != 0 ? refused : PUKZARN_END(board, pukzarn_board_claim(&board->handle, row, tracer, got));
 }
 
 static inline int pukzarn_checked_board_resume(pukzarn_checked_board *board, uint32_t row, uint32_t tracer,
                                                const struct pukzarn_restart *restart)
 {
     int refused = restart == NULL ? -EFAULT : PUKZARN_BEGIN(board);
-    if (refused != 0)
-        return refused;
-    return (int)PUKZARN_END(board, pukzarn_board_resume(&board->handle, row, tracer, restart));
+    return refused != 0 ? refused : PUKZARN_END(board, pukzarn_board_resume(&board->handle, row, tracer, restart));
 }
 
 static inline int pukzarn_checked_board_exit(pukzarn_checked_board *board, uint32_t row, uint32_t status)
 {
     int refused = PUKZARN_BEGIN(board);
-    return refused != 0 ? refused : (int)PUKZARN_END(board, pukzarn_board_exit(&board->handle, row, status));
+    return refused != 0 ? refused : PUKZARN_END(board, pukzarn_board_exit(&board->handle, row, status));
 }
 
 static inline int pukzarn_checked_board_waitable(pukzarn_checked_board *board, uint32_t idtype, int32_t id,
@@ -220,7 +229,7 @@ static inline int pukzarn_checked_board_waitable(pukzarn_checked_board *board, u
     int refused = rows == NULL ? -EFAULT : PUKZARN_BEGIN(board);
     if (refused != 0)
         return refused;
-    return (int)PUKZARN_END(board, pukzarn_board_waitable(&board->handle, idtype, id, options, rows, room));
+    return PUKZARN_END(board, pukzarn_board_waitable(&board->handle, idtype, id, options, rows, room));
 }
 
 /* ---- The cells that threads share ---- */
@@ -290,38 +299,38 @@ static inline int pukzarn_checked_open(const struct pukzarn_row *rows, size_t ro
 static inline int pukzarn_checked_tracee_take_up(pukzarn_checked_tracee *tracee, struct pukzarn_restart *restart)
 {
     int refused = restart == NULL ? -EFAULT : PUKZARN_BEGIN(tracee);
-    return refused != 0 ? refused : (int)PUKZARN_END(tracee, pukzarn_tracee_take_up(&tracee->handle, restart));
+    return refused != 0 ? refused : PUKZARN_END(tracee, pukzarn_tracee_take_up(&tracee->handle, restart));
 }
 
 static inline int pukzarn_checked_tracee_getregs(pukzarn_checked_tracee *tracee, struct pukzarn_regs *regs)
 {
     int refused = regs == NULL ? -EFAULT : PUKZARN_BEGIN(tracee);
-    return refused != 0 ? refused : (int)PUKZARN_END(tracee, pukzarn_tracee_getregs(&tracee->handle, regs));
+    return refused != 0 ? refused : PUKZARN_END(tracee, pukzarn_tracee_getregs(&tracee->handle, regs));
 }
 
 static inline int pukzarn_checked_tracee_setregs(pukzarn_checked_tracee *tracee, const struct pukzarn_regs *regs)
 {
     int refused = regs == NULL ? -EFAULT : PUKZARN_BEGIN(tracee);
-    return refused != 0 ? refused : (int)PUKZARN_END(tracee, pukzarn_tracee_setregs(&tracee->handle, regs));
+    return refused != 0 ? refused : PUKZARN_END(tracee, pukzarn_tracee_setregs(&tracee->handle, regs));
 }
 
 static inline int pukzarn_checked_tracee_map(pukzarn_checked_tracee *tracee, uint64_t addr)
 {
     int refused = PUKZARN_BEGIN(tracee);
-    return refused != 0 ? refused : (int)PUKZARN_END(tracee, pukzarn_tracee_map(&tracee->handle, addr));
+    return refused != 0 ? refused : PUKZARN_END(tracee, pukzarn_tracee_map(&tracee->handle, addr));
 }
 
 static inline long pukzarn_checked_tracee_read(pukzarn_checked_tracee *tracee, uint64_t addr, void *to, size_t len)
 {
     int refused = to == NULL ? -EFAULT : PUKZARN_BEGIN(tracee);
-    return refused != 0 ? refused : PUKZARN_END(tracee, pukzarn_tracee_read(&tracee->handle, addr, to, len));
+    return refused != 0 ? refused : PUKZARN_END_LONG(tracee, pukzarn_tracee_read(&tracee->handle, addr, to, len));
 }
 
 static inline int pukzarn_checked_tracee_write(pukzarn_checked_tracee *tracee, uint64_t addr, const void *from,
                                                size_t len)
 {
     int refused = from == NULL ? -EFAULT : PUKZARN_BEGIN(tracee);
-    return refused != 0 ? refused : (int)PUKZARN_END(tracee, pukzarn_tracee_write(&tracee->handle, addr, from, len));
+    return refused != 0 ? refused : PUKZARN_END(tracee, pukzarn_tracee_write(&tracee->handle, addr, from, len));
 }
 
 static inline int pukzarn_checked_tracee_next(pukzarn_checked_tracee *tracee, pukzarn_checked_machine *machine,
@@ -335,33 +344,33 @@ static inline int pukzarn_checked_tracee_next(pukzarn_checked_tracee *tracee, pu
         answer = pukzarn_tracee_next(&tracee->handle, &machine->handle, stop);
         PUKZARN_END(machine, 0);
     }
-    return (int)PUKZARN_END(tracee, answer);
+    return PUKZARN_END(tracee, answer);
 }
 
 static inline int pukzarn_checked_tracee_publish(pukzarn_checked_tracee *tracee, const struct pukzarn_stop *stop,
                                                  uint32_t *number)
 {
     int refused = stop == NULL || number == NULL ? -EFAULT : PUKZARN_BEGIN(tracee);
-    return refused != 0 ? refused : (int)PUKZARN_END(tracee, pukzarn_tracee_publish(&tracee->handle, stop, number));
+    return refused != 0 ? refused : PUKZARN_END(tracee, pukzarn_tracee_publish(&tracee->handle, stop, number));
 }
 
 static inline int pukzarn_checked_tracee_exit(pukzarn_checked_tracee *tracee, uint32_t status)
 {
     int refused = PUKZARN_BEGIN(tracee);
-    return refused != 0 ? refused : (int)PUKZARN_END(tracee, pukzarn_tracee_exit(&tracee->handle, status));
+    return refused != 0 ? refused : PUKZARN_END(tracee, pukzarn_tracee_exit(&tracee->handle, status));
 }
 
 static inline int pukzarn_checked_tracee_close(pukzarn_checked_tracee *tracee)
 {
     int refused = PUKZARN_BEGIN(tracee);
-    return refused != 0 ? refused : (int)PUKZARN_END(tracee, pukzarn_tracee_close(&tracee->handle));
+    return refused != 0 ? refused : PUKZARN_END(tracee, pukzarn_tracee_close(&tracee->handle));
 }
 
 static inline int pukzarn_checked_tracer_look(pukzarn_checked_tracer *tracer, uint32_t row,
                                               struct pukzarn_state *state)
 {
     int refused = state == NULL ? -EFAULT : PUKZARN_BEGIN(tracer);
-    return refused != 0 ? refused : (int)PUKZARN_END(tracer, pukzarn_tracer_look(&tracer->handle, row, state));
+    return refused != 0 ? refused : PUKZARN_END(tracer, pukzarn_tracer_look(&tracer->handle, row, state));
 }
 
 static inline int pukzarn_checked_tracer_waitid(pukzarn_checked_tracer *tracer, uint32_t idtype, int32_t id,
@@ -370,7 +379,7 @@ static inline int pukzarn_checked_tracer_waitid(pukzarn_checked_tracer *tracer, 
     int refused = waited == NULL ? -EFAULT : PUKZARN_BEGIN(tracer);
     if (refused != 0)
         return refused;
-    return (int)PUKZARN_END(tracer, pukzarn_tracer_waitid(&tracer->handle, idtype, id, options, waited));
+    return PUKZARN_END(tracer, pukzarn_tracer_waitid(&tracer->handle, idtype, id, options, waited));
 }
 
 static inline int pukzarn_checked_tracer_wait_row(pukzarn_checked_tracer *tracer, uint32_t row, uint32_t options,
@@ -379,7 +388,7 @@ static inline int pukzarn_checked_tracer_wait_row(pukzarn_checked_tracer *tracer
     int refused = waited == NULL ? -EFAULT : PUKZARN_BEGIN(tracer);
     if (refused != 0)
         return refused;
-    return (int)PUKZARN_END(tracer, pukzarn_tracer_wait_row(&tracer->handle, row, options, waited));
+    return PUKZARN_END(tracer, pukzarn_tracer_wait_row(&tracer->handle, row, options, waited));
 }
 
 static inline int pukzarn_checked_tracer_waitpid(pukzarn_checked_tracer *tracer, int32_t pid, int *status,
@@ -388,70 +397,70 @@ static inline int pukzarn_checked_tracer_waitpid(pukzarn_checked_tracer *tracer,
     int refused = status == NULL ? -EFAULT : PUKZARN_BEGIN(tracer);
     if (refused != 0)
         return refused;
-    return (int)PUKZARN_END(tracer, pukzarn_tracer_waitpid(&tracer->handle, pid, status, options));
+    return PUKZARN_END(tracer, pukzarn_tracer_waitpid(&tracer->handle, pid, status, options));
 }
 
 static inline int pukzarn_checked_tracer_stop(pukzarn_checked_tracer *tracer, int32_t pid, uint32_t *number,
                                               struct pukzarn_stop *stop)
 {
     int refused = number == NULL || stop == NULL ? -EFAULT : PUKZARN_BEGIN(tracer);
-    return refused != 0 ? refused : (int)PUKZARN_END(tracer, pukzarn_tracer_stop(&tracer->handle, pid, number, stop));
+    return refused != 0 ? refused : PUKZARN_END(tracer, pukzarn_tracer_stop(&tracer->handle, pid, number, stop));
 }
 
 static inline int pukzarn_checked_tracer_message(pukzarn_checked_tracer *tracer, int32_t pid, uint64_t *message)
 {
     int refused = message == NULL ? -EFAULT : PUKZARN_BEGIN(tracer);
-    return refused != 0 ? refused : (int)PUKZARN_END(tracer, pukzarn_tracer_message(&tracer->handle, pid, message));
+    return refused != 0 ? refused : PUKZARN_END(tracer, pukzarn_tracer_message(&tracer->handle, pid, message));
 }
 
 static inline int pukzarn_checked_tracer_getregs(pukzarn_checked_tracer *tracer, int32_t pid,
                                                  struct pukzarn_regs *regs)
 {
     int refused = regs == NULL ? -EFAULT : PUKZARN_BEGIN(tracer);
-    return refused != 0 ? refused : (int)PUKZARN_END(tracer, pukzarn_tracer_getregs(&tracer->handle, pid, regs));
+    return refused != 0 ? refused : PUKZARN_END(tracer, pukzarn_tracer_getregs(&tracer->handle, pid, regs));
 }
 
 static inline int pukzarn_checked_tracer_setregs(pukzarn_checked_tracer *tracer, int32_t pid,
                                                  const struct pukzarn_regs *regs)
 {
     int refused = regs == NULL ? -EFAULT : PUKZARN_BEGIN(tracer);
-    return refused != 0 ? refused : (int)PUKZARN_END(tracer, pukzarn_tracer_setregs(&tracer->handle, pid, regs));
+    return refused != 0 ? refused : PUKZARN_END(tracer, pukzarn_tracer_setregs(&tracer->handle, pid, regs));
 }
 
 static inline long pukzarn_checked_tracer_read(pukzarn_checked_tracer *tracer, int32_t pid, uint64_t addr, void *to,
                                                size_t len)
 {
     int refused = to == NULL ? -EFAULT : PUKZARN_BEGIN(tracer);
-    return refused != 0 ? refused : PUKZARN_END(tracer, pukzarn_tracer_read(&tracer->handle, pid, addr, to, len));
+    return refused != 0 ? refused : PUKZARN_END_LONG(tracer, pukzarn_tracer_read(&tracer->handle, pid, addr, to, len));
 }
 
 static inline int pukzarn_checked_tracer_write(pukzarn_checked_tracer *tracer, int32_t pid, uint64_t addr,
                                                const void *from, size_t len)
 {
     int refused = from == NULL ? -EFAULT : PUKZARN_BEGIN(tracer);
-    if (refused != 0)
-        return refused;
-    return (int)PUKZARN_END(tracer, pukzarn_tracer_write(&tracer->handle, pid, addr, from, len));
+    return refused != 0 ? refused : PUKZARN_END(tracer, pukzarn_tracer_write(&tracer->handle, pid, addr, from, len));
 }
 
 static inline long pukzarn_checked_tracer_syscall_info(pukzarn_checked_tracer *tracer, int32_t pid, void *to,
                                                        size_t len)
 {
     int refused = to == NULL ? -EFAULT : PUKZARN_BEGIN(tracer);
-    return refused != 0 ? refused : PUKZARN_END(tracer, pukzarn_tracer_syscall_info(&tracer->handle, pid, to, len));
+    if (refused != 0)
+        return refused;
+    return PUKZARN_END_LONG(tracer, pukzarn_tracer_syscall_info(&tracer->handle, pid, to, len));
 }
 
 static inline int pukzarn_checked_tracer_resume(pukzarn_checked_tracer *tracer, int32_t pid,
                                                 const struct pukzarn_restart *restart)
 {
     int refused = restart == NULL ? -EFAULT : PUKZARN_BEGIN(tracer);
-    return refused != 0 ? refused : (int)PUKZARN_END(tracer, pukzarn_tracer_resume(&tracer->handle, pid, restart));
+    return refused != 0 ? refused : PUKZARN_END(tracer, pukzarn_tracer_resume(&tracer->handle, pid, restart));
 }
 
 static inline int pukzarn_checked_tracer_close(pukzarn_checked_tracer *tracer)
 {
     int refused = PUKZARN_BEGIN(tracer);
-    return refused != 0 ? refused : (int)PUKZARN_END(tracer, pukzarn_tracer_close(&tracer->handle));
+    return refused != 0 ? refused : PUKZARN_END(tracer, pukzarn_tracer_close(&tracer->handle));
 }
 
 /* ---- Scripts ---- */
@@ -462,19 +471,19 @@ static inline int pukzarn_checked_case_open(pukzarn_checked_case *script, const 
     int refused = text == NULL || line == NULL || cause == NULL ? -EFAULT : PUKZARN_BEGIN(script);
     if (refused != 0)
         return refused;
-    return (int)PUKZARN_END(script, pukzarn_case_open(&script->handle, text, len, line, cause, room));
+    return PUKZARN_END(script, pukzarn_case_open(&script->handle, text, len, line, cause, room));
 }
 
 static inline int pukzarn_checked_case_rows(pukzarn_checked_case *script, struct pukzarn_row *rows, size_t room)
 {
     int refused = rows == NULL ? -EFAULT : PUKZARN_BEGIN(script);
-    return refused != 0 ? refused : (int)PUKZARN_END(script, pukzarn_case_rows(&script->handle, rows, room));
+    return refused != 0 ? refused : PUKZARN_END(script, pukzarn_case_rows(&script->handle, rows, room));
 }
 
 static inline int pukzarn_checked_case_close(pukzarn_checked_case *script)
 {
     int refused = PUKZARN_BEGIN(script);
-    return refused != 0 ? refused : (int)PUKZARN_END(script, pukzarn_case_close(&script->handle));
+    return refused != 0 ? refused : PUKZARN_END(script, pukzarn_case_close(&script->handle));
 }
 
 static inline int pukzarn_checked_machine_open(pukzarn_checked_machine *machine, pukzarn_checked_case *script,
@@ -488,20 +497,20 @@ static inline int pukzarn_checked_machine_open(pukzarn_checked_machine *machine,
         answer = pukzarn_machine_open(&machine->handle, &script->handle, row);
         PUKZARN_END(script, 0);
     }
-    return (int)PUKZARN_END(machine, answer);
+    return PUKZARN_END(machine, answer);
 }
 
 static inline int pukzarn_checked_machine_options(pukzarn_checked_machine *machine, uint32_t options)
 {
     int refused = PUKZARN_BEGIN(machine);
-    return refused != 0 ? refused : (int)PUKZARN_END(machine, pukzarn_machine_options(&machine->handle, options));
+    return refused != 0 ? refused : PUKZARN_END(machine, pukzarn_machine_options(&machine->handle, options));
 }
 
 static inline int pukzarn_checked_machine_filter(pukzarn_checked_machine *machine, const uint64_t calls[2],
                                                  uint16_t data)
 {
     int refused = calls == NULL ? -EFAULT : PUKZARN_BEGIN(machine);
-    return refused != 0 ? refused : (int)PUKZARN_END(machine, pukzarn_machine_filter(&machine->handle, calls, data));
+    return refused != 0 ? refused : PUKZARN_END(machine, pukzarn_machine_filter(&machine->handle, calls, data));
 }
 
 static inline int pukzarn_checked_machine_next(pukzarn_checked_machine *machine, const struct pukzarn_restart *restart,
@@ -515,17 +524,18 @@ static inline int pukzarn_checked_machine_next(pukzarn_checked_machine *machine,
         answer = pukzarn_machine_next(&machine->handle, restart, &record->handle, stop);
         PUKZARN_END(record, 0);
     }
-    return (int)PUKZARN_END(machine, answer);
+    return PUKZARN_END(machine, answer);
 }
 
 static inline int pukzarn_checked_machine_close(pukzarn_checked_machine *machine)
 {
     int refused = PUKZARN_BEGIN(machine);
-    return refused != 0 ? refused : (int)PUKZARN_END(machine, pukzarn_machine_close(&machine->handle));
+    return refused != 0 ? refused : PUKZARN_END(machine, pukzarn_machine_close(&machine->handle));
 }
 
 #undef PUKZARN_BEGIN
 #undef PUKZARN_END
+#undef PUKZARN_END_LONG
 
 #ifdef __cplusplus
 }

@@ -239,6 +239,8 @@ static void waits_by_pid(void)
     CHECK(WSTOPSIG(status), 15);
     CHECK(resume(tracer, 100, PUKZARN_CONT, 15), 0);
     CHECK(pukzarn_tracee_take_up(&cells.tracees[ROOT], &restart), 0);
+    CHECK(restart.kind, PUKZARN_CONT);
+    CHECK(restart.signal, 15);
     CHECK(pukzarn_tracee_exit(&cells.tracees[ROOT], STATUS_KILLED_TERM), 0);
     CHECK(pukzarn_tracer_waitpid(tracer, 100, &status, 0), 100);
     CHECK(WIFSIGNALED(status), 1);

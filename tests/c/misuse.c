@@ -21,7 +21,6 @@ static void closing_and_opening(void)
         CHECK(pukzarn_record_open(&record, 100), -EBUSY);
         CHECK(pukzarn_record_close(&record), 0);
         CHECK(record.live, 0);
-        CHECK(record.at == NULL, 1);
         CHECK(pukzarn_board_close(&board), -EBADF);
         CHECK(pukzarn_board_open(&board, &row, 1, &faulty), 0);
         CHECK(pukzarn_board_open(&board, &row, 1, &faulty), -EBUSY);

@@ -5,9 +5,8 @@
 #include <sched.h>
 #include <sys/ptrace.h>
 #include <sys/wait.h>
-#include <time.h>
 
-enum { MOST_ROWS = 4, MOST_TRACERS = 16, MOST_STOPS = 5000, ROUNDS = 50 };
+enum { MOST_ROWS = 4, MOST_TRACERS = 16, MOST_STOPS = 5000, ROUNDS = 10 };
 
 static const uint32_t options = PTRACE_O_TRACESYSGOOD | PTRACE_O_TRACEFORK | PTRACE_O_TRACECLONE;
 
@@ -31,24 +30,12 @@ struct run {
 
 static struct run run;
 
-/* Lets other threads run, and now and then sleeps, so that a busy machine does not spend its time on looks. */
-static void idle(uint32_t *turns)
-{
-    static const struct timespec nap = {0, 50000};
-    *turns += 1;
-    if (*turns % 16 != 0)
-        sched_yield();
-    else
-        nanosleep(&nap, NULL);
-}
-
 /* Ends a tracee, once all others of its thread group have ended. */
 static void end(pukzarn_tracee *tracee, uint32_t status)
 {
-    uint32_t turns = 0;
     int answer;
     while ((answer = pukzarn_tracee_exit(tracee, status)) == -EBUSY)
-        idle(&turns);
+        sched_yield();
     CHECK(answer, 0);
 }
 
@@ -59,10 +46,10 @@ static void *tracee_thread(void *place)
     for (uint32_t wanted = 1;; wanted++) {
         struct pukzarn_restart restart;
         struct pukzarn_stop stop;
-        uint32_t number = 0, turns = 0;
+        uint32_t number = 0;
         int answer;
         while ((answer = pukzarn_tracee_take_up(tracee, &restart)) == -EAGAIN)
-            idle(&turns);
+            sched_yield();
         CHECK(answer, 0);
         if (answer != 0)
             return NULL;
@@ -92,7 +79,6 @@ static void count(const struct pukzarn_waited *waited)
 static void *tracer_thread(void *place)
 {
     pukzarn_tracer *tracer = &run.tracers[(size_t)place];
-    uint32_t turns = 0;
     for (;;) {
         struct pukzarn_waited waited;
         struct pukzarn_stop stop;
@@ -100,7 +86,7 @@ static void *tracer_thread(void *place)
         uint32_t number = 0;
         int answer = pukzarn_tracer_waitid(tracer, P_ALL, 0, WEXITED | WSTOPPED | WNOHANG, &waited);
         if (answer == 0)
-            idle(&turns);
+            sched_yield();
         if (answer == -ECHILD)
             return NULL;
         if (answer != 1) {

@@ -12,7 +12,7 @@ COMMA = ,
 # The library for C: the archive that is handed out, what rt makes of crates/pukzarn, the kit's functions for the heap.
 LIBRARY ?= lib/libpukzarn.a
 ARCHIVE ?= crates/pukzarn/out/libpukzarn.a
-HEAP ?= $(dir $(realpath $(shell command -v $(RT))))../c/liblibc_c.a
+HEAP ?= $(dir $(shell $(RT) doc))c/liblibc_c.a
 VERSION = $(shell sed -n 's/.*\.version("\(.*\)").*/\1/p' crates/tracer_cli/src/arguments.rt)
 
 .PHONY: all kit demo examples scarce-memory refused-memory man-page documents one-source one-meaning refused-code check \
@@ -278,12 +278,12 @@ $(C_OUT)/%.c++: tests/c/%.c $(wildcard tests/c/*.h include/*.h) $(LIBRARY)
 	@$(CXX) -O2 -std=c++17 $(C_WARNINGS) -x c++ $(filter %.c,$^) -x none $(C_LINKED) -o $@
 
 $(LIBRARY):
-	@echo "library-test: there is no $(LIBRARY): make library" >&2; exit 2
+	@$(MAKE) --no-print-directory library
 
 C_BUILT = $(C_PROGRAMS:%=$(C_OUT)/%) $(C_PROGRAMS:%=$(C_OUT)/%.sanitized) $(CXX_PROGRAMS:%=$(C_OUT)/%.c++)
 
-# LIBRARY=FILE is the archive, which is made already.
-library-test:
+# LIBRARY=FILE is the archive, which is made where it is not there.
+library-test: $(LIBRARY)
 	@echo "library-test: building and running the programs of tests/c with $(LIBRARY) (a minute)"
 	@$(PYTHON) tools/c_library.py --self-test
 	@$(PYTHON) tools/c_library.py

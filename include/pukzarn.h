@@ -287,11 +287,11 @@ int pukzarn_tracee_map(pukzarn_tracee *tracee, uint64_t addr);
 long pukzarn_tracee_read(pukzarn_tracee *tracee, uint64_t addr, void *to, size_t len);
 int pukzarn_tracee_write(pukzarn_tracee *tracee, uint64_t addr, const void *from, size_t len);
 
-/* Lets a machine of the tracee's row run from the restart that was taken up to its next stop, in the record in hand.
- * The stop is then published by pukzarn_tracee_publish. Answers 0; or 1 where the script ends, and then stop->value is
- * the raw wait status of the death, for pukzarn_tracee_exit.
+/* Lets a machine run from the restart that was taken up to its next stop: its registers and memory are then those in
+ * hand, and the stop is to be published by pukzarn_tracee_publish. The machine is that of the tracee's row; one of
+ * another row runs that row's script for this tracee. Answers 0; or 1 where the script ends, and then stop->value is
+ * the raw wait status of the death, for pukzarn_tracee_exit. It takes no memory.
  * -ESRCH   the row is not taken up
- * -EINVAL  the machine is of another row
  * -EFAULT  the script stores to what is not mapped */
 int pukzarn_tracee_next(pukzarn_tracee *tracee, pukzarn_machine *machine, struct pukzarn_stop *stop);
 

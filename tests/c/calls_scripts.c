@@ -361,43 +361,105 @@ static void steps_that_are_refused(void)
     end(&traced);
 }
 
+/* Cells over the worked case, and the machine of its first row. */
+struct cells {
+    struct traced traced;
+    pukzarn_tracee tracees[2];
+    pukzarn_tracer tracer;
+};
+
+static void open_cells(struct cells *cells)
+{
+    struct pukzarn_row rows[2];
+    uint32_t faulty;
+    memset(cells, 0, sizeof *cells);
+    trace(&cells->traced, worked, FOLLOW);
+    CHECK(pukzarn_case_rows(&cells->traced.script, rows, 2), 2);
+    CHECK(pukzarn_open(rows, 2, cells->tracees, 2, &cells->tracer, 1, &faulty), 0);
+}
+
+static void close_cells(struct cells *cells)
+{
+    CHECK(pukzarn_tracee_close(&cells->tracees[0]), 0);
+    CHECK(pukzarn_tracee_close(&cells->tracees[1]), 0);
+    CHECK(pukzarn_tracer_close(&cells->tracer), 0);
+    end(&cells->traced);
+}
+
+/* The tracee is restarted, and the machine makes its next stop, which gets this number and this status. */
+static void stops_of_tracee(struct cells *cells, uint32_t wanted_kind, uint32_t wanted_number, int wanted_status)
+{
+    struct pukzarn_restart restart = restart_of(PUKZARN_SYSCALL, 0);
+    struct pukzarn_stop stop = no_stop();
+    uint32_t number = UNTOUCHED;
+    int status = 0;
+    if (wanted_number > 1)
+        CHECK(pukzarn_tracer_resume(&cells->tracer, 100, &restart), 0);
+    CHECK(pukzarn_tracee_take_up(&cells->tracees[0], &restart), 0);
+    CHECK(pukzarn_tracee_next(&cells->tracees[0], &cells->traced.machine, &stop), 0);
+    CHECK_STOP(stop, wanted_kind, 0);
+    CHECK(pukzarn_tracee_publish(&cells->tracees[0], &stop, &number), 0);
+    CHECK(number, wanted_number);
+    CHECK(pukzarn_tracer_waitpid(&cells->tracer, -1, &status, 0), 100);
+    CHECK(status, wanted_status);
+}
+
 /* A script's stops in the hand of a tracee of the cells. */
 static void a_tracee_runs_its_script(void)
 {
-    struct traced traced;
-    struct pukzarn_row rows[2];
-    pukzarn_tracee tracees[2] = {PUKZARN_CLOSED, PUKZARN_CLOSED};
-    pukzarn_tracer tracer = PUKZARN_CLOSED;
-    struct pukzarn_restart restart = restart_of(PUKZARN_SYSCALL, 0);
+    struct cells cells;
     struct pukzarn_stop stop = no_stop();
-    uint32_t faulty, number;
-    int status;
-    trace(&traced, worked, FOLLOW);
-    CHECK(pukzarn_case_rows(&traced.script, rows, 2), 2);
-    CHECK(pukzarn_open(rows, 2, tracees, 2, &tracer, 1, &faulty), 0);
-    CHECK(pukzarn_tracee_next(&tracees[0], &traced.machine, &stop), -ESRCH); /* not taken up */
-    CHECK(pukzarn_tracee_next(&tracees[1], &traced.machine, &stop), -ESRCH);
-    CHECK(pukzarn_tracee_take_up(&tracees[0], &restart), 0);
+    struct pukzarn_restart restart = restart_of(PUKZARN_SYSCALL, 0);
+    open_cells(&cells);
+    CHECK(pukzarn_tracee_next(&cells.tracees[0], &cells.traced.machine, &stop), -ESRCH); /* not taken up */
+    CHECK(pukzarn_tracee_next(&cells.tracees[1], &cells.traced.machine, &stop), -ESRCH);
+    stops_of_tracee(&cells, PUKZARN_START, 1, STATUS_START);
+    stops_of_tracee(&cells, PUKZARN_ENTER, 2, STATUS_SYSCALL);
+    CHECK(pukzarn_tracer_resume(&cells.tracer, 100, &restart), 0);
+    CHECK(pukzarn_tracee_take_up(&cells.tracees[0], &restart), 0);
+    CHECK(pukzarn_machine_close(&cells.traced.machine), 0);
+    CHECK(pukzarn_tracee_next(&cells.tracees[0], &cells.traced.machine, &stop), -EBADF);
     CHECK(stop.kind, UNTOUCHED);
-    CHECK(pukzarn_tracee_next(&tracees[0], &traced.machine, &stop), 0);
-    CHECK_STOP(stop, PUKZARN_START, 0);
-    CHECK(pukzarn_tracee_publish(&tracees[0], &stop, &number), 0);
-    CHECK(number, 1);
-    CHECK(pukzarn_tracer_waitpid(&tracer, -1, &status, 0), 100);
-    CHECK(status, STATUS_START);
-    restart = restart_of(PUKZARN_SYSCALL, 0);
-    CHECK(pukzarn_tracer_resume(&tracer, 100, &restart), 0);
-    CHECK(pukzarn_tracee_take_up(&tracees[0], &restart), 0);
-    CHECK(pukzarn_tracee_next(&tracees[0], &traced.machine, &stop), 0);
-    CHECK_STOP(stop, PUKZARN_ENTER, 0);
-    CHECK(pukzarn_machine_close(&traced.machine), 0);
-    CHECK(pukzarn_tracee_next(&tracees[0], &traced.machine, &stop), -EBADF);
-    /* The machine of another row. */
-    CHECK(pukzarn_machine_open(&traced.machine, &traced.script, 1), 0);
-    CHECK(pukzarn_tracee_next(&tracees[0], &traced.machine, &stop), -EINVAL);
-    CHECK_STOP(stop, PUKZARN_ENTER, 0);
-    CHECK(pukzarn_tracee_close(&tracees[0]), 0);
-    CHECK(pukzarn_tracee_close(&tracees[1]), 0);
+    CHECK(pukzarn_machine_open(&cells.traced.machine, &cells.traced.script, 1), 0);
+    close_cells(&cells);
+}
+
+/* The machine of another row: its stops are this tracee's, with the numbers of this tracee. */
+static void a_tracee_runs_another_script(void)
+{
+    struct cells cells;
+    open_cells(&cells);
+    stops_of_tracee(&cells, PUKZARN_START, 1, STATUS_START);
+    CHECK(pukzarn_machine_close(&cells.traced.machine), 0);
+    CHECK(pukzarn_machine_open(&cells.traced.machine, &cells.traced.script, 1), 0);
+    stops_of_tracee(&cells, PUKZARN_START, 2, STATUS_START);
+    stops_of_tracee(&cells, PUKZARN_ENTER, 3, STATUS_SYSCALL);
+    close_cells(&cells);
+}
+
+/* What a script stores to has to be mapped in the record in hand, of which a tracer unmaps nothing: a machine that has
+ * loaded its image elsewhere finds none here. */
+static void a_tracee_faults(void)
+{
+    static const char text[] = "tracee 100 100 77 0\npage 0x10000\ncall read 0 0x10000 1 = 1 fill 0x10000 61\nend\n";
+    struct traced traced;
+    pukzarn_tracee tracee = PUKZARN_CLOSED;
+    pukzarn_tracer tracer = PUKZARN_CLOSED;
+    struct pukzarn_row row = row_of(100, 100, 77, 0);
+    struct pukzarn_restart restart;
+    struct pukzarn_stop stop = no_stop();
+    uint32_t faulty;
+    trace(&traced, text, PLAIN);
+    CHECK(pukzarn_open(&row, 1, &tracee, 1, &tracer, 1, &faulty), 0);
+    stops(&traced, PUKZARN_CONT, 0, 1, PUKZARN_START, 0);
+    CHECK(pukzarn_tracee_take_up(&tracee, &restart), 0);
+    CHECK(pukzarn_tracee_next(&tracee, &traced.machine, &stop), -EFAULT);
+    CHECK(stop.kind, UNTOUCHED);
+    CHECK(pukzarn_tracee_map(&tracee, 0x10000), 0);
+    CHECK(pukzarn_tracee_next(&tracee, &traced.machine, &stop), 1);
+    CHECK(stop.value, 0);
+    CHECK(pukzarn_tracee_exit(&tracee, stop.value), 0);
+    CHECK(pukzarn_tracee_close(&tracee), 0);
     CHECK(pukzarn_tracer_close(&tracer), 0);
     end(&traced);
 }
@@ -416,5 +478,7 @@ int main(void)
     options_of_a_machine();
     steps_that_are_refused();
     a_tracee_runs_its_script();
+    a_tracee_runs_another_script();
+    a_tracee_faults();
     return checked("calls_scripts");
 }

@@ -290,8 +290,8 @@ library-test: $(LIBRARY)
 	@$(PYTHON) tools/c_library.py archive $(LIBRARY)
 	@mkdir -p $(C_OUT)
 	@$(MAKE) --no-print-directory $(C_BUILT)
-	@for program in $(C_BUILT); do $$program > $(C_OUT)/printed.txt || { cat $(C_OUT)/printed.txt; \
-	  echo "library-test: FAILED: $$program" >&2; exit 1; }; done
+	@for program in $(C_BUILT); do timeout 600 $$program > $(C_OUT)/printed.txt || { cat $(C_OUT)/printed.txt; \
+	  echo "library-test: FAILED: $$program, or it took more than 600 s" >&2; exit 1; }; done
 	@$(PYTHON) tools/c_library.py page $(C_OUT)/small_tracer
 	@rm -rf $(C_OUT)/root
 	@$(MAKE) --no-print-directory install-library DESTDIR=$(abspath $(C_OUT)/root)

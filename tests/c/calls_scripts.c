@@ -245,7 +245,7 @@ static void calls_are_bits(void)
 /* PTRACE_O_TRACEEXIT adds a stop before the death. */
 static void endings(void)
 {
-    static const char deadly[] = "tracee 100 100 100 0\nsignal 15 deadly\nexit 0\nend\n";
+    static const char deadly[] = "tracee 100 100 100 0\nsignal 15 deadly\nexit 3\nend\n";
     struct traced traced;
     uint64_t message = 0;
     trace(&traced, deadly, PLAIN | PTRACE_O_TRACEEXIT);
@@ -260,7 +260,7 @@ static void endings(void)
     trace(&traced, deadly, PLAIN);
     stops(&traced, PUKZARN_CONT, 0, 1, PUKZARN_START, 0);
     stops(&traced, PUKZARN_CONT, 0, 2, PUKZARN_SIGNAL, 15);
-    dies(&traced, PUKZARN_CONT, 0, 0);
+    dies(&traced, PUKZARN_CONT, 0, STATUS_EXITED_3);
     end(&traced);
 }
 
@@ -437,8 +437,8 @@ static void a_tracee_runs_another_script(void)
     close_cells(&cells);
 }
 
-/* What a script stores to has to be mapped in the record in hand, of which a tracer unmaps nothing: a machine that has
- * loaded its image elsewhere finds none here. */
+/* A machine that has loaded its image into another record finds no page in hand to store to: nothing changes, and with
+ * the page the call is made. */
 static void a_tracee_faults(void)
 {
     static const char text[] = "tracee 100 100 77 0\npage 0x10000\ncall read 0 0x10000 1 = 1 fill 0x10000 61\nend\n";
@@ -447,18 +447,25 @@ static void a_tracee_faults(void)
     pukzarn_tracer tracer = PUKZARN_CLOSED;
     struct pukzarn_row row = row_of(100, 100, 77, 0);
     struct pukzarn_restart restart;
+    struct pukzarn_regs regs;
     struct pukzarn_stop stop = no_stop();
     uint32_t faulty;
-    trace(&traced, text, PLAIN);
+    trace(&traced, text, PLAIN | PTRACE_O_TRACEEXIT);
     CHECK(pukzarn_open(&row, 1, &tracee, 1, &tracer, 1, &faulty), 0);
     stops(&traced, PUKZARN_CONT, 0, 1, PUKZARN_START, 0);
     CHECK(pukzarn_tracee_take_up(&tracee, &restart), 0);
-    CHECK(pukzarn_tracee_next(&tracee, &traced.machine, &stop), -EFAULT);
+    for (int i = 0; i < 2; i++)
+        CHECK(pukzarn_tracee_next(&tracee, &traced.machine, &stop), -EFAULT);
     CHECK(stop.kind, UNTOUCHED);
+    CHECK(pukzarn_tracee_getregs(&tracee, &regs), 0);
+    CHECK(regs.rip, 0);
     CHECK(pukzarn_tracee_map(&tracee, 0x10000), 0);
-    CHECK(pukzarn_tracee_next(&tracee, &traced.machine, &stop), 1);
-    CHECK(stop.value, 0);
-    CHECK(pukzarn_tracee_exit(&tracee, stop.value), 0);
+    CHECK(pukzarn_tracee_next(&tracee, &traced.machine, &stop), 0);
+    CHECK_STOP(stop, PUKZARN_ENDING, 0);
+    CHECK(pukzarn_tracee_getregs(&tracee, &regs), 0);
+    CHECK(regs.rip, 2);
+    CHECK(regs.rsi, 0x10000);
+    CHECK(regs.rax, 1);
     CHECK(pukzarn_tracee_close(&tracee), 0);
     CHECK(pukzarn_tracer_close(&tracer), 0);
     end(&traced);

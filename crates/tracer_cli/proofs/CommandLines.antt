@@ -210,6 +210,18 @@ module _ (words : List (List ℕ)) (input before after : Option (List ℕ)) (end
   shown_words (Err NoMemory) asked answers ask = inr (ap run_status answers)
   shown_words (Err failure) asked answers ask = absurd asked
 
+  pub status_said : (status : ℕ) → AnswersWords words input before after ended → status ≡ run_status ended
+      → IsExitStatusOf words status
+  status_said status answered is =
+      let P : ℕ → Type 0 = λ n. IsExitStatusOf words n in
+      subst P (sym is) (record {
+        done = done_words answered.asked answered.is_asked answered.answers;
+        answered = answered_words answered.asked answered.is_asked answered.answers;
+        wrong = wrong_words answered.asked answered.is_asked answered.answers;
+        contradictory = contradictory_words answered.asked answered.is_asked answered.answers;
+        shown = shown_words answered.asked answered.is_asked answered.answers;
+      })
+
 -- ---- how the program ends
 
 module _ (words : List (List ℕ)) (input before after old new : Option (List ℕ)) (ended : Ending) (status : ℕ)
@@ -230,18 +242,6 @@ module _ (words : List (List ℕ)) (input before after old new : Option (List �
   explore_answered ask =
       ends_so (λ text. ExploresNamed words text before after) input old new ended status
       (explore_from words input before after ended answered.asked ask answered.is_asked answered.answers) reported is
-
-  pub status_said : IsExitStatusOf words status
-  status_said =
-      let P : ℕ → Type 0 = λ n. IsExitStatusOf words n in
-      subst P (sym is) (record {
-        done = done_words words input before after ended answered.asked answered.is_asked answered.answers;
-        answered = answered_words words input before after ended answered.asked answered.is_asked answered.answers;
-        wrong = wrong_words words input before after ended answered.asked answered.is_asked answered.answers;
-        contradictory = contradictory_words words input before after ended answered.asked answered.is_asked
-            answered.answers;
-        shown = shown_words words input before after ended answered.asked answered.is_asked answered.answers;
-      })
 
 -- ---- what is read
 

@@ -7,7 +7,7 @@ pub returns-in-Ok-clause-asked : goal.returns-in-Ok-clause-asked
 returns-in-Ok-clause-asked g c = (Ok c.in-Ok.field-0, (c.in-Ok.ensures.asked, c.in-Ok.ensures.unwritten), refl, refl)
 
 pub returns-in-Ok-clause-words : goal.returns-in-Ok-clause-words
-returns-in-Ok-clause-words g c = status_said _ _ _ _ _ _ _ _ c.in-Ok.ensures.asked refl refl
+returns-in-Ok-clause-words g c = status_said _ _ _ _ _ _ c.in-Ok.ensures.asked refl
 
 pub returns-in-Ok-clause-replay : goal.returns-in-Ok-clause-replay
 returns-in-Ok-clause-replay g c = replay_answered _ _ _ _ _ _ _ _ c.in-Ok.ensures.asked refl refl
@@ -27,8 +27,7 @@ returns-in-Err-clause-asked g c = (
 )
 
 pub returns-in-Err-clause-words : goal.returns-in-Err-clause-words
-returns-in-Err-clause-words g c =
-    status_said _ _ _ _ _ _ _ _ c.in-Err.ensures.asked c.fail.ensures.begun c.fail.ensures.status
+returns-in-Err-clause-words g c = status_said _ _ _ _ _ _ c.in-Err.ensures.asked c.fail.ensures.status
 
 pub returns-in-Err-clause-replay : goal.returns-in-Err-clause-replay
 returns-in-Err-clause-replay g c =

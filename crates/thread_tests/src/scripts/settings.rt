@@ -4,7 +4,7 @@ use crate::compare::{holds, same};
 use crate::scripts::machine::{CONT, FORK, SYSCALL, machine_of, no_calls, stops_made};
 use std::alloc::Allocator;
 use std::test::Fail;
-use trace_options::{Filter, Options, check};
+use trace_options::{Filter, NAMED_CALLS, Options, check};
 use trace_record::{Death, Stop, StopRecord};
 use trace_script::{Case, Machine, Next};
 
@@ -24,10 +24,12 @@ fn set_options<A: Allocator>(machine: &mut Machine<A>, bits: u32) -> bool {
     true
 }
 
-/// A filter that stops one call.
+/// A filter that stops one call, if it has a name.
 fn one_call(nr: u64, ret_data: u16) -> Filter {
     let mut filter = no_calls();
-    filter.calls.add(nr);
+    if nr < NAMED_CALLS {
+        filter.calls.add(nr);
+    }
     filter.ret_data = ret_data;
     filter
 }

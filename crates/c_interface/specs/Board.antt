@@ -1,13 +1,20 @@
 -- The calls of the board for C: from the board before a call (a) to the board after it (b). Each is the board's own call
 -- where the numbers name its arguments.
-use Rattle.std.specs.Prelude.{◌≡◌, ◌⊎◌, ◌+◌, ◌<◌, ◌≤◌, ℕ, Result, Ok, Err, OnErr}
+use Rattle.std.specs.Prelude.{◌≡◌, ◌⊎◌, ◌+◌, ◌<◌, ◌≤◌, ℕ, ℤ, List, Some, None, Result, Ok, Err, OnErr}
 use Rattle.stop_history.specs.Event as event
 use Rattle.stop_history.specs.Event.{Event, History}
 use Rattle.stop_history.specs.Sequential.{claim_answer, exit_answer, goes_on, publish_answer, resume_answer}
-use Rattle.stop_history.specs.State.{last_number}
+use Rattle.stop_history.specs.State.{last_number, state_after}
+use Rattle.stop_history.specs.WaitRequest.{waitid_request}
+use Rattle.stop_history.specs.declared.id.Id.{Id}
+use Rattle.stop_history.specs.declared.wait_request.WaitRequest.{WaitRequest}
 use Rattle.stop_history.specs.declared.got.Got.{Got}
 use Rattle.stop_history.specs.declared.refused.Refused.{Refused}
 use Rattle.stop_board.specs.Board.{Held, StandsAfter}
+use Rattle.stop_board.specs.Waitable.{IsWaitableAnswer}
+use Rattle.trace_options.specs.WaitFlags.{wait_flag_bits}
+use Rattle.trace_options.specs.declared.errno.Errno.{Errno}
+use Rattle.trace_options.specs.declared.wait_flags.WaitFlags.{WaitFlags}
 use Rattle.trace_options.specs.declared.signal.TheConstants.{LAST_SIGNAL}
 use Rattle.trace_record.specs.Death.{IsDeath, death_status}
 use Rattle.trace_record.specs.declared.death.Death.{Death}
@@ -18,6 +25,7 @@ use Rattle.c_interface.specs.Error.{answered, error_of}
 use Rattle.c_interface.specs.Got.{got_numbers}
 use Rattle.c_interface.specs.Restart.{IsOfNoKind, restart_kind}
 use Rattle.c_interface.specs.Stop.{AreOfNoStop, IsMade, numbers_of}
+use Rattle.c_interface.specs.Waited.{AreOfNoFlags, called, id_in}
 use Rattle.c_interface.specs.declared.error.Error.{Error}
 use Rattle.c_interface.specs.declared.error.Error.TheVariants as error
 use Rattle.c_interface.specs.declared.got.CGot.{CGot}
@@ -93,3 +101,25 @@ abbrev pub IsResumeFor : (a b : Held) (row tracer : ℕ) → CRestart → Result
 IsResumeFor a b row tracer how result =
     (IsOfNoKind how.kind × IsInvalid a b result)
     ⊎ ((kind : Kind) × (restart_kind kind ≡ how.kind) × IsResumeBySignal a b row tracer kind how.signal result)
+
+-- ---- which rows a wait may be answered
+
+-- numbers of no wait: they name nobody, or no set of flags, or what waitid(2) refuses
+abbrev pub AreOfNoWait : (idtype : ℕ) (id : ℤ) (options : ℕ) → Type 0
+AreOfNoWait idtype id options =
+    (id_in idtype id ≡ None) ⊎ (AreOfNoFlags options
+    ⊎ ((who : Id) × (flags : WaitFlags) × (id_in idtype id ≡ Some who) × (wait_flag_bits flags ≡ options)
+    × (waitid_request who flags ≡ None)))
+
+-- the rows at every history at which the board stands
+abbrev pub IsWaitableAt : Held → WaitRequest → (old new : List ℕ) → Result ℕ Error → Type 0
+IsWaitableAt a request old new result =
+    (done : Result ℕ Errno) × (result ≡ called done)
+    × ((h : History) → StandsAfter a h → IsWaitableAnswer a.rows (state_after a.rows h) request old new done)
+
+abbrev pub IsWaitableFor : (idtype : ℕ) (id : ℤ) (options : ℕ) → Held → (old new : List ℕ) → Result ℕ Error → Type 0
+IsWaitableFor idtype id options a old new result =
+    (AreOfNoWait idtype id options × (result ≡ Err error.EINVAL) × (new ≡ old))
+    ⊎ ((who : Id) × (flags : WaitFlags) × (request : WaitRequest) × (id_in idtype id ≡ Some who)
+    × (wait_flag_bits flags ≡ options) × (waitid_request who flags ≡ Some request)
+    × IsWaitableAt a request old new result)

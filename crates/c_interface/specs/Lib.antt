@@ -1,9 +1,17 @@
 pub mod Board
 pub mod Error
 pub mod Got
+pub mod Hand
+pub mod InHand
+pub mod MachineEnd
+pub mod Opened
+pub mod Opening
 pub mod Record
 pub mod Regs
 pub mod Restart
+pub mod Scripts
 pub mod State
 pub mod Stop
+pub mod TraceeEnd
+pub mod Tracer
 pub mod Waited

@@ -13,6 +13,10 @@ restart_kind kind.Syscall = SYSCALL
 abbrev pub restart_numbers : Resume → CRestart
 restart_numbers how = record { kind = restart_kind how.kind; signal = how.signal }
 
+-- PTRACE_CONT without a signal
+abbrev pub cont_without_signal : Resume
+cont_without_signal = record { kind = kind.Cont; signal = 0 }
+
 -- no kind has this number
 abbrev pub IsOfNoKind : ℕ → Type 0
 IsOfNoKind number = (kind : Kind) → restart_kind kind ≡ number → ⊥

@@ -4,7 +4,7 @@ ghost use Rattle.std.specs.Prelude.{◌≡◌};
 ghost use Rattle.stop_board.specs.Board.{StandsAfter};
 ghost use Rattle.stop_history.specs.Event.{History};
 ghost use Rattle.stop_history.specs.State.{state_after};
-ghost use Rattle.c_interface.specs.Board.{IsClaimFor, IsExitFor, IsPublishFor, IsResumeFor};
+ghost use Rattle.c_interface.specs.Board.{IsClaimFor, IsExitFor, IsPublishFor, IsResumeFor, IsWaitableFor};
 ghost use Rattle.c_interface.specs.State.{state_in_numbers};
 
 use crate::error::{Error, error_of};
@@ -12,9 +12,11 @@ use crate::got::CGot;
 use crate::restart::CRestart;
 use crate::state::CState;
 use crate::stop::CStop;
+use crate::waited::{error_in, id_in};
 use std::alloc::Global;
 use stop_board::Board;
-use trace_options::LAST_SIGNAL;
+use stop_history::waitid_request;
+use trace_options::{LAST_SIGNAL, WaitFlags};
 use trace_record::{Death, Resume};
 
 /// The state of a row, `ABSENT` out of range.
@@ -24,8 +26,9 @@ pub fn board_state(board: &Board<Global>, row: u32) -> CState
     CState::of(board.state(row))
 }
 
-/// Publishes a running row's next stop, and answers its number. EINVAL: no row, numbers of no stop, or a child that is not
-/// the row's next one; ECHILD: the row is not born; EALREADY: it does not run; EOVERFLOW: it has made its last stop.
+/// Publishes a running row's next stop, and answers its number. EINVAL: no row, numbers of no stop, or a child that is
+/// not the row's next one; ECHILD: the row is not born; EALREADY: it does not run; EOVERFLOW: it has made its last
+/// stop.
 pub fn board_publish(board: &mut Board<Global>, row: u32, stop: CStop) -> Result<u32, Error>
     ensures { IsPublishFor board.old board.new row stop result }
 {
@@ -46,8 +49,8 @@ pub fn board_claim(board: &mut Board<Global>, row: u32, tracer: u32) -> Result<C
     }
 }
 
-/// Resumes a row that the tracer has claimed. EINVAL: no kind of restart, no row, or a tracer above 15; ECHILD: the row is
-/// not born; ESRCH: nobody has claimed it; EPERM: another tracer has; EIO: the signal is above 64.
+/// Resumes a row that the tracer has claimed. EINVAL: no kind of restart, no row, or a tracer above 15; ECHILD: the row
+/// is not born; ESRCH: nobody has claimed it; EPERM: another tracer has; EIO: the signal is above 64.
 pub fn board_resume(
     board: &mut Board<Global>,
     row: u32,
@@ -71,8 +74,8 @@ pub fn board_resume(
         .map_err(error_of)
 }
 
-/// Lets a running row exit, with the raw wait status of its death. EINVAL: no row, or a status of no death; ECHILD: the row
-/// is not born; EALREADY: it does not run; EBUSY: it leads a thread group of which another row is alive.
+/// Lets a running row exit, with the raw wait status of its death. EINVAL: no row, or a status of no death; ECHILD: the
+/// row is not born; EALREADY: it does not run; EBUSY: it leads a thread group of which another row is alive.
 pub fn board_exit(board: &mut Board<Global>, row: u32, status: u32) -> Result<(), Error>
     ensures { IsExitFor board.old board.new row status result }
 {
@@ -80,4 +83,29 @@ pub fn board_exit(board: &mut Board<Global>, row: u32, status: u32) -> Result<()
         return Err(Error::EINVAL);
     };
     board.exit(row, death).map_err(error_of)
+}
+
+/// Writes the rows that a waitid(2) of these arguments may be answered now, in the order of the roster, as many as the
+/// buffer has room for, and answers how many they are: 0 where there is nothing yet. EINVAL: numbers that name nobody,
+/// or no set of flags, and what waitid(2) refuses; ECHILD: each row that is meant is gone now, which is final but for
+/// one that is not born.
+pub fn board_waitable(
+    board: &Board<Global>,
+    idtype: u32,
+    id: i32,
+    options: u32,
+    to: &mut [u32],
+) -> Result<u32, Error>
+    ensures { IsWaitableFor idtype id options board.now to.old to.new result }
+{
+    let Some(who) = id_in(idtype, id) else {
+        return Err(Error::EINVAL);
+    };
+    let Some(flags) = WaitFlags::from_bits(options) else {
+        return Err(Error::EINVAL);
+    };
+    let Some(request) = waitid_request(who, flags) else {
+        return Err(Error::EINVAL);
+    };
+    board.waitable(request, to).map_err(error_in)
 }

@@ -27,8 +27,8 @@ pub fn record_open(alloc: Global, tid: u32) -> Result<StopRecord<Global>, Error>
     Ok(StopRecord::empty(alloc, tid))
 }
 
-/// Makes the record that of another stop with a number: registers and memory stay. EINVAL: numbers of no stop, or a number
-/// above 16,777,215.
+/// Makes the record that of another stop with a number: registers and memory stay. EINVAL: numbers of no stop, or a
+/// number above 16,777,215.
 pub fn record_set_stop(
     stopped: &mut StopRecord<Global>,
     number: u32,
@@ -76,8 +76,8 @@ pub fn record_setregs(stopped: &mut StopRecord<Global>, regs: &CRegs)
     stopped.regs = regs.regs();
 }
 
-/// Maps the page of zeros at an address. EINVAL: the address is no multiple of 4096; EEXIST: the page is mapped already;
-/// ENOSPC: there are 256 pages; ENOMEM.
+/// Maps the page of zeros at an address. EINVAL: the address is no multiple of 4096; EEXIST: the page is mapped
+/// already; ENOSPC: there are 256 pages; ENOMEM.
 pub fn record_map(stopped: &mut StopRecord<Global>, addr: u64) -> Result<(), Error>
     ensures { IsMapping stopped.old stopped.new addr result }
 {
@@ -92,8 +92,8 @@ pub fn record_map(stopped: &mut StopRecord<Global>, addr: u64) -> Result<(), Err
     }
 }
 
-/// Copies the bytes of the record's memory from an address on into a buffer, up to the first address that is not mapped, or
-/// the last one, and answers how many they are.
+/// Copies the bytes of the record's memory from an address on into a buffer, up to the first address that is not
+/// mapped, or the last one, and answers how many they are.
 pub fn record_read(stopped: &StopRecord<Global>, addr: u64, to: &mut [u8]) -> usize
     ensures count { result ≡ length (run stopped.now.memory addr (length to.old)) }
     ensures bytes { to.new ≡ run stopped.now.memory addr (length to.old) ++ drop result to.old }
@@ -101,8 +101,8 @@ pub fn record_read(stopped: &StopRecord<Global>, addr: u64, to: &mut [u8]) -> us
     stopped.memory.read(addr, to)
 }
 
-/// Stores bytes in the record's memory from an address on, or none of them where one of their addresses is not mapped or
-/// lies after the last one: EIO.
+/// Stores bytes in the record's memory from an address on, or none of them where one of their addresses is not mapped
+/// or lies after the last one: EIO.
 pub fn record_write(stopped: &mut StopRecord<Global>, addr: u64, bytes: &[u8]) -> Result<(), Error>
     ensures { IsWrite stopped.old stopped.new addr bytes.now result }
 {
@@ -112,8 +112,8 @@ pub fn record_write(stopped: &mut StopRecord<Global>, addr: u64, bytes: &[u8]) -
     }
 }
 
-/// Writes what `PTRACE_GET_SYSCALL_INFO` reports of the record's stop (ptrace(2)), cut to the buffer, and answers its full
-/// length.
+/// Writes what `PTRACE_GET_SYSCALL_INFO` reports of the record's stop (ptrace(2)), cut to the buffer, and answers its
+/// full length.
 pub fn record_syscall_info(stopped: &StopRecord<Global>, to: &mut [u8]) -> usize
     ensures full { result ≡ length (info_bytes (info_of stopped.now.stop stopped.now.regs)) }
     ensures written { to.new ≡ take (length to.old) (info_bytes (info_of stopped.now.stop stopped.now.regs))

@@ -1,9 +1,10 @@
 //! The state of a row, in numbers.
 
 ghost use Rattle.std.specs.Prelude.{◌≡◌};
-ghost use Rattle.c_interface.specs.State.{state_in_numbers};
+ghost use Rattle.c_interface.specs.State.{shown_in_numbers, state_in_numbers};
 
 use stop_board::State;
+use stop_table::Shown;
 
 /// `struct pukzarn_state`: the state of a row. What a phase has not is 0.
 #[repr(C)]
@@ -52,6 +53,26 @@ impl CState {
             phase,
             number,
             tracer,
+            status,
+        }
+    }
+
+    /// The numbers of what a look showed. It does not tell who has claimed a stop.
+    pub fn shown(shown: Shown) -> CState
+        ensures { result ≡ shown_in_numbers shown }
+    {
+        let (phase, number, status) = match shown {
+            Shown::Unborn => (CState::UNBORN, 0, 0),
+            Shown::Running => (CState::RUNNING, 0, 0),
+            Shown::Stopped { number, status } => (CState::STOPPED, number, status),
+            Shown::Claimed { number } => (CState::CLAIMED, number, 0),
+            Shown::Dead { number, status } => (CState::DEAD, number, status),
+            Shown::Reaped => (CState::REAPED, 0, 0),
+        };
+        CState {
+            phase,
+            number,
+            tracer: 0,
             status,
         }
     }

@@ -55,8 +55,8 @@ impl CStop {
         CStop { kind, value }
     }
 
-    /// The stop of these numbers, or None where no stop has them: another kind, a number beside a stop that has none, data
-    /// above 65535, a signal that is not 1 to 64, a raw status of no death.
+    /// The stop of these numbers, or None where no stop has them: another kind, a number beside a stop that has none,
+    /// data above 65535, a signal that is not 1 to 64, a raw status of no death.
     pub fn stop(self) -> Option<Stop>
         ensures told { IfSome result (λ stop. IsMade stop × (numbers_of stop ≡ self)) }
         ensures each { (stop : Stop) → IsMade stop → numbers_of stop ≡ self → result ≡ Some stop }

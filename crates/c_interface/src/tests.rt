@@ -1,5 +1,10 @@
 //! Each call for C once, with an answer worked out by hand from ptrace(2), waitid(2) and errno(3), and each refusal.
 
+mod cells;
+mod machines;
+mod scripts;
+mod waits;
+
 use super::*;
 use std::fmt::Debug;
 use std::process::Abort;

@@ -1,7 +1,7 @@
 //! What a wait asks for and reports, in numbers.
 
 ghost use Rattle.std.specs.Prelude.{◌≡◌, ℕ, Some};
-ghost use Rattle.c_interface.specs.Waited.{IsReportOf, IsWaitReport, death_flag, error_in, id_in};
+ghost use Rattle.c_interface.specs.Waited.{IsPidReport, IsReportOf, IsWaitReport, death_flag, error_in, id_in};
 ghost use Rattle.trace_status.specs.WaitStatus.{pid_of};
 
 use crate::error::Error;
@@ -31,6 +31,13 @@ pub struct CWaited {
     pub status: u32,
     /// 1: a death; 0: a stop.
     pub death: u32,
+}
+
+/// What waitpid(2) reports: the tracee's pid and its raw wait status.
+#[derive(Clone, Copy, Debug, PartialEq, Eq)]
+pub struct CWaitpid {
+    pub pid: u32,
+    pub status: u32,
 }
 
 /// The error of a wait or of a call by pid.
@@ -103,6 +110,20 @@ pub(crate) fn reported(told: Result<Option<RowStatus>, Errno>) -> Result<Option<
     match told {
         Ok(Some(found)) => Ok(Some(CWaited::of(found))),
         Ok(None) => Ok(None),
+        Err(error) => Err(error_in(error)),
+    }
+}
+
+/// What a wait by pid reports, or its error.
+pub(crate) fn reported_pid(told: Result<WaitStatus, Errno>) -> Result<Option<CWaitpid>, Error>
+    ensures { IsPidReport told result }
+{
+    match told {
+        Ok(WaitStatus::StillAlive) => Ok(None),
+        Ok(status) => Ok(Some(CWaitpid {
+            pid: tid_of(status),
+            status: encode(&status).unwrap_or(0),
+        })),
         Err(error) => Err(error_in(error)),
     }
 }

@@ -1,1 +1,4 @@
 mod Slots
+mod Filling
+mod Calls
+mod Cells

@@ -25,7 +25,7 @@ use Rattle.std.specs.contracts.alloc.Global as heap
 use Rattle.std.proofs.alloc.Global.TheLaws as heap_laws
 use Rattle.std.specs.contracts.impls.GlobalAllocator.TheImpl.{ghosts}
 use Rattle.pukzarn.specs.Slot.{slot_owns, right_to_free}
-use Rattle.pukzarn.specs.contracts.end.End as end
+use Rattle.pukzarn.specs.contracts.handle_value.HandleValue as end
 use Rattle.pukzarn.specs.contracts.slot.Slot as slot
 
 abbrev pub V : RattleType

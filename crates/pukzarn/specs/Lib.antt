@@ -1,2 +1,4 @@
 pub mod Call
+pub mod Opening
+pub mod Scripts
 pub mod Slot

@@ -1,16 +1,17 @@
 //! What a call answers C, and what it leaves in its handle.
 
-ghost use Rattle.std.specs.Prelude.{◌≡◌};
-ghost use Rattle.pukzarn.specs.Call.{IsClosed, IsKept, IsStatus, refusal};
+ghost use Rattle.std.specs.Prelude.{◌≡◌, ◌<◌, ◌^◌, pos};
+ghost use Rattle.pukzarn.specs.Call.{IsFoundInto, IsHandleClosed, IsInt, IsLong, IsPutIn, IsStatus, IsStatusInto};
+ghost use Rattle.pukzarn.specs.Call.{negative};
 
-use crate::end::End;
 use crate::handle::Handle;
+use crate::handle_value::HandleValue;
 use c_interface::Error;
 use std::alloc::Global;
 
 /// The negative number of an error.
-pub fn refusal(why: Error) -> i32
-    ensures { result ≡ refusal why }
+pub fn negative(why: Error) -> i32
+    ensures { result ≡ negative why }
 {
     -i32::from(why.number())
 }
@@ -21,22 +22,76 @@ pub fn status(done: Result<(), Error>) -> i32
 {
     match done {
         Ok(()) => 0,
-        Err(why) => refusal(why),
+        Err(why) => negative(why),
+    }
+}
+
+/// 0, and the answer is written; or the negative number of the error.
+pub fn told<T: Drop>(done: Result<T, Error>, to: &mut T) -> i32
+    ensures { IsStatusInto result to.old to.new done }
+{
+    match done {
+        Ok(answer) => {
+            *to = answer;
+            0
+        }
+        Err(why) => negative(why),
+    }
+}
+
+/// 1, and what was found is written; 0 where there is nothing yet; or the negative number of the error.
+pub fn found<T: Drop>(done: Result<Option<T>, Error>, to: &mut T) -> i32
+    ensures { IsFoundInto result to.old to.new done }
+{
+    match done {
+        Ok(Some(answer)) => {
+            *to = answer;
+            1
+        }
+        Ok(None) => 0,
+        Err(why) => negative(why),
+    }
+}
+
+/// A number of rows, or the negative number of the error.
+pub fn number_of(done: Result<u32, Error>) -> i32
+    ensures { IsInt result done }
+{
+    match done {
+        Ok(number) => i32::try_from(number).unwrap_or(i32::MAX),
+        Err(why) => negative(why),
+    }
+}
+
+/// A number of rows.
+pub fn number(rows: usize) -> i32
+    ensures { rows < 2 ^ 31 → result ≡ pos rows }
+{
+    i32::try_from(rows).unwrap_or(i32::MAX)
+}
+
+/// A number of bytes, or the negative number of the error.
+pub fn count(done: Result<usize, Error>) -> i64
+    ensures { IsLong result done }
+{
+    match done {
+        Ok(count) => i64::try_from(count).unwrap_or(i64::MAX),
+        Err(why) => i64::from(negative(why)),
     }
 }
 
 impl Handle {
     /// Puts a new end in, unless it could not be made, or there is no memory for it.
-    pub fn keep(&mut self, alloc: Global, made: Result<End, Error>) -> i32
-        requires { IsClosed self.now }
-        ensures { IsKept (λ end. end) made self.new result }
+    pub fn keep(&mut self, alloc: Global, made: Result<HandleValue, Error>) -> i32
+        requires { IsHandleClosed self.now }
+        ensures { IsPutIn (λ end. end) made self.new result }
     {
         let end = match made {
             Ok(end) => end,
-            Err(why) => return refusal(why),
+            Err(why) => return negative(why),
         };
         let Ok(boxed) = Box::new(alloc, end) else {
-            return refusal(Error::ENOMEM);
+            return negative(Error::ENOMEM);
         };
         self.fill(boxed);
         0

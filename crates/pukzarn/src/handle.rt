@@ -3,14 +3,14 @@
 ghost use Rattle.std.specs.Prelude.{◌≡◌, ◌==◌, None, Some, MatchOption, is_some};
 ghost use Rattle.pukzarn.specs.declared.handle.TheConstants.{LIVE};
 
-use crate::end::End;
+use crate::handle_value::HandleValue;
 use crate::slot::Slot;
 use raw_box::RawBox;
 use std::alloc::Global;
 use std::mem::replace;
 
-/// The first word of an open handle. It is no number that memory is likely to hold by chance, so a struct that was never
-/// set to 0 is not taken for an open handle.
+/// The first word of an open handle. It is no number that memory is likely to hold by chance, so a struct that was
+/// never set to 0 is not taken for an open handle.
 pub const LIVE: u64 = 0x70C5_9A3E_D41B_6F27;
 
 /// A handle. It is open while its first word is `LIVE`, and closed at any other, as at 0.
@@ -41,7 +41,7 @@ impl Handle {
     }
 
     /// Takes out what it holds, and leaves it closed.
-    pub fn take(&mut self, alloc: Global) -> Option<Box<End, Global>>
+    pub fn take(&mut self, alloc: Global) -> Option<Box<HandleValue, Global>>
         ensures closed { self.new.slot.value ≡ None }
         ensures taken { MatchOption result (self.old.slot.value ≡ None) (λ end. self.old.slot.value ≡ Some end.value) }
     {
@@ -53,7 +53,7 @@ impl Handle {
     }
 
     /// Puts an end in. What it held before is lost, not freed: the handle is to be closed.
-    pub fn fill(&mut self, end: Box<End, Global>)
+    pub fn fill(&mut self, end: Box<HandleValue, Global>)
         ensures { self.new.slot.value ≡ Some end.value }
     {
         *self = Handle {

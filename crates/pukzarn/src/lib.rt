@@ -7,9 +7,14 @@
 
 mod board;
 mod call;
-mod end;
 mod handle;
+mod handle_value;
+mod opening;
 mod record;
+mod scripts;
 mod slot;
 #[cfg(test)]
 mod tests;
+mod tracee;
+mod tracer;
+mod version;

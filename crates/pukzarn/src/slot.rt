@@ -3,9 +3,9 @@
 ghost use Rattle.std.specs.Coded.{codes};
 ghost use Rattle.std.specs.Prelude.{◌≡◌, Option, None, Some, is_some, true};
 ghost use Rattle.trace_pages.specs.FlatMemory.{flat_code};
-ghost use Rattle.pukzarn.specs.declared.end.End.{End};
+ghost use Rattle.pukzarn.specs.declared.handle_value.HandleValue.{HandleValue};
 
-use crate::end::End;
+use crate::handle_value::HandleValue;
 use raw_box::RawBox;
 use std::alloc::Global;
 use std::marker::Model;
@@ -16,11 +16,11 @@ use std::ptr::null_mut;
 #[derive(Drop)]
 pub struct Slot {
     at: *mut u8,
-    pub ghost value: { Option End } by { Prim.hlevel (codes, flat_code) },
+    pub ghost value: { Option HandleValue } by { Prim.hlevel (codes, flat_code) },
 }
 
 impl Model for Slot {
-    ghost use Rattle.pukzarn.specs.contracts.end.End as end;
+    ghost use Rattle.pukzarn.specs.contracts.handle_value.HandleValue as end;
     ghost use Rattle.pukzarn.specs.Slot.{slot_owns};
 
     ghost also_owns = { λ slot. slot_owns end.the_row slot.at slot.value };
@@ -38,7 +38,7 @@ impl Slot {
     }
 
     /// A slot of what the box holds.
-    pub fn full(raw: RawBox<End, Global>) -> Slot
+    pub fn full(raw: RawBox<HandleValue, Global>) -> Slot
         ensures { result.value ≡ Some raw.value }
     {
         let RawBox { at, alloc: _ } = raw;
@@ -46,12 +46,12 @@ impl Slot {
     }
 
     /// The box again, of a slot that is full.
-    pub fn into_raw(self, alloc: Global) -> RawBox<End, Global>
+    pub fn into_raw(self, alloc: Global) -> RawBox<HandleValue, Global>
         requires { is_some self.value ≡ true }
         ensures { self.value ≡ Some result.value }
     {
         let Slot { at } = self;
-        let at = at as *mut End;
+        let at = at as *mut HandleValue;
         RawBox { at, alloc }
     }
 }

@@ -1,43 +1,67 @@
-use crate::end::End;
+//! Each call once, with an answer worked out by hand from ptrace(2), waitid(2) and errno(3).
+
+mod boards;
+mod cells;
+mod records;
+mod scripts;
+
 use crate::handle::Handle;
-use crate::record::{pukzarn_record_close, pukzarn_record_message, pukzarn_record_open};
+use c_interface::{CRestart, CRow, CState, CStop, CWaited};
+use std::fmt::Debug;
+use std::process::Abort;
 
-#[test]
-fn a_record_is_opened_read_and_closed(rt: HostRuntime) {
-    let alloc = rt.alloc();
-    let mut handle = Handle::closed();
-    let mut message = 9;
-    assert_eq!(rt; pukzarn_record_open(alloc, &mut handle, 7), 0);
-    assert!(rt; handle.is_open());
-    assert_eq!(rt; pukzarn_record_message(alloc, &mut handle, &mut message), 0);
-    assert_eq!(rt; message, 0);
-    assert_eq!(rt; pukzarn_record_close(alloc, &mut handle), 0);
-    assert!(rt; !handle.is_open());
+const EBADF: i64 = -9;
+
+const CONT: CRestart = CRestart { kind: 0, signal: 0 };
+
+/// A root, and a thread of its group.
+const ROWS: [CRow; 2] = [
+    CRow {
+        tid: 100,
+        tgid: 100,
+        pgid: 77,
+        parent: 0,
+    },
+    CRow {
+        tid: 101,
+        tgid: 100,
+        pgid: 77,
+        parent: 100,
+    },
+];
+
+/// Ends a test where two values differ, and says both.
+fn same<R: Abort, T: PartialEq + Debug>(rt: &R, found: &T, wanted: &T) {
+    assert_eq!(rt; found, wanted);
 }
 
-#[test]
-fn a_closed_handle_is_no_handle(rt: HostRuntime) {
-    let alloc = rt.alloc();
-    let mut handle = Handle::closed();
-    let mut message = 9;
-    assert_eq!(rt;
-        pukzarn_record_message(alloc, &mut handle, &mut message),
-        -9
-    );
-    assert_eq!(rt; message, 9);
-    assert_eq!(rt; pukzarn_record_close(alloc, &mut handle), -9);
+/// Ends a test where a call answers something else.
+fn gives<R: Abort, T: Into<i64>>(rt: &R, answer: T, wanted: i64) {
+    same(rt, &answer.into(), &wanted);
 }
 
-#[test]
-fn a_refused_opening_changes_nothing(rt: HostRuntime) {
-    let alloc = rt.alloc();
-    let mut handle = Handle::closed();
-    assert_eq!(rt; pukzarn_record_open(alloc, &mut handle, 0), -22);
-    assert!(rt; !handle.is_open());
-    assert_eq!(rt; pukzarn_record_open(alloc, &mut handle, 7), 0);
-    assert_eq!(rt; pukzarn_record_open(alloc, &mut handle, 8), -16);
-    let Some(end) = handle.take(alloc) else {
-        return assert!(rt; false, "closed");
-    };
-    assert!(rt; matches!(&*end, End::Stopped(stopped) if stopped.tid == 7));
+/// A stop in numbers.
+fn stop(kind: u32, value: u32) -> CStop {
+    CStop { kind, value }
+}
+
+/// A state in numbers.
+fn state(phase: u32, number: u32, tracer: u32, status: u32) -> CState {
+    CState {
+        phase,
+        number,
+        tracer,
+        status,
+    }
+}
+
+/// What no wait has written.
+fn no_report() -> CWaited {
+    CWaited {
+        row: 9,
+        tid: 9,
+        number: 9,
+        status: 9,
+        death: 9,
+    }
 }

@@ -9,7 +9,7 @@ use Rattle.std.proofs.Crossing.{Box-send}
 use Rattle.pukzarn.specs.Slot.{slot_owns, heap}
 use Rattle.pukzarn.specs.contracts.slot.Slot.{the_row, the_type}
 use Rattle.pukzarn.proofs.Slots.{V}
-use Rattle.pukzarn.proofs.end.End.TheSendSync as end
+use Rattle.pukzarn.proofs.handle_value.HandleValue.TheSendSync as end
 
 anywhere : (p : Ptr) (held : Option V.Denot) → Keyless (slot_owns V p held)
 anywhere p None = tt

@@ -16,8 +16,9 @@ HEAP ?= $(dir $(shell $(RT) doc))c/liblibc_c.a
 VERSION = $(shell sed -n 's/.*\.version("\(.*\)").*/\1/p' crates/tracer_cli/src/arguments.rt)
 
 .PHONY: all kit demo examples scarce-memory refused-memory man-page documents one-source one-meaning refused-code check \
-	wrong-bodies wrong-bodies-changed wrong-bodies-test test bench bench-case bench-cells bench-pages bench-fold bench-run \
-	bench-threads bench-large bench-explore bench-rounds library library-test install-library install-program tools install \
+	wrong-bodies wrong-bodies-changed wrong-bodies-test test bench bench-case bench-cells bench-c bench-pages bench-fold \
+	bench-run bench-threads bench-large bench-explore bench-rounds library archive library-test install-library \
+	install-program tools install \
 	clean
 
 all: kit
@@ -109,6 +110,8 @@ check: kit
 	@mkdir -p $(OUT) && cp crates/tracer/out/tracer $(OUT)/proved_tracer
 	@$(MAKE) --no-print-directory --jobs=$(CHECKS) --output-sync=target PROGRAM=$(OUT)/proved_tracer \
 		wrong-bodies-test examples man-page documents refused-code
+	$(call part,the library for C)
+	@$(MAKE) --no-print-directory archive library-test
 	$(call part,scarce memory)
 	@$(MAKE) --no-print-directory scarce-memory PROGRAM=$(OUT)/proved_tracer
 	$(call part,done)
@@ -143,6 +146,7 @@ bench: tools all
 	@$(PYTHON) bench/compare.py "bin/tracer replay" $(OUT)/plain $(OUT)/replay.txt
 	@$(MAKE) --no-print-directory bench-case
 	@$(MAKE) --no-print-directory bench-cells
+	@$(MAKE) --no-print-directory bench-c
 	@$(MAKE) --no-print-directory bench-pages
 	@$(MAKE) --no-print-directory bench-fold
 	@$(MAKE) --no-print-directory bench-run
@@ -178,6 +182,14 @@ bench-cells: tools kit
 	@$(RUSTC) -O --edition 2024 -o $(OUT)/plain_cells bench/plain_cells.rs
 	$(call build_timed,time_cells,cells,stop_table stop_history trace_record trace_pages,-- own 1000)
 	@$(PYTHON) bench/cells.py $(OUT)/time_cells $(OUT)/plain_cells
+
+# The same for rounds through the handles of the library for C.
+bench-c: library tools kit
+	@echo "bench-c: timing rounds through the handles of C and inside Rattle in turn (a minute)"
+	@mkdir -p $(OUT)
+	@$(CC) -O2 -std=c99 -D_POSIX_C_SOURCE=200809L -Iinclude -o $(OUT)/rounds_in_c bench/rounds_in_c.c $(LIBRARY)
+	$(call build_timed,rounds_inside,rounds_inside,c_interface,-- 1000)
+	@$(PYTHON) bench/rounds.py --more 25 $(OUT)/rounds_in_c $(OUT)/rounds_inside
 
 # The same for a memory of 256 pages.
 bench-pages: tools kit
@@ -249,10 +261,14 @@ tools:
 		command -v $$command > /dev/null || { echo "bench: there is no command $$command, which it needs"; exit 2; }; \
 	done
 
-# The library for C. The two archives become one, in which nothing but the calls of include/pukzarn.h is global.
-library:
-	@test -f "$(ARCHIVE)" || { echo "library: there is no $(ARCHIVE): cd crates/pukzarn && $(RT) lib" >&2; exit 2; }
-	@echo "library: making $(LIBRARY) of $(ARCHIVE) (a second)"
+library: kit
+	@echo "library: proving the calls for C and what they stand on, over what earlier runs kept (the first time: 40 minutes)"
+	@cd crates/pukzarn && $(RT) lib > /dev/null
+	@$(MAKE) --no-print-directory archive
+
+# The two archives become one, in which nothing but the calls of include/pukzarn.h is global.
+archive:
+	@echo "archive: making $(LIBRARY) of $(ARCHIVE) (a second)"
 	@mkdir -p $(dir $(LIBRARY)) && rm -f $(LIBRARY)
 	@ld -r -o $(LIBRARY:.a=.o) --whole-archive $(ARCHIVE) --no-whole-archive $(HEAP)
 	@objcopy --wildcard --keep-global-symbol='pukzarn_*' $(LIBRARY:.a=.o)

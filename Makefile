@@ -17,7 +17,7 @@ VERSION = $(shell sed -n 's/.*\.version("\(.*\)").*/\1/p' crates/tracer_cli/src/
 
 .PHONY: all kit demo examples scarce-memory refused-memory man-page documents one-source one-meaning refused-code check \
 	wrong-bodies wrong-bodies-changed wrong-bodies-test test bench bench-case bench-cells bench-c bench-pages bench-fold \
-	bench-run bench-threads bench-large bench-explore bench-rounds library archive library-test install-library \
+	bench-run bench-threads bench-large bench-explore bench-rounds library archive c-header library-test install-library \
 	install-program tools install \
 	clean
 
@@ -101,6 +101,7 @@ check: kit
 	@echo "check: docs/STATUS.md has the time"
 	@$(MAKE) --no-print-directory one-source
 	@$(MAKE) --no-print-directory one-meaning
+	@$(MAKE) --no-print-directory c-header
 	@$(MAKE) --no-print-directory documents
 	$(call part,proofs from nothing$(COMMA) must-fail edits$(COMMA) tests and programs)
 	@RT_JOBS=$${RT_JOBS:-$(CHECKS)} $(RT) ci
@@ -110,8 +111,6 @@ check: kit
 	@mkdir -p $(OUT) && cp crates/tracer/out/tracer $(OUT)/proved_tracer
 	@$(MAKE) --no-print-directory --jobs=$(CHECKS) --output-sync=target PROGRAM=$(OUT)/proved_tracer \
 		wrong-bodies-test examples man-page documents refused-code
-	$(call part,the library for C)
-	@$(MAKE) --no-print-directory archive library-test
 	$(call part,scarce memory)
 	@$(MAKE) --no-print-directory scarce-memory PROGRAM=$(OUT)/proved_tracer
 	$(call part,done)
@@ -274,6 +273,11 @@ archive:
 	@objcopy --wildcard --keep-global-symbol='pukzarn_*' $(LIBRARY:.a=.o)
 	@ar rcs $(LIBRARY) $(LIBRARY:.a=.o) && rm $(LIBRARY:.a=.o)
 
+c-header:
+	@echo "c-header: comparing include/pukzarn.h with the calls that crates/pukzarn exports (a second)"
+	@$(PYTHON) tools/c_library.py --self-test
+	@$(PYTHON) tools/c_library.py
+
 # How the programs of tests/c are built: each as C99, each with the sanitizers, and one as C++17.
 C_OUT = $(OUT)/c
 C_PROGRAMS = $(filter-out model,$(basename $(notdir $(wildcard tests/c/*.c))))
@@ -301,8 +305,7 @@ C_BUILT = $(C_PROGRAMS:%=$(C_OUT)/%) $(C_PROGRAMS:%=$(C_OUT)/%.sanitized) $(CXX_
 # LIBRARY=FILE is the archive, which is made where it is not there.
 library-test: $(LIBRARY)
 	@echo "library-test: building and running the programs of tests/c with $(LIBRARY) (a minute)"
-	@$(PYTHON) tools/c_library.py --self-test
-	@$(PYTHON) tools/c_library.py
+	@$(MAKE) --no-print-directory c-header
 	@$(PYTHON) tools/c_library.py archive $(LIBRARY)
 	@mkdir -p $(C_OUT)
 	@$(MAKE) --no-print-directory $(C_BUILT)

@@ -22,3 +22,11 @@ pub enum HandleValue {
     /// The machine of a script.
     Machine(MachineEnd),
 }
+
+/// What C hands to another thread may go there.
+fn may_move<T: Send>() {}
+
+/// What a handle holds may go to another thread, as a handle may: its slot is `Send` only because this is.
+pub fn handle_values_may_move() {
+    may_move::<HandleValue>();
+}

@@ -18,8 +18,7 @@ VERSION = $(shell sed -n 's/.*\.version("\(.*\)").*/\1/p' crates/tracer_cli/src/
 .PHONY: all kit demo examples scarce-memory refused-memory man-page documents one-source one-meaning refused-code check \
 	wrong-bodies wrong-bodies-changed wrong-bodies-test test bench bench-case bench-cells bench-c bench-pages bench-fold \
 	bench-run bench-threads bench-large bench-explore bench-rounds library archive c-header library-test install-library \
-	install-program tools install \
-	clean
+	install-program tools install clean
 
 all: kit
 	@echo "make: proving the program and what it stands on, over what earlier runs kept (the first time: 45 minutes)"
@@ -145,7 +144,6 @@ bench: tools all
 	@$(PYTHON) bench/compare.py "bin/tracer replay" $(OUT)/plain $(OUT)/replay.txt
 	@$(MAKE) --no-print-directory bench-case
 	@$(MAKE) --no-print-directory bench-cells
-	@$(MAKE) --no-print-directory bench-c
 	@$(MAKE) --no-print-directory bench-pages
 	@$(MAKE) --no-print-directory bench-fold
 	@$(MAKE) --no-print-directory bench-run
@@ -153,6 +151,7 @@ bench: tools all
 	@$(MAKE) --no-print-directory bench-large
 	@$(MAKE) --no-print-directory bench-explore
 	@$(MAKE) --no-print-directory bench-rounds
+	@$(MAKE) --no-print-directory bench-c
 
 # Builds a program of bench/, which is a crate of the repository for as long as that takes: the crate's name, its source,
 # the libraries that it uses, and the words or the input that it is run with.

@@ -8,7 +8,7 @@ use trace_script::Machine;
 pub enum Births {
     /// They are.
     Traced,
-    /// They are not, since so many were left.
+    /// They are not. So many births were left at the opening, or when they were last turned off.
     Untraced(u32),
 }
 

@@ -87,8 +87,8 @@ pub fn board_exit(board: &mut Board<Global>, row: u32, status: u32) -> Result<()
 
 /// Writes the rows that a waitid(2) of these arguments may be answered now, in the order of the roster, as many as the
 /// buffer has room for, and answers how many they are: 0 where there is nothing yet. EINVAL: numbers that name nobody,
-/// or no set of flags, and what waitid(2) refuses; ECHILD: each row that is meant is gone now, which is final but for
-/// one that is not born.
+/// or no set of flags, and what waitid(2) refuses; ECHILD: every selected row is gone now, and stays so unless it is a
+/// row that is still to be born.
 pub fn board_waitable(
     board: &Board<Global>,
     idtype: u32,

@@ -1,4 +1,5 @@
--- The roster has the rows before the one that is pushed, and a refusal that is not for want of memory is a fault of it.
+-- So far the roster has the rows in front of the one that is added. A refusal other than out of memory is a fault of
+-- that row.
 use Rattle.std.proofs.Common.{refl, ◌≡◌, ◌<◌, ◌∙◌, ◌∷◌, ◌++◌, [], ℕ, List, Option, Some, None, length, map, take}
 use Rattle.std.proofs.Common.{get_or, arith, ap, subst, sym, rules}
 use Rattle.std.proofs.lemmas.List.{get_or-map, length-map, take_more}

@@ -104,6 +104,10 @@ check: kit
 	@$(MAKE) --no-print-directory documents
 	$(call part,proofs from nothing$(COMMA) must-fail edits$(COMMA) tests and programs)
 	@RT_JOBS=$${RT_JOBS:-$(CHECKS)} $(RT) ci
+	$(call part,the library for C: its archive$(COMMA) proved once more$(COMMA) and the programs that use it)
+	@RT=$(RT) RT_JOBS=$${RT_JOBS:-$(CHECKS)} $(PYTHON) tools/proved_archive.py pukzarn $(OUT)/proved_pukzarn.a
+	@$(MAKE) --no-print-directory archive ARCHIVE=$(OUT)/proved_pukzarn.a
+	@$(MAKE) --no-print-directory --jobs=$(CHECKS) library-test
 	$(call part,wrong bodies)
 	@$(MAKE) --no-print-directory wrong-bodies-changed
 	$(call part,the tool for wrong bodies$(COMMA) examples$(COMMA) the pages$(COMMA) refused programs: side by side)

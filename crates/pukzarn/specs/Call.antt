@@ -2,10 +2,12 @@
 use Rattle.std.specs.Prelude.{◌≡◌, ◌⊎◌, ◌<◌, ◌^◌, ◌++◌, ℕ, ℤ, pos, neg_ℤ, List, Option, None, Some, Result, Ok, Err}
 use Rattle.std.specs.Prelude.{drop, length}
 use Rattle.trace_pages.specs.FlatMemory.{run}
+use Rattle.trace_calls.specs.Handle.{CallsHandle, KeepsTable}
 use Rattle.trace_record.specs.Content.{Content}
 use Rattle.c_interface.specs.Error.{error_number}
 use Rattle.c_interface.specs.declared.error.Error.{Error}
 use Rattle.c_interface.specs.declared.error.Error.TheVariants as error
+use Rattle.c_interface.specs.declared.tracer_end.TracerEnd.{TracerEnd}
 use Rattle.c_interface.specs.declared.waited.CWaitpid.{CWaitpid}
 use Rattle.pukzarn.specs.declared.handle_value.HandleValue.{HandleValue}
 use Rattle.pukzarn.specs.declared.handle.Handle.{Handle}
@@ -85,6 +87,11 @@ pub record IsCallOn {X T : Type 0} (kind : X → HandleValue) (a b : Handle) (an
   pub stays : (x : X) → Holds a (kind x) → HoldsNo kind b → ⊥
   pub answered : (x y : X) → Holds a (kind x) → Holds b (kind y)
       → (done : Result T Error) × happens x y done × answers done
+
+-- what happens in a call of a tracer's handle, which stays one of the same table
+abbrev pub OnTable : {T : Type 0} → (CallsHandle → CallsHandle → Result T Error → Type 0)
+    → TracerEnd → TracerEnd → Result T Error → Type 0
+OnTable happens a b done = KeepsTable a.calls b.calls × happens a.calls b.calls done
 
 -- A close: it leaves no end of this kind.
 pub record IsClose {X : Type 0} (kind : X → HandleValue) (a b : Handle) (result : ℤ) : Type 0 where

@@ -12,7 +12,7 @@ ghost use Rattle.c_interface.specs.declared.state.CState.{CState};
 ghost use Rattle.c_interface.specs.declared.stop.CStop.{CStop};
 ghost use Rattle.c_interface.specs.Tracer.{IsBytesWriteFor, IsLookFor, IsRegsWriteFor, IsRestartFor, IsShownFor};
 ghost use Rattle.c_interface.specs.Waited.{IsWaitRowFor, IsWaitidFor, IsWaitpidFor};
-ghost use Rattle.pukzarn.specs.Call.{IsCallOn, IsClose, IsLongBeside, IsFoundInto, IsPidInto, IsStatus, IsStatusInto};
+ghost use Rattle.pukzarn.specs.Call.{IsCallOn, IsClose, IsLongBeside, IsFoundInto, IsPidInto, IsStatus, IsStatusInto, OnTable};
 ghost use Rattle.pukzarn.specs.declared.handle_value.HandleValue.TheVariants as ends;
 
 use crate::call::{count, found, negative, status, told};
@@ -50,7 +50,7 @@ pub extern "C" fn pukzarn_tracer_look(
     state: &mut CState,
 ) -> i32
     ensures { IsCallOn ends.Tracer handle.old handle.new (IsStatusInto result state.old state.new)
-        (λ a b done. (shown : CState) × IsLookFor a.calls b.calls row shown × (done ≡ Ok shown)) }
+        (OnTable (λ a b done. (shown : CState) × IsLookFor a b row shown × (done ≡ Ok shown))) }
 {
     let Some(mut end) = handle.take(alloc) else {
         return negative(Error::EBADF);
@@ -77,7 +77,7 @@ pub extern "C" fn pukzarn_tracer_waitid(
     waited: &mut CWaited,
 ) -> i32
     ensures { IsCallOn ends.Tracer handle.old handle.new (IsFoundInto result waited.old waited.new)
-        (λ a b. IsWaitidFor idtype id options a.calls b.calls) }
+        (OnTable (IsWaitidFor idtype id options)) }
 {
     let Some(mut end) = handle.take(alloc) else {
         return negative(Error::EBADF);
@@ -103,7 +103,7 @@ pub extern "C" fn pukzarn_tracer_wait_row(
     waited: &mut CWaited,
 ) -> i32
     ensures { IsCallOn ends.Tracer handle.old handle.new (IsFoundInto result waited.old waited.new)
-        (λ a b. IsWaitRowFor row options a.calls b.calls) }
+        (OnTable (IsWaitRowFor row options)) }
 {
     let Some(mut end) = handle.take(alloc) else {
         return negative(Error::EBADF);
@@ -129,7 +129,7 @@ pub extern "C" fn pukzarn_tracer_waitpid(
     options: u32,
 ) -> i32
     ensures { IsCallOn ends.Tracer handle.old handle.new (IsPidInto result raw.old raw.new)
-        (λ a b. IsWaitpidFor pid options a.calls b.calls) }
+        (OnTable (IsWaitpidFor pid options)) }
 {
     let Some(mut end) = handle.take(alloc) else {
         return negative(Error::EBADF);
@@ -342,7 +342,7 @@ pub extern "C" fn pukzarn_tracer_resume(
     how: &CRestart,
 ) -> i32
     ensures { IsCallOn ends.Tracer handle.old handle.new (IsStatus result)
-        (λ a b. IsRestartFor a.calls b.calls pid how.now) }
+        (OnTable (λ a b. IsRestartFor a b pid how.now)) }
 {
     let Some(mut end) = handle.take(alloc) else {
         return negative(Error::EBADF);

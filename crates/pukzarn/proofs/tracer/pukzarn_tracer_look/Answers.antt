@@ -10,6 +10,6 @@ returns c =
     elim c.match-deref_mut.branch [
       | in-Tracer w ↦
           on_tracer _ _ _ _ w.in-Tracer.tracer (record { calls = w.tracer_look.new.calls }) (Ok w.tracer_look.result) (search rules) (search rules)
-          (w.tracer_look.result, w.tracer_look.ensures.answer, refl) (search rules)
+          (w.tracer_look.ensures.table, (w.tracer_look.result, w.tracer_look.ensures.answer, refl)) (search rules)
       | in_default-deref_mut w ↦ none_held ends.Tracer _ _ _ _ (search rules) (search rules) (search rules)
     ]

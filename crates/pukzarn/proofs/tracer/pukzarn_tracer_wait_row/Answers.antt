@@ -10,6 +10,6 @@ returns c =
     elim c.match-deref_mut.branch [
       | in-Tracer w ↦
           on_tracer _ _ _ _ w.in-Tracer.tracer (record { calls = w.tracer_wait_row.new.calls }) w.tracer_wait_row.result (search rules) (search rules)
-          w.tracer_wait_row.ensures.answer (search rules)
+          (w.tracer_wait_row.ensures.table, w.tracer_wait_row.ensures.answer) (search rules)
       | in_default-deref_mut w ↦ none_held ends.Tracer _ _ _ _ (search rules) (search rules) (search rules)
     ]

@@ -41,6 +41,7 @@ pub struct CWaitpid {
 }
 
 /// The error of a wait or of a call by pid.
+#[inline(always)]
 pub(crate) fn error_in(error: Errno) -> Error
     ensures { result ≡ error_in error }
 {
@@ -53,6 +54,7 @@ pub(crate) fn error_in(error: Errno) -> Error
 }
 
 /// Whom these numbers name.
+#[inline(always)]
 pub(crate) fn id_in(idtype: u32, id: i32) -> Option<Id>
     ensures { result ≡ id_in idtype id }
 {
@@ -65,6 +67,7 @@ pub(crate) fn id_in(idtype: u32, id: i32) -> Option<Id>
 }
 
 /// The tracee that a status names, or 0.
+#[inline(always)]
 fn tid_of(status: WaitStatus) -> u32
     ensures { (tid : ℕ) → pid_of status ≡ Some tid → result ≡ tid }
 {
@@ -79,6 +82,7 @@ fn tid_of(status: WaitStatus) -> u32
 }
 
 /// 1 for a death.
+#[inline(always)]
 fn death_flag(status: WaitStatus) -> u32
     ensures { result ≡ death_flag status }
 {
@@ -90,6 +94,7 @@ fn death_flag(status: WaitStatus) -> u32
 
 impl CWaited {
     /// The report of a row.
+    #[inline(always)]
     pub(crate) fn of(found: RowStatus) -> CWaited
         ensures { IsReportOf found result }
     {
@@ -104,6 +109,7 @@ impl CWaited {
 }
 
 /// What a wait reports, or its error.
+#[inline(always)]
 pub(crate) fn reported(told: Result<Option<RowStatus>, Errno>) -> Result<Option<CWaited>, Error>
     ensures { IsWaitReport told result }
 {
@@ -115,6 +121,7 @@ pub(crate) fn reported(told: Result<Option<RowStatus>, Errno>) -> Result<Option<
 }
 
 /// What a wait by pid reports, or its error.
+#[inline(always)]
 pub(crate) fn reported_pid(told: Result<WaitStatus, Errno>) -> Result<Option<CWaitpid>, Error>
     ensures { IsPidReport told result }
 {

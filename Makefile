@@ -190,7 +190,7 @@ bench-c: library tools kit
 	@echo "bench-c: timing rounds through the handles of C and inside Rattle in turn (a minute)"
 	@mkdir -p $(OUT)
 	@$(CC) -O2 -std=c99 -D_POSIX_C_SOURCE=200809L -Iinclude -o $(OUT)/rounds_in_c bench/rounds_in_c.c $(LIBRARY)
-	$(call build_timed,rounds_inside,rounds_inside,c_interface,-- 1000)
+	$(call build_timed,rounds_inside,rounds_inside,c_interface,-- 1000 1 0 2 100 0)
 	@$(PYTHON) bench/rounds.py --more 25 $(OUT)/rounds_in_c $(OUT)/rounds_inside
 
 # The same for a memory of 256 pages.

@@ -1,0 +1,2 @@
+//! nix's `libc`.
+pub use crate::library::user_regs_struct;

@@ -174,7 +174,7 @@ pub(crate) fn write_register(pid: Pid, offset: AddressType, data: c_long) -> Res
 fn register_at(offset: AddressType) -> Result<usize, Errno> {
     let registers = size_of::<user_regs_struct>();
     let offset = offset.addr();
-    if offset % 8 == 0 && offset < registers { Ok(offset / 8) } else { Err(Errno::EIO) }
+    if offset.is_multiple_of(8) && offset < registers { Ok(offset / 8) } else { Err(Errno::EIO) }
 }
 
 /// Calls with the record of a stop that the calling thread was answered.

@@ -1,7 +1,7 @@
 //! nix's `sys::signal`: signals by name, sets of them, and kill(2).
 //!
-//! A tracee's signals are in what it plays, and its tracer gets none. What sends a signal, or changes what one does, ends
-//! the test, except for a SIGKILL.
+//! A tracee's signals are in what it plays, and its tracer gets none. What sends a signal, or changes what one does,
+//! ends the test, except for a SIGKILL.
 
 mod actions;
 mod sets;

@@ -86,8 +86,8 @@ impl WaitStatus {
         })
     }
 
-    /// What waitid(2) says of it. Every stop of a tracee has `CLD_TRAPPED`, of which nix makes an event, 0 where there is
-    /// none.
+    /// What waitid(2) says of it. Every stop of a tracee has `CLD_TRAPPED`, of which nix makes an event, 0 where there
+    /// is none.
     fn from_waited(waited: Waited) -> Result<WaitStatus, Errno> {
         Ok(match status_of(waited)? {
             WaitStatus::Stopped(pid, signal) => WaitStatus::PtraceEvent(pid, signal, 0),

@@ -1,7 +1,9 @@
 //! How a model is searched.
 
 use super::report::{Failure, Report};
+use super::search;
 use crate::sim::Sim;
+use std::str::FromStr;
 use std::time::Duration;
 
 /// How a model is searched.
@@ -101,7 +103,18 @@ impl Builder {
     /// assert_eq!(pukzarn::Builder::new().max_steps, 10_000);
     /// ```
     pub fn new() -> Builder {
-        todo!()
+        Builder {
+            shares: Shares::Memory,
+            deadlocks: Deadlocks::Fail,
+            threads: Threads::New,
+            effort: Effort::Bounded,
+            deviations: variable("PUKZARN_DEVIATIONS"),
+            max_schedules: variable("PUKZARN_SCHEDULES").unwrap_or(20_000),
+            max_steps: 10_000,
+            idle_polls: 1,
+            schedule: variable("PUKZARN_SCHEDULE"),
+            patience: Duration::from_secs(5),
+        }
     }
 
     /// The same, of which a search fails that has not tried all interleavings.
@@ -142,8 +155,7 @@ impl Builder {
     /// assert_eq!(failure.cause, "the test panicked: a bug");
     /// ```
     pub fn explore(&self, test: impl Fn(&Sim)) -> Result<Report, Failure> {
-        let _ = test;
-        todo!()
+        search::explore(self, &test)
     }
 }
 
@@ -151,4 +163,10 @@ impl Default for Builder {
     fn default() -> Builder {
         Builder::new()
     }
+}
+
+/// What a variable of the environment says, None where it is not set. Panics where it says something else.
+fn variable<T: FromStr>(name: &str) -> Option<T> {
+    let text = std::env::var(name).ok()?;
+    Some(text.parse().unwrap_or_else(|_| panic!("pukzarn: {name} cannot be {text:?}")))
 }

@@ -7,7 +7,22 @@
 //! - A failing schedule is printed (`words`), with the text that runs it again (`schedule`).
 
 mod builder;
+mod caller;
+mod calls;
+mod decisions;
+mod hash;
+mod objects;
+mod pins;
 mod report;
+mod run;
+mod schedule;
+mod scripts;
+mod search;
+mod situations;
+mod state;
+mod threads;
+mod tracees;
+mod words;
 
 pub use builder::{Builder, Deadlocks, Effort, Shares, Threads};
 pub use report::{Coverage, Failure, Report};

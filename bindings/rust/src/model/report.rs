@@ -96,7 +96,8 @@ pub struct Failure {
     pub cause: String,
     /// The calls, in the words of `tracer explore`.
     pub steps: Vec<String>,
-    /// What PUKZARN_SCHEDULE has to be to run it again: the test's name, which of its models, and the decisions.
+    /// What PUKZARN_SCHEDULE has to be to run it again: the test's name, which of its models, and the decisions. Empty
+    /// where no schedule failed, but not all were tried.
     pub schedule: String,
     /// The decisions that were not the first one.
     pub deviations: u32,
@@ -123,7 +124,11 @@ impl Failure {
 
 impl fmt::Display for Failure {
     fn fmt(&self, f: &mut fmt::Formatter<'_>) -> fmt::Result {
-        writeln!(f, "{}", self.cause)?;
+        write!(f, "{}", self.cause)?;
+        if self.schedule.is_empty() {
+            return Ok(());
+        }
+        writeln!(f)?;
         for step in &self.steps {
             writeln!(f, "  {step}")?;
         }

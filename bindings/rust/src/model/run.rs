@@ -1,0 +1,183 @@
+//! One schedule: its threads, and the thread of the test that waits for their end.
+
+use super::builder::Builder;
+use super::caller::Caller;
+use super::calls::Op;
+use super::decisions::Search;
+use super::scripts::Script;
+use super::state::{CallsAre, Kind, State, Turn};
+use super::threads::{Baton, Crew, Seat};
+use super::tracees::Tracees;
+use crate::context::{self, Body};
+use crate::sim::{Declared, End, Follows, Kills};
+use crate::tracee::play;
+use std::panic::{AssertUnwindSafe, catch_unwind};
+use std::rc::Rc;
+use std::sync::atomic::{AtomicU64, Ordering};
+use std::sync::{Arc, Mutex, MutexGuard, PoisonError};
+use std::thread::Thread;
+use std::time::{Duration, Instant};
+
+pub(super) struct Model {
+    state: Mutex<State>,
+    crew: Arc<Crew>,
+    /// The thread of the test.
+    tester: Thread,
+    /// The number of the schedule, from 1, over all models of the process.
+    pub(super) schedule: u64,
+}
+
+static SCHEDULES: AtomicU64 = AtomicU64::new(0);
+
+/// How often the test's thread looks whether anything goes on.
+const LOOK: Duration = Duration::from_millis(100);
+
+impl Model {
+    pub(super) fn new(builder: &Builder, crew: &Arc<Crew>, search: Search, declared: Declared) -> Arc<Model> {
+        let mut state = State::new(builder.clone(), Tracees::open(&declared), search);
+        declare(&mut state, declared);
+        let schedule = SCHEDULES.fetch_add(1, Ordering::Relaxed) + 1;
+        let (crew, tester) = (crew.clone(), std::thread::current());
+        Arc::new(Model { state: Mutex::new(state), crew, tester, schedule })
+    }
+
+    pub(super) fn lock(&self) -> MutexGuard<'_, State> {
+        self.state.lock().unwrap_or_else(PoisonError::into_inner)
+    }
+
+    /// Runs the schedule to its end.
+    pub(super) fn run(self: &Arc<Model>) -> End {
+        let mut state = self.lock();
+        let turn = state.advance();
+        self.hand_over(state, turn);
+        self.watch();
+        let mut state = self.lock();
+        End { tracees: state.tracees.phases(), waiting: std::mem::take(&mut state.waiting) }
+    }
+
+    /// Hands the baton on, to all threads where the schedule is over.
+    pub(super) fn hand_over(self: &Arc<Model>, mut state: MutexGuard<'_, State>, turn: Turn) {
+        let Turn::Actor(actor) = turn else {
+            self.end_all(state);
+            return;
+        };
+        if let Some(baton) = state.actors[actor].seat.baton() {
+            drop(state);
+            baton.pass();
+            return;
+        }
+        let reserved = self.crew.reserve();
+        let baton = reserved.baton().clone();
+        let before = std::mem::replace(&mut state.actors[actor].seat, Seat::Started(baton.clone()));
+        let Seat::NotStarted(body) = before else { unreachable!("the turn of an actor without a thread") };
+        state.live += 1;
+        drop(state);
+        let model = self.clone();
+        reserved.start(Box::new(move || model.run_thread(actor, baton, body)));
+    }
+
+    /// Wakes all threads, so that they end.
+    fn end_all(&self, state: MutexGuard<'_, State>) {
+        let waiting = state.actors.iter().filter(|actor| !actor.is_done());
+        let batons: Vec<Arc<Baton>> = waiting.filter_map(|actor| actor.seat.baton()).collect();
+        let live = state.live;
+        drop(state);
+        batons.iter().for_each(|baton| baton.pass());
+        if live == 0 {
+            self.tester.unpark();
+        }
+    }
+
+    /// Runs the body of an actor, whose thread has the baton, and hands the baton on.
+    pub(super) fn run_thread(self: &Arc<Model>, actor: usize, baton: Arc<Baton>, body: Box<dyn FnOnce() + '_>) {
+        let is_over = self.lock().is_over();
+        let ended = if is_over {
+            Ok(())
+        } else {
+            let caller = Rc::new(Caller { model: self.clone(), actor, baton });
+            catch_unwind(AssertUnwindSafe(|| context::enter(caller, body)))
+        };
+        let mut state = self.lock();
+        state.end_actor(actor);
+        if let Some(message) = ended.err().and_then(context::message) {
+            let cause = format!("thread `{}` panicked: {message}", state.actors[actor].name);
+            state.fail(cause);
+        }
+        if !is_over {
+            let turn = state.advance();
+            self.hand_over(state, turn);
+            state = self.lock();
+        }
+        state.live -= 1;
+        if state.live == 0 {
+            drop(state);
+            self.tester.unpark();
+        }
+    }
+
+    /// Waits until all threads have ended.
+    fn watch(self: &Arc<Model>) {
+        let (mut moves, mut since) = (0, Instant::now());
+        loop {
+            let mut state = self.lock();
+            if state.live == 0 {
+                return;
+            }
+            let goes_on = state.moves != moves;
+            moves = state.moves;
+            if goes_on {
+                since = Instant::now();
+            } else if since.elapsed() > state.builder.patience {
+                since = Instant::now();
+                self.end_stuck(&mut state);
+                self.end_all(state);
+            } else {
+                drop(state);
+            }
+            std::thread::park_timeout(LOOK);
+        }
+    }
+
+    /// Ends a schedule in which a thread makes no call: the others are unwound, so that what they hold is freed. Where
+    /// it was over already, the process ends.
+    fn end_stuck(&self, state: &mut State) {
+        let words = state.stuck_words();
+        if state.is_over() {
+            eprintln!("pukzarn: a thread does not end, and the test with it: {words}");
+            state.words().iter().for_each(|step| eprintln!("  {step}"));
+            std::process::abort();
+        }
+        state.fail(words);
+    }
+}
+
+/// Makes the actors of all that a test has declared: the tracees, in the order of the rows, and the tracers.
+fn declare(state: &mut State, declared: Declared) {
+    state.eintrs = declared.eintrs;
+    if declared.kills == Kills::MayHappen || declared.only_tracer.is_some() {
+        state.calls_are = CallsAre::Steps;
+    }
+    for (row, follows) in declared.tracees.into_iter().enumerate() {
+        let name = format!("tracee {}", state.tracees.rows[row].tid);
+        let (kind, seat) = match follows {
+            Follows::Script(machine) => (Kind::Script(Box::new(Script::new(machine))), Seat::None),
+            Follows::Closure(closure) => {
+                let body: Body = Box::new(move || play(row, closure));
+                (Kind::Tracee, Seat::NotStarted(body))
+            }
+        };
+        state.add_actor(name, kind, Op::TakeUp(row), seat);
+    }
+    let mut only = None;
+    for (name, body) in declared.tracers {
+        let is_only = declared.only_tracer.as_ref() == Some(&name);
+        let actor = state.add_tracer(Some(name), Seat::NotStarted(body));
+        if is_only {
+            only = Some(state.tracer_of(actor));
+        }
+    }
+    if let Some(name) = declared.only_tracer {
+        assert!(only.is_some(), "pukzarn: no thread of the tracer has the name `{name}`, which only_tracer asks for");
+    }
+    state.only_tracer = only;
+}

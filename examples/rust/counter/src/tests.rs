@@ -53,7 +53,7 @@ fn a_signal_is_handed_on() {
         sim.tracee(Row::root(100), |tracee| {
             tracee.stop(Stop::Start)?;
             let restart = tracee.stop(Stop::Signal(Signal::SIGUSR1))?;
-            assert_eq!(restart.signal, Some(Signal::SIGUSR1));
+            assert_eq!(restart.signal(), Some(Signal::SIGUSR1));
             tracee.exit(Death::Signaled(Signal::SIGUSR1, false));
             Ok(())
         });

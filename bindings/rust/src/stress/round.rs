@@ -206,7 +206,9 @@ impl Shared {
                 self.over.store(true, SeqCst);
             } else if seen.1.elapsed() > self.settings.patience {
                 let patience = self.settings.patience;
-                self.fail(format!("nothing has happened for {patience:?}, and {left} threads of the tracer have not ended"));
+                self.fail(format!(
+                    "nothing has happened for {patience:?}, and {left} threads of the tracer have not ended"
+                ));
             }
         }
         let until = Instant::now() + GRACE;

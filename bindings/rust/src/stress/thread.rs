@@ -48,11 +48,8 @@ impl Place {
     }
 
     fn play(&self, body: impl FnOnce()) {
-        let calls = Rc::new(StressThread {
-            shared: self.shared.clone(),
-            role: self.role,
-            random: Cell::new(self.random),
-        });
+        let calls =
+            Rc::new(StressThread { shared: self.shared.clone(), role: self.role, random: Cell::new(self.random) });
         let ended = catch_unwind(AssertUnwindSafe(|| context::enter(calls, body)));
         if let Some(message) = ended.err().and_then(context::message) {
             self.shared.fail(format!("thread `{}` panicked: {message}", self.name));
@@ -313,7 +310,9 @@ impl Calls for StressThread {
             }
             answer => Some(answer),
         });
-        ended.flatten().unwrap_or_else(|errno| panic!("pukzarn: tracee {} cannot end: {errno}", self.shared.rows[row].tid));
+        ended
+            .flatten()
+            .unwrap_or_else(|errno| panic!("pukzarn: tracee {} cannot end: {errno}", self.shared.rows[row].tid));
         self.shared.has_changed();
     }
 

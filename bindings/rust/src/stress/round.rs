@@ -79,8 +79,13 @@ impl World for Round {
         }
         for (row, follows) in declared.tracees.into_iter().enumerate() {
             let name = format!("tracee {}", shared.rows[row].tid);
-            let place = shared.place(Role::Tracee(row), name, Arc::default());
+            let place = shared.place(Role::Tracee, name, Arc::default());
             ready.push((place, tracee_body(&shared, row, follows)));
+        }
+        // Whoever is started first has a lead.
+        if !ready.is_empty() {
+            let first = self.seed as usize % ready.len();
+            ready.rotate_left(first);
         }
         ready.into_iter().for_each(|(place, body)| place.start(body));
         shared.watch();

@@ -23,11 +23,11 @@ const TRIES: u32 = 64;
 /// How long it sleeps then.
 const SLEEP: Duration = Duration::from_micros(50);
 
-/// Whose thread it is: of the tracer's thread with a number, or of a row's tracee.
+/// Whose thread it is: of the tracer, with a number, or of a tracee.
 #[derive(Clone, Copy, Debug)]
 pub(super) enum Role {
     Tracer(usize),
-    Tracee(usize),
+    Tracee,
 }
 
 /// The place of a thread that is to run. It is left when the thread ends, or where it never runs.
@@ -128,7 +128,7 @@ impl StressThread {
         match (self.shared.only, self.role) {
             (Some(only), Role::Tracer(_)) => only,
             (None, Role::Tracer(number)) => number,
-            (_, Role::Tracee(_)) => panic!("pukzarn: a tracee makes no call of a tracer"),
+            (_, Role::Tracee) => panic!("pukzarn: a tracee makes no call of a tracer"),
         }
     }
 

@@ -71,7 +71,7 @@ fn one_tracer_over_scripts(sim: &Sim) {
 }
 
 fn builder(threads: Threads, shares: Shares) -> Builder {
-    Builder { threads, shares, deviations: Some(u32::MAX), max_schedules: SCHEDULES, schedule: None, ..Builder::new() }
+    Builder { threads, shares, max_schedules: SCHEDULES, schedule: None, ..Builder::new() }
 }
 
 struct Measured {

@@ -20,6 +20,8 @@ mod scripts;
 mod search;
 mod situations;
 mod state;
+#[cfg(test)]
+mod tests;
 mod threads;
 mod tracees;
 mod words;

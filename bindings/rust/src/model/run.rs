@@ -118,24 +118,25 @@ impl Model {
     /// Waits until all threads have ended.
     fn watch(self: &Arc<Model>) {
         let (mut moves, mut since) = (0, Instant::now());
-        loop {
-            let mut state = self.lock();
-            if state.live == 0 {
-                return;
-            }
-            let goes_on = state.moves != moves;
-            moves = state.moves;
-            if goes_on {
-                since = Instant::now();
-            } else if since.elapsed() > state.builder.patience {
-                since = Instant::now();
-                self.end_stuck(&mut state);
-                self.end_all(state);
-            } else {
-                drop(state);
-            }
+        while !self.look(&mut moves, &mut since) {
             std::thread::park_timeout(LOOK);
         }
+    }
+
+    /// Whether all threads have ended. `since` is when the last call was made, of which there have been so many.
+    fn look(&self, moves: &mut u64, since: &mut Instant) -> bool {
+        let mut state = self.lock();
+        if state.live == 0 {
+            return true;
+        }
+        if state.moves != *moves {
+            (*moves, *since) = (state.moves, Instant::now());
+        } else if since.elapsed() > state.builder.patience {
+            *since = Instant::now();
+            self.end_stuck(&mut state);
+            self.end_all(state);
+        }
+        false
     }
 
     /// Ends a schedule in which a thread makes no call: the others are unwound, so that what they hold is freed. Where

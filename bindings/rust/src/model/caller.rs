@@ -32,8 +32,10 @@ impl Caller {
             state.announce(self.actor, op);
             let turn = state.advance();
             if turn != Turn::Actor(self.actor) {
-                self.model.hand_over(state, turn);
-                self.baton.wait();
+                self.model.hand_over(Some(self.actor), state, turn);
+                if turn != Turn::Over {
+                    self.baton.wait();
+                }
                 state = self.model.lock();
             }
         }

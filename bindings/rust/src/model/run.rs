@@ -49,16 +49,17 @@ impl Model {
     pub(super) fn run(self: &Arc<Model>) -> End {
         let mut state = self.lock();
         let turn = state.advance();
-        self.hand_over(state, turn);
+        self.hand_over(None, state, turn);
         self.watch();
         let mut state = self.lock();
         End { tracees: state.tracees.phases(), waiting: std::mem::take(&mut state.waiting) }
     }
 
-    /// Hands the baton on, to all threads where the schedule is over.
-    pub(super) fn hand_over(self: &Arc<Model>, mut state: MutexGuard<'_, State>, turn: Turn) {
+    /// Hands the baton on: `from` does not run until it is handed on again. Where the schedule is over, all threads that
+    /// wait are woken.
+    pub(super) fn hand_over(self: &Arc<Model>, from: Option<usize>, mut state: MutexGuard<'_, State>, turn: Turn) {
         let Turn::Actor(actor) = turn else {
-            self.end_all(state);
+            self.end_all(from, state);
             return;
         };
         if let Some(baton) = state.actors[actor].seat.baton() {
@@ -76,10 +77,11 @@ impl Model {
         reserved.start(Box::new(move || model.run_thread(actor, baton, body)));
     }
 
-    /// Wakes all threads, so that they end.
-    fn end_all(&self, state: MutexGuard<'_, State>) {
-        let waiting = state.actors.iter().filter(|actor| !actor.is_done());
-        let batons: Vec<Arc<Baton>> = waiting.filter_map(|actor| actor.seat.baton()).collect();
+    /// Wakes all threads that wait for the baton, but `from`, so that they end. This happens once in a schedule.
+    fn end_all(&self, from: Option<usize>, state: MutexGuard<'_, State>) {
+        let waits = |actor: usize| Some(actor) != from && state.actors[actor].op.is_some();
+        let waiting = (0..state.actors.len()).filter(|actor| waits(*actor));
+        let batons: Vec<Arc<Baton>> = waiting.filter_map(|actor| state.actors[actor].seat.baton()).collect();
         let live = state.live;
         drop(state);
         batons.iter().for_each(|baton| baton.pass());
@@ -90,22 +92,22 @@ impl Model {
 
     /// Runs the body of an actor, whose thread has the baton, and hands the baton on.
     pub(super) fn run_thread(self: &Arc<Model>, actor: usize, baton: Arc<Baton>, body: Box<dyn FnOnce() + '_>) {
-        let is_over = self.lock().is_over();
-        let ended = if is_over {
+        let ended = if self.lock().is_over() {
             Ok(())
         } else {
             let caller = Rc::new(Caller { model: self.clone(), actor, baton });
             catch_unwind(AssertUnwindSafe(|| context::enter(caller, body)))
         };
         let mut state = self.lock();
+        let was_over = state.is_over();
         state.end_actor(actor);
         if let Some(message) = ended.err().and_then(context::message) {
             let cause = format!("thread `{}` panicked: {message}", state.actors[actor].name);
             state.fail(cause);
         }
-        if !is_over {
+        if !was_over {
             let turn = state.advance();
-            self.hand_over(state, turn);
+            self.hand_over(Some(actor), state, turn);
             state = self.lock();
         }
         state.live -= 1;
@@ -134,7 +136,7 @@ impl Model {
         } else if since.elapsed() > state.builder.patience {
             *since = Instant::now();
             self.end_stuck(&mut state);
-            self.end_all(state);
+            self.end_all(None, state);
         }
         false
     }

@@ -80,7 +80,7 @@ fn two_runs_report_the_same() {
 fn one_tracer_and_two_processes_have_all_interleavings() {
     let report = builder().exhaustive().check(|sim| two_processes(sim, 1));
     assert_eq!(report.coverage, Coverage::All);
-    assert_eq!(report.longest, 22);
+    assert_eq!(report.longest, 29);
 }
 
 #[test]
@@ -188,7 +188,7 @@ fn a_failing_schedule_is_run_again_by_its_text() {
 #[test]
 fn calls_that_differ_after_the_same_answers_are_reported() {
     let runs = Arc::new(AtomicU32::new(0));
-    let failure = builder()
+    let failure = Builder { deadlocks: Deadlocks::End, ..builder() }
         .explore(|sim| {
             let runs = runs.clone();
             sim.case(ONE_CALL).unwrap();

@@ -3,7 +3,7 @@
 use super::builder::Threads;
 use crate::context::Body;
 use std::sync::atomic::{AtomicBool, Ordering, fence};
-use std::sync::{Arc, Mutex, OnceLock, PoisonError};
+use std::sync::{Arc, Mutex, MutexGuard, OnceLock, PoisonError};
 use std::thread::Thread;
 
 /// What a thread waits on for its turn.
@@ -56,19 +56,37 @@ impl Seat {
 /// A thread that is used again by later schedules.
 pub(super) struct Worker {
     baton: Arc<Baton>,
-    job: Mutex<Option<Body>>,
+    job: Mutex<Job>,
+}
+
+/// What a worker does next.
+#[derive(Default)]
+enum Job {
+    #[default]
+    None,
+    Run(Body),
+    End,
 }
 
 impl Worker {
     fn run(&self) {
         loop {
             self.baton.wait();
-            let job = self.job.lock().unwrap_or_else(PoisonError::into_inner).take();
-            match job {
-                Some(job) => job(),
-                None => return,
+            match std::mem::take(&mut *self.job()) {
+                Job::None => {}
+                Job::Run(body) => body(),
+                Job::End => return,
             }
         }
+    }
+
+    fn job(&self) -> MutexGuard<'_, Job> {
+        self.job.lock().unwrap_or_else(PoisonError::into_inner)
+    }
+
+    fn start(&self, job: Job) {
+        *self.job() = job;
+        self.baton.pass();
     }
 }
 
@@ -117,15 +135,14 @@ impl Crew {
         worker
     }
 
-    fn workers(&self) -> std::sync::MutexGuard<'_, Workers> {
+    fn workers(&self) -> MutexGuard<'_, Workers> {
         self.workers.lock().unwrap_or_else(PoisonError::into_inner)
     }
 }
 
 impl Drop for Crew {
     fn drop(&mut self) {
-        // Without a job they end.
-        self.workers().all.iter().for_each(|worker| worker.baton.pass());
+        self.workers().all.iter().for_each(|worker| worker.start(Job::End));
     }
 }
 
@@ -149,8 +166,7 @@ impl Reserved {
         match self {
             Reserved::New(_) => spawn(job),
             Reserved::Worker(worker) => {
-                *worker.job.lock().unwrap_or_else(PoisonError::into_inner) = Some(job);
-                worker.baton.pass();
+                worker.start(Job::Run(job));
             }
         }
     }

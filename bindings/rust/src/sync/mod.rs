@@ -15,6 +15,8 @@ mod mutex;
 mod once;
 mod queue;
 mod rwlock;
+#[cfg(test)]
+mod tests;
 
 pub use barrier::{Barrier, BarrierWaitResult};
 pub use condvar::{Condvar, WaitTimeoutResult};

@@ -51,9 +51,12 @@ enum IdOf {
     Simulated(u64),
 }
 
+/// A thread of a simulation, with the place that it has there.
+type Placed = (Weak<dyn Calls>, Arc<Simulated>);
+
 thread_local! {
-    /// The thread of a simulation that this one is, with the place that it had there.
-    static CURRENT: RefCell<Option<(Weak<dyn Calls>, Arc<Simulated>)>> = const { RefCell::new(None) };
+    /// What the calling thread is. A thread that is used again has another place, so what it was is then not this.
+    static CURRENT: RefCell<Option<Placed>> = const { RefCell::new(None) };
 }
 
 /// The calling thread.

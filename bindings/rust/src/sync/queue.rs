@@ -85,6 +85,9 @@ impl<T> Queue<T> {
     }
 
     fn step(&self) {
+        // A step gives an object no permits where it is the first: there are those of the values sent before.
+        let all = self.lock().values();
+        release(&self.values, Permits { all, take: 0 });
         in_model(|model| model.step(&self.values, Noun::Channel));
     }
 

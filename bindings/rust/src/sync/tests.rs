@@ -246,7 +246,7 @@ fn a_receiver_sees_a_value_nothing_or_the_end() {
     let seen = outcomes(|sim, outcome| {
         let (sender, receiver) = channel();
         let outcome = outcome.clone();
-        sim.tracer("sends", move || sender.send(7).unwrap());
+        sim.tracer("sends", move || drop(sender.send(7)));
         sim.tracer("tries", move || {
             let number = |answer: Result<u32, TryRecvError>| match answer {
                 Ok(value) => value,
@@ -257,6 +257,29 @@ fn a_receiver_sees_a_value_nothing_or_the_end() {
         });
     });
     assert_eq!(seen, BTreeSet::from([[0, 0], [0, 7], [7, 0], [7, 1]]));
+}
+
+#[test]
+fn what_was_sent_before_the_threads_is_received() {
+    for bound in [None, Some(2)] {
+        let received = outcomes(|sim, outcome| {
+            let outcome = outcome.clone();
+            let (send, receiver): (Box<dyn Fn(u32) + Send>, _) = match bound {
+                Some(bound) => {
+                    let (sender, receiver) = sync_channel(bound);
+                    (Box::new(move |value| sender.send(value).unwrap()), receiver)
+                }
+                None => {
+                    let (sender, receiver) = channel();
+                    (Box::new(move |value| sender.send(value).unwrap()), receiver)
+                }
+            };
+            send(1);
+            sim.tracer("sends", move || [2, 3].into_iter().for_each(send));
+            sim.tracer("receives", move || outcome.put(receiver.iter().collect::<Vec<_>>()));
+        });
+        assert_eq!(received, BTreeSet::from([vec![1, 2, 3]]));
+    }
 }
 
 #[test]
@@ -374,7 +397,12 @@ fn a_thread_may_be_found_running_or_ended() {
     let ended = outcomes(|sim, outcome| {
         let outcome = outcome.clone();
         sim.tracer("main", move || {
-            let worker = thread::Builder::new().name("worker".into()).spawn(|| thread::current().id()).unwrap();
+            let body = || {
+                thread::yield_now();
+                AtomicBool::new(false).store(true, SeqCst);
+                thread::current().id()
+            };
+            let worker = thread::Builder::new().name("worker".into()).spawn(body).unwrap();
             outcome.put(worker.is_finished());
             let id = worker.thread().id();
             assert_eq!(worker.thread().name(), Some("worker"));

@@ -2,6 +2,8 @@
 
 pub mod ptrace;
 pub mod signal;
+#[cfg(test)]
+mod tests;
 pub mod wait;
 
 /// Ends the test at a call that is not simulated: an error would send the tracer down a path that Linux does not take.

@@ -92,12 +92,13 @@ const NO_FLOATS: &str = "a tracee has no floating-point registers";
 
 /// A set of registers of a tracee, as with `PTRACE_GETREGSET`; `NT_PRFPREG` ends the test.
 pub fn getregset<S: RegisterSet>(pid: Pid) -> Result<S::Regs, Errno> {
-    of_claimed(pid, |record| record.getregs().map(S::from_registers))
+    of_claimed(pid, |record| record.getregs()).map(S::from_registers)
 }
 
 /// Sets a set of registers of a tracee, as with `PTRACE_SETREGSET`; `NT_PRFPREG` ends the test.
 pub fn setregset<S: RegisterSet>(pid: Pid, regs: S::Regs) -> Result<(), Errno> {
-    of_claimed(pid, |record| record.setregs(&S::to_registers(regs)))
+    let regs = S::to_registers(regs);
+    of_claimed(pid, |record| record.setregs(&regs))
 }
 
 /// What a syscall-stop is about, as with `PTRACE_GET_SYSCALL_INFO`.

@@ -226,7 +226,10 @@ fn a_load_and_a_store_are_two_steps() {
         })
     };
     assert_eq!(sums(|sum| sum.store(sum.load(SeqCst) + 1, SeqCst)), BTreeSet::from([1, 2]));
-    assert_eq!(sums(|sum| drop(sum.fetch_add(1, SeqCst))), BTreeSet::from([2]));
+    let add = |sum: &AtomicUsize| {
+        sum.fetch_add(1, SeqCst);
+    };
+    assert_eq!(sums(add), BTreeSet::from([2]));
 }
 
 #[test]
@@ -246,7 +249,9 @@ fn a_receiver_sees_a_value_nothing_or_the_end() {
     let seen = outcomes(|sim, outcome| {
         let (sender, receiver) = channel();
         let outcome = outcome.clone();
-        sim.tracer("sends", move || drop(sender.send(7)));
+        sim.tracer("sends", move || {
+            let _ = sender.send(7);
+        });
         sim.tracer("tries", move || {
             let number = |answer: Result<u32, TryRecvError>| match answer {
                 Ok(value) => value,

@@ -126,7 +126,6 @@ pub(crate) enum Noun {
     Reader,
     Writer,
     Channel,
-    Condvar,
     Atomic,
     Once,
 }

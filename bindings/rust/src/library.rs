@@ -61,17 +61,13 @@ pub(crate) mod phase {
     pub(crate) const STOPPED: u32 = 3;
     pub(crate) const CLAIMED: u32 = 4;
     pub(crate) const DEAD: u32 = 5;
-    pub(crate) const REAPED: u32 = 6;
 }
 
 /// The options of waitid(2), and its kinds of ids.
 pub(crate) mod wait {
-    pub(crate) const WNOHANG: u32 = 1;
     pub(crate) const WSTOPPED: u32 = 2;
-    pub(crate) const WEXITED: u32 = 4;
     pub(crate) const WNOWAIT: u32 = 0x0100_0000;
     pub(crate) const P_ALL: u32 = 0;
-    pub(crate) const P_PID: u32 = 1;
     pub(crate) const P_PGID: u32 = 2;
 }
 
@@ -146,8 +142,6 @@ struct Handle {
 const CLOSED: Handle = Handle { live: 0, at: std::ptr::null_mut() };
 
 unsafe extern "C" {
-    fn pukzarn_version(to: *mut c_char, room: usize) -> c_long;
-
     fn pukzarn_record_open(record: *mut Handle, tid: u32) -> c_int;
     fn pukzarn_record_close(record: *mut Handle) -> c_int;
     fn pukzarn_record_set_stop(record: *mut Handle, number: u32, stop: *const StopNumbers) -> c_int;
@@ -220,7 +214,6 @@ unsafe extern "C" {
     fn pukzarn_case_close(script: *mut Handle) -> c_int;
     fn pukzarn_machine_open(machine: *mut Handle, script: *mut Handle, row: u32) -> c_int;
     fn pukzarn_machine_options(machine: *mut Handle, options: u32) -> c_int;
-    fn pukzarn_machine_filter(machine: *mut Handle, calls: *const u64, data: u16) -> c_int;
     fn pukzarn_machine_next(
         machine: *mut Handle,
         restart: *const RestartNumbers,
@@ -239,15 +232,6 @@ fn count(answer: impl Into<i64>) -> Result<usize, Errno> {
 /// The answer 0, or the error.
 fn done(answer: c_int) -> Result<(), Errno> {
     count(answer).map(drop)
-}
-
-/// The library's version, as "1.2.3".
-pub(crate) fn version() -> String {
-    let mut text = [0u8; 32];
-    // SAFETY: the buffer has the room that is said.
-    let length = unsafe { pukzarn_version(text.as_mut_ptr().cast(), text.len()) };
-    let length = usize::try_from(length).unwrap_or(0).min(text.len() - 1);
-    String::from_utf8_lossy(&text[..length]).into_owned()
 }
 
 macro_rules! handles {
@@ -700,11 +684,6 @@ impl Machine {
     pub(crate) fn options(&mut self, options: u32) -> Result<(), Errno> {
         // SAFETY: the pointer is of a live value.
         done(unsafe { pukzarn_machine_options(&mut self.0, options) })
-    }
-
-    pub(crate) fn filter(&mut self, calls: [u64; 2], data: u16) -> Result<(), Errno> {
-        // SAFETY: the pointers are of live values, and the array has the two words that the call reads.
-        done(unsafe { pukzarn_machine_filter(&mut self.0, calls.as_ptr(), data) })
     }
 
     /// Runs from a restart to the next stop, which the record then has, or to the death.

@@ -173,7 +173,10 @@ impl Calls for Caller {
     }
 
     fn exit(&self, row: usize, status: u32) {
-        self.call(Op::Exit(row, status));
+        // Where it is interrupted, it stops before that.
+        while let Some(Reply::Published(Ok(_), _)) = self.call(Op::Exit(row, status)) {
+            self.take_up(row);
+        }
     }
 
     fn exit_group(&self, row: usize, status: u32) {

@@ -83,7 +83,7 @@ impl State {
         let Some(op) = self.actors[actor].op else { return Ways::default() };
         match op {
             Op::TakeUp(row) => Ways::one_if(self.tracees.state(row).phase == phase::RUNNING),
-            Op::Exit(row, _) => Ways::one_if(self.tracees.may_exit(row)),
+            Op::Exit(row, _) => Ways::one_if(self.tracees.is_interrupted(row) || self.tracees.may_exit(row)),
             Op::Wait(request) => self.ways_of_wait(actor, request, most_idle),
             Op::Acquire(object, _, permits) => Ways::one_if(self.objects.has(object, permits)),
             Op::EndWait { condvar, mutex, patience } => self.ways_of_end(actor, condvar, mutex, patience, most_idle),
@@ -133,24 +133,17 @@ impl State {
         let reply = match op {
             Op::Start | Op::Access(..) | Op::Join(_) => Reply::Done,
             Op::TakeUp(row) => Reply::TakenUp(self.tracees.last_restart(row)),
-            Op::Publish(row, stop) => {
-                let (number, published) = self.tracees.publish(row, stop);
-                Reply::Published(number, published)
-            }
+            Op::Publish(row, stop) => self.make_stop(row, stop),
+            // The stop of an interrupt, which comes first.
+            Op::Exit(row, _) if self.tracees.is_interrupted(row) => self.make_stop(row, StopNumbers::default()),
             Op::Exit(row, status) => self.make_exit(row, status),
             Op::ExitGroup(row, status) => self.make_kill(row, false, status),
             Op::Kill(row) => self.make_kill(row, true, SIGKILL),
             Op::Wait(request) => Reply::Waited(self.make_wait(actor, request, which)),
             Op::Restart(row, how) => Reply::Answered(self.make_restart(actor, row, how)),
             Op::Touch(row) => Reply::Answered(self.holds(actor, row)),
-            Op::Seize(row, options) => {
-                self.tracees.set_options(row, options);
-                Reply::Done
-            }
-            Op::Interrupt(row) => {
-                self.tracees.interrupt(row);
-                Reply::Done
-            }
+            Op::Seize(row, _) => Reply::Answered(self.tracees.find(row)),
+            Op::Interrupt(row) => Reply::Answered(self.tracees.interrupt(row)),
             Op::IsFinished(thread) => Reply::Is(self.actors[thread].is_done()),
             Op::Pause => {
                 self.was_idle(actor, Idle::Pause);
@@ -198,6 +191,11 @@ impl State {
         Reply::Woken(Wakeup::TimedOut)
     }
 
+    fn make_stop(&mut self, row: usize, stop: StopNumbers) -> Reply {
+        let (number, published) = self.tracees.publish(row, stop);
+        Reply::Published(number, published)
+    }
+
     fn make_exit(&mut self, row: usize, status: u32) -> Reply {
         let exited = self.tracees.exit(row, self.tracees.killed(row).unwrap_or(status));
         assert!(exited.is_ok(), "pukzarn: the board refuses the exit of a row that runs: {exited:?}");
@@ -206,13 +204,14 @@ impl State {
 
     /// The rows of a group die: what they were about to do is their death.
     fn make_kill(&mut self, row: usize, with_itself: bool, status: u32) -> Reply {
+        let found = self.tracees.find(row);
         for row in self.tracees.group(row, with_itself) {
             self.tracees.kill(row, status);
             if self.actors[row].op.is_some() {
                 self.announce(row, Op::Exit(row, status));
             }
         }
-        Reply::Answered(Ok(()))
+        Reply::Answered(found)
     }
 
     fn make_wait(&mut self, actor: usize, request: Request, which: usize) -> Result<Option<Waited>, Errno> {

@@ -102,7 +102,7 @@ pub struct Failure {
     /// The decisions that were not the first one.
     pub deviations: u32,
     /// What was searched until then.
-    pub report: Report,
+    pub report: Box<Report>,
 }
 
 impl Failure {

@@ -193,7 +193,7 @@ fn calls_that_differ_after_the_same_answers_are_reported() {
             let runs = runs.clone();
             sim.case(ONE_CALL).unwrap();
             sim.tracer("main", move || {
-                let blocks = runs.fetch_add(1, Ordering::SeqCst) % 2 == 0;
+                let blocks = runs.fetch_add(1, Ordering::SeqCst).is_multiple_of(2);
                 let _ = waitpid(None, if blocks { None } else { Some(WaitPidFlag::WNOHANG) });
             });
             sim.tracer("other", || {

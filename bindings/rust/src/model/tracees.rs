@@ -193,9 +193,10 @@ impl Tracees {
         matches!(self.states[row].phase, phase::RUNNING | phase::STOPPED | phase::CLAIMED)
     }
 
-    /// Whether kill(2) finds a process: also one that is dead and not reaped.
-    pub(super) fn is_there(&self, row: usize) -> bool {
-        self.is_alive(row) || self.states[row].phase == phase::DEAD
+    /// ESRCH where a tracee is not born, or was reaped.
+    pub(super) fn find(&self, row: usize) -> Result<(), Errno> {
+        let is_there = self.is_alive(row) || self.states[row].phase == phase::DEAD;
+        if is_there { Ok(()) } else { Err(Errno::ESRCH) }
     }
 
     /// The rows of a row's thread group that are alive, with or without itself.
@@ -207,6 +208,7 @@ impl Tracees {
     /// these are a claim and a restart as any others, but nobody else acts between them.
     pub(super) fn kill(&mut self, row: usize, status: u32) {
         self.above[row].killed.get_or_insert(status);
+        self.above[row].interrupted = false;
         let state = self.states[row];
         if state.phase == phase::STOPPED {
             self.claim(row, state.tracer);
@@ -218,10 +220,17 @@ impl Tracees {
         self.refresh(row);
     }
 
+    /// Whether a tracee stops before its next act.
+    pub(super) fn is_interrupted(&self, row: usize) -> bool {
+        self.above[row].interrupted
+    }
+
     /// A running tracee stops before its next act; one that is stopped does not.
-    pub(super) fn interrupt(&mut self, row: usize) {
+    pub(super) fn interrupt(&mut self, row: usize) -> Result<(), Errno> {
+        self.find(row)?;
         self.above[row].interrupted |= self.states[row].phase == phase::RUNNING;
         self.refresh(row);
+        Ok(())
     }
 
     /// Takes over what the board says of a row.

@@ -118,7 +118,6 @@ fn object_words(op: Op) -> String {
         Noun::Reader => "read lock",
         Noun::Writer => "write lock",
         Noun::Channel => "receive channel",
-        Noun::Condvar => "wait condvar",
         Noun::Atomic => "atomic",
         Noun::Once => "once",
     };

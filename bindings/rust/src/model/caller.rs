@@ -11,6 +11,7 @@ use crate::context::{
 use crate::errno::Errno;
 use crate::library::{RecordCalls, RestartNumbers, StopNumbers, TraceeRecord, Waited};
 use crate::sys::not_simulated;
+use std::cell::Cell;
 use std::sync::{Arc, MutexGuard};
 
 /// A thread of a model, as its own calls see it.
@@ -18,9 +19,21 @@ pub(super) struct Caller {
     pub(super) model: Arc<Model>,
     pub(super) actor: usize,
     pub(super) baton: Arc<Baton>,
+    /// A tracee's restart, which a stop waits for already.
+    pub(super) restart: Cell<Option<RestartNumbers>>,
 }
 
 impl Caller {
+    /// Makes the stop that comes before a tracee goes on by itself, and waits for the restart.
+    fn stop_by(&self, op: Op) -> Option<Reply> {
+        let reply = self.call(op);
+        let is_killed = reply == Some(Reply::Ended) && !matches!(op, Op::Exit(..));
+        if is_killed && !std::thread::panicking() {
+            context::leave();
+        }
+        reply
+    }
+
     /// Announces a call, lets others go first where the search says so, and answers what the call was answered. None
     /// where the schedule is over and the thread unwinds already.
     fn call(&self, op: Op) -> Option<Reply> {
@@ -91,11 +104,6 @@ impl Caller {
     fn object(&self, state: &mut State, identity: &Identity, permits: u32) -> ObjectNumber {
         identity.number(self.model.schedule, || state.objects.add(permits))
     }
-
-    /// The thread of a row that has ended otherwise than it was about to: it was killed.
-    fn is_killed(reply: Option<Reply>) -> bool {
-        matches!(reply, Some(Reply::Ended)) && !std::thread::panicking()
-    }
 }
 
 impl Calls for Caller {
@@ -157,26 +165,29 @@ impl Calls for Caller {
     }
 
     fn publish(&self, row: usize, stop: StopNumbers) -> Result<Published, Errno> {
-        match self.call(Op::Publish(row, stop)) {
-            Some(Reply::Published(number, published)) => number.map(|_| published),
-            reply if Caller::is_killed(reply) => context::leave(),
+        match self.stop_by(Op::Publish(row, stop)) {
+            Some(Reply::TakenUp(how)) => {
+                self.restart.set(Some(how));
+                Ok(self.model.lock().actors[self.actor].published)
+            }
+            Some(Reply::Published(Err(errno), _)) => Err(errno),
             _ => Err(Errno::ESRCH),
         }
     }
 
     fn take_up(&self, row: usize) -> RestartNumbers {
-        match self.call(Op::TakeUp(row)) {
+        if let Some(how) = self.restart.take() {
+            return how;
+        }
+        match self.stop_by(Op::TakeUp(row)) {
             Some(Reply::TakenUp(how)) => how,
-            reply if Caller::is_killed(reply) => context::leave(),
             _ => RestartNumbers::default(),
         }
     }
 
     fn exit(&self, row: usize, status: u32) {
         // Where it is interrupted, it stops before that.
-        while let Some(Reply::Published(Ok(_), _)) = self.call(Op::Exit(row, status)) {
-            self.take_up(row);
-        }
+        while let Some(Reply::TakenUp(_)) = self.stop_by(Op::Exit(row, status)) {}
     }
 
     fn exit_group(&self, row: usize, status: u32) {

@@ -54,9 +54,9 @@ pub struct Report {
     pub schedules: u64,
     /// Those that were left early, at a situation that another had been in.
     pub left_early: u64,
-    /// The situations that are remembered.
+    /// The most situations that were remembered at once: each number of deviations begins anew.
     pub situations: u64,
-    /// The bytes that they take.
+    /// The most bytes that they took.
     pub situation_bytes: u64,
     /// The steps of all schedules.
     pub steps: u64,

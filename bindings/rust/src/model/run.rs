@@ -11,6 +11,7 @@ use super::tracees::Tracees;
 use crate::context::{self, Body};
 use crate::sim::{Declared, End, Follows, Kills};
 use crate::tracee::play;
+use std::cell::Cell;
 use std::panic::{AssertUnwindSafe, catch_unwind};
 use std::rc::Rc;
 use std::sync::atomic::{AtomicU64, Ordering};
@@ -95,7 +96,7 @@ impl Model {
         let ended = if self.lock().is_over() {
             Ok(())
         } else {
-            let caller = Rc::new(Caller { model: self.clone(), actor, baton });
+            let caller = Rc::new(Caller { model: self.clone(), actor, baton, restart: Cell::new(None) });
             catch_unwind(AssertUnwindSafe(|| context::enter(caller, body)))
         };
         let mut state = self.lock();

@@ -114,12 +114,7 @@ pub unsafe extern "C-unwind" fn __wrap_wait4(
 }
 
 #[unsafe(no_mangle)]
-pub unsafe extern "C-unwind" fn __wrap_waitid(
-    idtype: c_uint,
-    id: c_uint,
-    info: *mut c_void,
-    options: c_int,
-) -> c_int {
+pub unsafe extern "C-unwind" fn __wrap_waitid(idtype: c_uint, id: c_uint, info: *mut c_void, options: c_int) -> c_int {
     match answerer("waitid") {
         // SAFETY: the call is passed on as it is.
         Answerer::Kernel => unsafe { __real_waitid(idtype, id, info, options) },
@@ -195,9 +190,15 @@ unsafe fn simulated_ptrace(request: c_uint, pid: Pid, addr: *mut c_void, data: *
     // SAFETY: of each: `data` is, by ptrace(2), a pointer to what this request reads or writes, or NULL.
     match request {
         PEEKTEXT | PEEKDATA => ptrace::read(pid, addr).inspect(|_| set_errno(0)),
-        PEEKUSER => ptrace::read_user(pid, addr).inspect(|_| set_errno(0)),
+        PEEKUSER => {
+            requests::expect_register(addr as usize);
+            ptrace::read_user(pid, addr).inspect(|_| set_errno(0))
+        }
         requests::POKETEXT | requests::POKEDATA => ptrace::write(pid, addr, data as c_long).map(|()| 0),
-        requests::POKEUSER => ptrace::write_user(pid, addr, data as c_long).map(|()| 0),
+        requests::POKEUSER => {
+            requests::expect_register(addr as usize);
+            ptrace::write_user(pid, addr, data as c_long).map(|()| 0)
+        }
         requests::GETREGS => ptrace::getregs(pid).and_then(|regs| unsafe { store(data, regs) }),
         requests::SETREGS => unsafe { load(pid, data) }.and_then(|regs| ptrace::setregs(pid, regs)).map(|()| 0),
         requests::GETEVENTMSG => ptrace::getevent(pid).and_then(|message| unsafe { store(data, message) }),
@@ -246,7 +247,7 @@ unsafe fn register_set<'a>(pid: Pid, kind: usize, vector: *mut c_void) -> Result
     // SAFETY: what is not NULL is the caller's vector, which nobody else uses during the call.
     match unsafe { vector.cast::<Iovec>().as_mut() } {
         None => ptrace::getregs(pid).and(Err(Errno::EFAULT)),
-        Some(vector) if vector.len % REGISTER != 0 => ptrace::getregs(pid).and(Err(Errno::EINVAL)),
+        Some(vector) if !vector.len.is_multiple_of(REGISTER) => ptrace::getregs(pid).and(Err(Errno::EINVAL)),
         Some(vector) => {
             let len = vector.len.min(size_of::<user_regs_struct>());
             Ok((vector, len))
@@ -286,17 +287,21 @@ unsafe fn cut(info: ptrace_syscall_info, room: usize, to: *mut c_void) -> c_long
 // ---- Models ----
 
 /// A pointer that C hands a test or a thread.
+#[derive(Clone, Copy)]
 struct Arg(*mut c_void);
 
 // SAFETY: the header says that what the pointer leads to is the test's, whose threads a model runs one at a time.
 unsafe impl Send for Arg {}
 
+impl Arg {
+    fn pointer(self) -> *mut c_void {
+        self.0
+    }
+}
+
 /// Runs a function of C as a thread of a simulation.
 fn simulated(body: ThreadBody, arg: Arg) -> impl FnOnce() + Send + 'static {
-    move || {
-        let arg = arg;
-        place::at(Place::Simulation, || body(arg.0))
-    }
+    move || place::at(Place::Simulation, || body(arg.pointer()))
 }
 
 #[unsafe(no_mangle)]
@@ -314,7 +319,8 @@ pub unsafe extern "C-unwind" fn pukzarn_model_within(
 ) -> c_int {
     // SAFETY: the bounds and the name are the caller's.
     let (bounds, name) = unsafe { (*bounds, text(name)) };
-    models::run(bounds, &name, &|simulation| test(simulation, arg))
+    let arg = Arg(arg);
+    models::run(bounds, &name, move |simulation| test(simulation, arg.pointer()))
 }
 
 #[unsafe(no_mangle)]

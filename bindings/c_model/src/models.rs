@@ -98,11 +98,8 @@ pub(crate) fn printed() -> String {
     PRINTED.with_borrow(Clone::clone)
 }
 
-/// A test in C, which the thread of its model calls.
-pub(crate) type Test<'a> = &'a (dyn Fn(&Simulation<'_>) + Sync);
-
 /// Runs a model, prints what it found, and answers whether a schedule failed.
-pub(crate) fn run(bounds: Bounds, name: &str, test: Test<'_>) -> c_int {
+pub(crate) fn run(bounds: Bounds, name: &str, test: impl Fn(&Simulation<'_>) + Send) -> c_int {
     if place() != Place::Outside {
         fail(format!("the model {name} is run within a test"));
     }
@@ -118,16 +115,16 @@ pub(crate) fn run(bounds: Bounds, name: &str, test: Test<'_>) -> c_int {
 }
 
 /// Searches in a thread of the test's name, by which the crate knows the test.
-fn search(builder: &Builder, name: &str, test: Test<'_>) -> Result<Report, String> {
+fn search(builder: &Builder, name: &str, test: impl Fn(&Simulation<'_>) + Send) -> Result<Report, String> {
     keep_panics_quiet();
-    let body = || builder.explore(|sim| place::at(Place::Test, || test(&Simulation { sim, end: RefCell::default() })));
+    let of_schedule = move |sim: &Sim| place::at(Place::Test, || test(&Simulation { sim, end: RefCell::default() }));
+    let body = || builder.explore(of_schedule).map_err(|failure| of_failure(&failure));
     let searched = thread::scope(|scope| {
         let started = thread::Builder::new().name(name.to_string()).spawn_scoped(scope, body);
         started.map(|thread| thread.join())
     });
     match searched {
-        Ok(Ok(Ok(report))) => Ok(report),
-        Ok(Ok(Err(failure))) => Err(of_failure(&failure)),
+        Ok(Ok(found)) => found,
         Ok(Err(panic)) => Err(of_panic(&*panic)),
         Err(error) => Err(format!("its thread cannot be started: {error}")),
     }

@@ -3,6 +3,7 @@
 
 use crate::place::not_simulated;
 use pukzarn::errno::Errno;
+use pukzarn::libc::user_regs_struct;
 use pukzarn::sys::ptrace::{self, Options};
 use pukzarn::sys::signal::Signal;
 use pukzarn::unistd::Pid;
@@ -104,6 +105,16 @@ fn options(data: usize) -> Option<Options> {
 fn refused<T>(pid: Pid, errno: Errno) -> Result<T, Errno> {
     ptrace::getevent(pid).and(Err(errno))
 }
+
+/// Fails the schedule where an offset in `struct user` is beyond its registers: there Linux has debug registers, and more.
+pub(crate) fn expect_register(offset: usize) {
+    let known = size_of::<user_regs_struct>()..SIZE_OF_USER;
+    if known.contains(&offset) && offset.is_multiple_of(size_of::<u64>()) {
+        not_simulated(&format!("offset {offset} of struct user"), NO_OTHER_REGISTERS);
+    }
+}
+
+const SIZE_OF_USER: usize = 912;
 
 /// The full length of what PTRACE_GET_SYSCALL_INFO reports, by its `op`.
 pub(crate) fn length_of(op: u8) -> usize {

@@ -341,6 +341,8 @@ bench-rust: $(LIBRARY)
 	@echo "bench-rust: timing schedules of a model and the hand-overs of a plain baton in turn (a minute)"
 	@$(IN_RUST) $(CARGO) run --quiet --release --manifest-path bench/schedules/Cargo.toml
 
+include tools/c_model.mk
+
 install: install-program install-library
 
 install-program: all

@@ -103,8 +103,7 @@ pub(crate) fn run(bounds: Bounds, name: &str, test: impl Fn(&Simulation<'_>) + S
     if place() != Place::Outside {
         fail(format!("the model {name} is run within a test"));
     }
-    let searched = bounds.builder().and_then(|builder| search(&builder, name, test));
-    let (code, found) = match searched {
+    let (code, found) = match search(bounds, name, test) {
         Ok(report) => (0, of_report(&report)),
         Err(failure) => (1, failure),
     };
@@ -115,10 +114,10 @@ pub(crate) fn run(bounds: Bounds, name: &str, test: impl Fn(&Simulation<'_>) + S
 }
 
 /// Searches in a thread of the test's name, by which the crate knows the test.
-fn search(builder: &Builder, name: &str, test: impl Fn(&Simulation<'_>) + Send) -> Result<Report, String> {
+fn search(bounds: Bounds, name: &str, test: impl Fn(&Simulation<'_>) + Send) -> Result<Report, String> {
     keep_panics_quiet();
     let of_schedule = move |sim: &Sim| place::at(Place::Test, || test(&Simulation { sim, end: RefCell::default() }));
-    let body = || builder.explore(of_schedule).map_err(|failure| of_failure(&failure));
+    let body = move || bounds.builder()?.explore(of_schedule).map_err(|failure| of_failure(&failure));
     let searched = thread::scope(|scope| {
         let started = thread::Builder::new().name(name.to_string()).spawn_scoped(scope, body);
         started.map(|thread| thread.join())

@@ -1,0 +1,43 @@
+# The model for C (docs/C_MODEL.md): libpukzarn_model.a, which has libpukzarn.a inside, and the programs of tests/c_model.
+CARGO ?= cargo
+MODEL_LIBRARY ?= lib/libpukzarn_model.a
+MODEL_BUILT = $(abspath $(OUT)/c_model/cargo)
+# What a tracer is linked with: the archive needs the real functions, and so each of these.
+MODEL_CALLS = waitpid wait wait4 waitid ptrace kill tgkill pthread_create
+MODEL_WRAPS = $(foreach call,$(MODEL_CALLS),-Wl$(COMMA)--wrap=$(call))
+MODEL_EXPORTS = $(MODEL_CALLS:%=__wrap_%) \
+	$(shell sed -n 's/^[a-zA-Z].*\(pukzarn_[a-z_]*\)(.*);$$/\1/p' include/pukzarn_model.h | grep -v '^pukzarn_test$$')
+
+.PHONY: c-model c-model-test
+
+# Nothing is global but what the header has and the calls' replacements. Its own calls of std are the real ones.
+c-model: $(LIBRARY)
+	@echo "c-model: building $(MODEL_LIBRARY), with $(LIBRARY) inside (some seconds; at first a minute)"
+	@cd bindings && PUKZARN_LIB_DIR=$(abspath $(dir $(LIBRARY))) CARGO_TARGET_DIR=$(MODEL_BUILT) \
+	  $(CARGO) build --quiet --offline --release --package pukzarn_model
+	@mkdir -p $(dir $(MODEL_LIBRARY)) && rm -f $(MODEL_LIBRARY)
+	@ld -r --gc-sections $(MODEL_EXPORTS:%=-u %) -T tools/c_model.ld -o $(MODEL_LIBRARY:.a=.o) \
+	  $(MODEL_BUILT)/release/libpukzarn_model.a
+	@objcopy --strip-debug $(MODEL_EXPORTS:%=--keep-global-symbol=%) \
+	  $(foreach call,$(MODEL_CALLS),--redefine-sym $(call)=__real_$(call)) $(MODEL_LIBRARY:.a=.o)
+	@ar rcs $(MODEL_LIBRARY) $(MODEL_LIBRARY:.a=.o) && rm $(MODEL_LIBRARY:.a=.o)
+
+# Each program as C99, with the sanitizer of undefined behaviour, and without debugging's tables.
+MODEL_OUT = $(OUT)/c_model
+MODEL_PROGRAMS = $(basename $(notdir $(wildcard tests/c_model/*.c)))
+MODEL_TESTS = $(foreach kind,plain sanitized bare,$(MODEL_PROGRAMS:%=$(MODEL_OUT)/%.$(kind)))
+MODEL_FLAGS = -std=c99 -D_DEFAULT_SOURCE -Wall -Wextra -Werror -Iinclude
+$(MODEL_OUT)/%.plain: MODEL_KIND = -O2
+$(MODEL_OUT)/%.sanitized: MODEL_KIND = -O1 -g -fsanitize=undefined -fno-sanitize-recover
+$(MODEL_OUT)/%.bare: MODEL_KIND = -O3 -fno-exceptions -fomit-frame-pointer
+
+$(MODEL_TESTS): $(wildcard tests/c_model/*.[ch] include/*.h) $(MODEL_LIBRARY)
+	@$(CC) $(MODEL_FLAGS) $(MODEL_KIND) $(basename tests/c_model/$(@F)).c $(MODEL_WRAPS) $(MODEL_LIBRARY) -o $@
+
+c-model-test: c-model
+	@echo "c-model-test: building and running the programs of tests/c_model (a minute)"
+	@mkdir -p $(MODEL_OUT)
+	@$(MAKE) --no-print-directory $(MODEL_TESTS)
+	@for program in $(MODEL_TESTS); do timeout 120 $$program > $(MODEL_OUT)/printed.txt 2>&1 || { \
+	  cat $(MODEL_OUT)/printed.txt; echo "c-model-test: FAILED: $$program, or it took more than 120 s" >&2; exit 1; }; done
+	@echo "c-model-test: every program passed"

@@ -40,4 +40,8 @@ c-model-test: c-model
 	@$(MAKE) --no-print-directory $(MODEL_TESTS)
 	@for program in $(MODEL_TESTS); do timeout 120 $$program > $(MODEL_OUT)/printed.txt 2>&1 || { \
 	  cat $(MODEL_OUT)/printed.txt; echo "c-model-test: FAILED: $$program, or it took more than 120 s" >&2; exit 1; }; done
+	@cp $(MODEL_OUT)/early_child.plain $(MODEL_OUT)/early_child && (cd $(MODEL_OUT) && ./early_child) 2>&1 \
+	  | sed '/^pukzarn: mended/,$$d' > $(MODEL_OUT)/printed.txt
+	@sed -n '/^```text$$/,/^```$$/{/^```/!p}' docs/C_MODEL.md | diff - $(MODEL_OUT)/printed.txt \
+	  || { echo "c-model-test: FAILED: docs/C_MODEL.md shows another text than early_child prints" >&2; exit 1; }
 	@echo "c-model-test: every program passed"

@@ -37,8 +37,9 @@ typedef struct pukzarn_sim pukzarn_sim;
 typedef void pukzarn_test(pukzarn_sim *sim, void *arg);
 
 /* Runs a test under every interleaving of its calls, and prints on standard error how far it came, or the first schedule
- * that fails, in the words of `tracer explore`. The name is that of the test in the printed line, made of letters, digits
- * and underscores. Answers 0; or 1 where a schedule fails. Within a test it is not called.
+ * that fails, in the words of `tracer explore`. The name, of letters, digits and underscores, is that of the test in the
+ * printed line: each model of a program has one of its own. Answers 0; or 1 where a schedule fails. It is not called
+ * within a test.
  *
  * In the environment PUKZARN_SCHEDULE has one schedule that is run in place of all, PUKZARN_SCHEDULES how many are run
  * at most, and PUKZARN_DEVIATIONS the most deviations. */

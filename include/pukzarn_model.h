@@ -1,8 +1,8 @@
 /* pukzarn_model.h: a tracer's own code in C, unchanged, under every interleaving of its calls.
  *
- * No real process is traced. A test adds tracees, and the threads of the tracer; a model runs it again and again, once for
- * each order in which their calls can be made, and prints the first order that fails, with the line that runs it again.
- * docs/C_MODEL.md has a test of 40 lines, and how it is linked.
+ * No real process is traced. A test adds tracees, and the threads of the tracer; a model runs it again and again, once
+ * for each order in which their calls can be made, and prints the first order that fails, with the line that runs it
+ * again. docs/C_MODEL.md has a small test, and how it is linked.
  *
  * CALLS
  *     In a thread that pukzarn_sim_tracer or pukzarn_thread_start has started, these calls are answered by the
@@ -16,8 +16,8 @@
  *
  * ENDINGS
  *     A thread of a schedule that fails, or that need not be run to its end, is ended within its call, by unwinding its
- *     stack. So code may not count on a call to return: what it has opened, allocated or locked is then lost. Whatever a
- *     test uses, static variables too, it sets at its beginning.
+ *     stack. So code may not count on a call to return: what it has opened, allocated or locked is then lost. Whatever
+ *     a test uses, static variables too, it sets at its beginning.
  */
 #ifndef PUKZARN_MODEL_H
 #define PUKZARN_MODEL_H
@@ -36,10 +36,10 @@ typedef struct pukzarn_sim pukzarn_sim;
 /* A test. It is run once for each schedule, adds tracees and threads, and calls pukzarn_sim_run. */
 typedef void pukzarn_test(pukzarn_sim *sim, void *arg);
 
-/* Runs a test under every interleaving of its calls, and prints on standard error how far it came, or the first schedule
- * that fails, in the words of `tracer explore`. The name, of letters, digits and underscores, is that of the test in the
- * printed line: each model of a program has one of its own. Answers 0; or 1 where a schedule fails. It is not called
- * within a test.
+/* Runs a test under every interleaving of its calls, and prints on standard error how far it came, or the first
+ * schedule that fails, in the words of `tracer explore`. The name, of letters, digits and underscores, is that of the
+ * test in the printed line: each model of a program has one of its own. Answers 0; or 1 where a schedule fails. It is
+ * not called within a test.
  *
  * In the environment PUKZARN_SCHEDULE has one schedule that is run in place of all, PUKZARN_SCHEDULES how many are run
  * at most, and PUKZARN_DEVIATIONS the most deviations. */
@@ -66,8 +66,8 @@ enum {
 /* How a model is searched. Begin with PUKZARN_BOUNDS, which pukzarn_model takes, and set what is to differ. */
 struct pukzarn_bounds {
     uint64_t schedules;  /* how many are run at most; 0: what PUKZARN_SCHEDULES says, or else 20,000 */
-    uint32_t deviations; /* the most decisions of a schedule that are not the first one, which is to go on with the thread
-                            that runs, and to be answered the first tracee; or PUKZARN_WIDENING */
+    uint32_t deviations; /* the most decisions of a schedule that are not the first one, which is to go on with the
+                            thread that runs, and to be answered the first tracee; or PUKZARN_WIDENING */
     uint32_t reach;      /* PUKZARN_AS_BOUNDED, PUKZARN_ALL */
     uint32_t shares;     /* PUKZARN_SHARE_MEMORY, PUKZARN_SHARE_NOTHING */
     uint32_t deadlocks;  /* PUKZARN_DEADLOCK_FAILS, PUKZARN_DEADLOCK_ENDS */
@@ -92,8 +92,8 @@ void pukzarn_sim_case(pukzarn_sim *sim, const char *text);
 /* Adds a thread of the tracer, with a name for the printed schedules. */
 void pukzarn_sim_tracer(pukzarn_sim *sim, const char *name, void (*body)(void *), void *arg);
 
-/* The options (PTRACE_O_*) that every tracee has from its first stop on, until a tracer sets others. Without this they are
- * PTRACE_O_TRACESYSGOOD, PTRACE_O_TRACEFORK, PTRACE_O_TRACECLONE and PTRACE_O_TRACEEXEC. */
+/* The options (PTRACE_O_*) that every tracee has from its first stop on, until a tracer sets others. Without this they
+ * are PTRACE_O_TRACESYSGOOD, PTRACE_O_TRACEFORK, PTRACE_O_TRACECLONE and PTRACE_O_TRACEEXEC. */
 void pukzarn_sim_options(pukzarn_sim *sim, unsigned options);
 
 /* A tracer may kill tracees by SIGKILL, so that a stop may be gone at each ptrace call (ESRCH). */
@@ -102,9 +102,9 @@ void pukzarn_sim_kills(pukzarn_sim *sim);
 /* So many waits that would block may be answered EINTR in place of blocking, as by a signal that the tracer handles. */
 void pukzarn_sim_eintrs(pukzarn_sim *sim, unsigned most);
 
-/* As on Linux, the thread of this name traces all tracees: the waits of each thread may be answered a stop, but only this
- * one restarts a tracee or sees its registers; all others are answered ESRCH. Without this, the thread that was answered
- * a stop does, and no other. */
+/* As on Linux, the thread of this name traces all tracees: the waits of each thread may be answered a stop, but only
+ * this one restarts a tracee or sees its registers; all others are answered ESRCH. Without this, the thread that was
+ * answered a stop does, and no other. */
 void pukzarn_sim_only_tracer(pukzarn_sim *sim, const char *name);
 
 /* Runs all of it to its end. Answers how many tracees are left that were created and have not been reaped. */
@@ -139,8 +139,8 @@ typedef struct pukzarn_thread pukzarn_thread;
 pukzarn_thread *pukzarn_thread_start(void (*body)(void *), void *arg);
 void pukzarn_thread_join(pukzarn_thread *thread);
 
-/* Called at the head of a loop: of all that has happened, only these bytes count for what this thread does from here on.
- * Then fewer schedules are run; a report says "as far as `forget` holds". */
+/* Called at the head of a loop: of all that has happened, only these bytes count for what this thread does from here
+ * on. Then fewer schedules are run; the report says "as far as `pukzarn_forget` holds". */
 void pukzarn_forget(const void *all_that_counts, size_t len);
 
 #ifdef __cplusplus

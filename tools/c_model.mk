@@ -1,4 +1,4 @@
-# The model for C (docs/C_MODEL.md): libpukzarn_model.a, which has libpukzarn.a inside, and the programs of tests/c_model.
+# The model for C (docs/C_MODEL.md): libpukzarn_model.a, with libpukzarn.a inside, and the programs of tests/c_model.
 CARGO ?= cargo
 MODEL_LIBRARY ?= lib/libpukzarn_model.a
 MODEL_BUILT = $(abspath $(OUT)/c_model/cargo)

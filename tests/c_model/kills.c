@@ -1,5 +1,5 @@
-/* SIGKILL between a wait and the restart: a supervisor kills a process at its time limit, and each of the tracer's calls
- * may then find the stop gone (ESRCH). */
+/* SIGKILL between a wait and the restart: a supervisor kills a process at its time limit, and each of the tracer's
+ * calls may then find the stop gone (ESRCH). */
 #define _GNU_SOURCE
 #include "check_model.h"
 #include <signal.h>

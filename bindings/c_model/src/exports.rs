@@ -1,5 +1,6 @@
 //! What C calls: the functions of `include/pukzarn_model.h`, and those that `--wrap` puts in the place of waitpid(2),
-//! ptrace(2) and the others. The only file with `unsafe`: pointers of C are read and written here, and nothing else is done.
+//! ptrace(2) and the others. The only file with `unsafe`: pointers of C are read and written here, and nothing else is
+//! done.
 //!
 //! Each function may be left by unwinding, where a schedule ends within it: so each is `extern "C-unwind"`.
 #![allow(unsafe_code, reason = "pointers of C are read and written here")]
@@ -23,8 +24,8 @@ type Test = extern "C-unwind" fn(*const Simulation<'_>, *mut c_void);
 type Routine = extern "C" fn(*mut c_void) -> *mut c_void;
 
 // What `--wrap` calls the real functions.
-// SAFETY: these are their types in <sys/wait.h>, <sys/ptrace.h>, <signal.h> and <pthread.h>, a pointer to void standing for
-// any pointer.
+// SAFETY: these are their types in <sys/wait.h>, <sys/ptrace.h>, <signal.h> and <pthread.h>, a pointer to void standing
+// for any pointer.
 unsafe extern "C" {
     fn __real_waitpid(pid: c_int, status: *mut c_int, options: c_int) -> c_int;
     fn __real_wait(status: *mut c_int) -> c_int;

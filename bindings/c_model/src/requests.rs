@@ -106,7 +106,8 @@ fn refused<T>(pid: Pid, errno: Errno) -> Result<T, Errno> {
     ptrace::getevent(pid).and(Err(errno))
 }
 
-/// Fails the schedule where an offset in `struct user` is beyond its registers: there Linux has debug registers, and more.
+/// Fails the schedule where an offset in `struct user` is beyond its registers: there Linux has debug registers, and
+/// more.
 pub(crate) fn expect_register(offset: usize) {
     let known = size_of::<user_regs_struct>()..SIZE_OF_USER;
     if known.contains(&offset) && offset.is_multiple_of(size_of::<u64>()) {

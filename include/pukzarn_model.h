@@ -6,13 +6,14 @@
  *
  * CALLS
  *     In a thread that pukzarn_sim_tracer or pukzarn_thread_start has started, these calls are answered by the
- *     simulation, with the numbers of their manual pages: waitpid, wait, wait4, waitid, ptrace, kill, tgkill. In any
- *     other thread of the program they are the real ones. What they are asked and the simulation has not (another
- *     request, another signal, an attach, pthread_create ..) fails the schedule with that reason.
+ *     simulation, with the numbers of their manual pages: waitpid, wait, wait3, wait4, waitid, ptrace, kill and tgkill,
+ *     also by syscall(2). In any other thread of the program they are the real ones. What they are asked and the
+ *     simulation has not (another request, another signal, an attach ..) fails the schedule with that reason, and so do
+ *     pthread_create, fork, process_vm_readv and process_vm_writev.
  *
  * FAILING
- *     A schedule fails by pukzarn_fail, by PUKZARN_CHECK, by a call that is not simulated, where threads wait for ever,
- *     and where a thread takes 10,000 steps. abort(3), and so assert(3), ends the whole program.
+ *     A schedule fails by pukzarn_fail, PUKZARN_CHECK and assert, by exit and abort, by a call that is not simulated,
+ *     where threads wait for ever, and where it takes 10,000 steps. What else ends the program ends the search.
  *
  * ENDINGS
  *     A thread of a schedule that fails, or that need not be run to its end, is ended within its call, by unwinding its

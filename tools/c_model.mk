@@ -3,8 +3,9 @@ CARGO ?= cargo
 MODEL_LIBRARY ?= lib/libpukzarn_model.a
 MODEL_BUILT = $(abspath $(OUT)/c_model/cargo)
 # What a tracer is linked with: the archive needs the real functions, and so each of these.
-MODEL_CALLS = waitpid wait wait4 waitid ptrace kill tgkill pthread_create
-MODEL_WRAPS = $(foreach call,$(MODEL_CALLS),-Wl$(COMMA)--wrap=$(call))
+MODEL_CALLS = waitpid wait wait3 wait4 waitid ptrace kill tgkill process_vm_readv process_vm_writev syscall \
+	pthread_create fork exit _exit abort __assert_fail
+MODEL_WRAPS = $(dir $(MODEL_LIBRARY))pukzarn_model.wraps
 MODEL_EXPORTS = $(MODEL_CALLS:%=__wrap_%) \
 	$(shell sed -n 's/^[a-zA-Z].*\(pukzarn_[a-z_]*\)(.*);$$/\1/p' include/pukzarn_model.h | grep -v '^pukzarn_test$$')
 
@@ -20,6 +21,7 @@ c-model: $(LIBRARY)
 	  $(MODEL_BUILT)/release/libpukzarn_model.a
 	@objcopy --strip-debug $(MODEL_EXPORTS:%=--keep-global-symbol=%) \
 	  $(foreach call,$(MODEL_CALLS),--redefine-sym $(call)=__real_$(call)) $(MODEL_LIBRARY:.a=.o)
+	@printf -- '-Wl,--wrap=%s\n' $(MODEL_CALLS) > $(MODEL_WRAPS)
 	@ar rcs $(MODEL_LIBRARY) $(MODEL_LIBRARY:.a=.o) && rm $(MODEL_LIBRARY:.a=.o)
 
 # Each program as C99, with the sanitizer of undefined behaviour, and without debugging's tables.
@@ -32,7 +34,7 @@ $(MODEL_OUT)/%.sanitized: MODEL_KIND = -O1 -g -fsanitize=undefined -fno-sanitize
 $(MODEL_OUT)/%.bare: MODEL_KIND = -O3 -fno-exceptions -fomit-frame-pointer
 
 $(MODEL_TESTS): $(wildcard tests/c_model/*.[ch] include/*.h) $(MODEL_LIBRARY)
-	@$(CC) $(MODEL_FLAGS) $(MODEL_KIND) $(basename tests/c_model/$(@F)).c $(MODEL_WRAPS) $(MODEL_LIBRARY) -o $@
+	@$(CC) $(MODEL_FLAGS) $(MODEL_KIND) $(basename tests/c_model/$(@F)).c $(MODEL_LIBRARY) @$(MODEL_WRAPS) -o $@
 
 c-model-test: c-model
 	@echo "c-model-test: building and running the programs of tests/c_model (a minute)"

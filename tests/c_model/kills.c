@@ -4,6 +4,7 @@
 #include "check_model.h"
 #include <signal.h>
 #include <sys/ptrace.h>
+#include <sys/syscall.h>
 #include <sys/user.h>
 #include <sys/wait.h>
 #include <unistd.h>
@@ -12,7 +13,7 @@
 enum { A_BUG, A_DEATH_TO_COME };
 
 /* How the supervisor kills. */
-enum { BY_KILL, BY_TGKILL, BY_PTRACE };
+enum { BY_KILL, BY_TGKILL, BY_NUMBER, BY_PTRACE };
 
 struct supervised {
     int takes_esrch_for;
@@ -47,6 +48,8 @@ static void supervisor(void *supervised)
         answer = kill(100, SIGKILL);
     else if (how == BY_TGKILL)
         answer = tgkill(100, 100, SIGKILL);
+    else if (how == BY_NUMBER)
+        answer = (int)syscall(SYS_tkill, 100, SIGKILL);
     else
         answer = (int)ptrace(PTRACE_KILL, 100, 0, 0);
     PUKZARN_CHECK(answer == 0 || errno == ESRCH);

@@ -1,16 +1,20 @@
-/* What the simulation has not fails the schedule, with the reason: each call once. */
+/* What the simulation has not, and what would end the program, fails the schedule, with the reason: each call once. */
 #define _GNU_SOURCE
 #include "check_model.h"
+#include <assert.h>
 #include <elf.h>
 #include <pthread.h>
 #include <signal.h>
 #include <stddef.h>
 #include <sys/ptrace.h>
 #include <sys/resource.h>
+#include <sys/syscall.h>
 #include <sys/uio.h>
 #include <sys/user.h>
 #include <sys/wait.h>
 #include <unistd.h>
+
+static int returned;
 
 static void *start(void *arg)
 {
@@ -98,6 +102,55 @@ static void stops_a_thread(void)
     tgkill(100, 100, SIGSTOP);
 }
 
+static void forks(void)
+{
+    fork();
+}
+
+static void reads_memory(void)
+{
+    char byte;
+    struct iovec to = {&byte, 1}, from = {(void *)0x10000, 1};
+    process_vm_readv(100, &to, 1, &from, 1, 0);
+}
+
+static void writes_memory(void)
+{
+    char byte = 0;
+    struct iovec from = {&byte, 1}, to = {(void *)0x10000, 1};
+    process_vm_writev(100, &from, 1, &to, 1, 0);
+}
+
+static void traces_by_number(void)
+{
+    syscall(SYS_ptrace, PTRACE_CONT, 100, 0, 0);
+}
+
+static void kills_by_number(void)
+{
+    syscall(SYS_tgkill, 100, 100, SIGSTOP);
+}
+
+static void exits(void)
+{
+    exit(0);
+}
+
+static void exits_at_once(void)
+{
+    _exit(0);
+}
+
+static void aborts(void)
+{
+    abort();
+}
+
+static void asserts(void)
+{
+    assert(returned != 0);
+}
+
 static const struct {
     void (*call)(void);
     const char *printed;
@@ -117,9 +170,16 @@ static const struct {
     {reads_debug_registers, "offset 848 of struct user is not simulated"},
     {terminates, "kill with another signal than SIGKILL is not simulated"},
     {stops_a_thread, "with another signal than SIGKILL is not simulated"},
+    {forks, "fork is not simulated"},
+    {reads_memory, "process_vm_readv is not simulated"},
+    {writes_memory, "process_vm_writev is not simulated"},
+    {traces_by_number, "SYS_ptrace is not simulated"},
+    {kills_by_number, "with another signal than SIGKILL is not simulated"},
+    {exits, "exit(0) is called"},
+    {exits_at_once, "_exit(0) is called"},
+    {aborts, "abort is called"},
+    {asserts, "assertion `returned != 0` failed"},
 };
-
-static int returned;
 
 static void trace(void *at)
 {

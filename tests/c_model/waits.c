@@ -4,7 +4,9 @@
 #include <limits.h>
 #include <signal.h>
 #include <sys/ptrace.h>
+#include <sys/syscall.h>
 #include <sys/wait.h>
+#include <unistd.h>
 
 static void go_on(void)
 {
@@ -38,13 +40,14 @@ static void looks_and_waits(void)
     CHECK(waitpid(-1, &status, __WALL | WNOHANG), 0);
     CHECK(status, STATUS_START);
     go_on();
-    CHECK(wait4(100, &status, __WALL, NULL), 100);
+    CHECK(wait3(&status, WUNTRACED, NULL), 100);
+    CHECK(status, STATUS_SYSCALL);
+    go_on();
+    CHECK(syscall(SYS_wait4, 100, &status, __WALL, NULL), 100);
     CHECK(status, STATUS_SYSCALL);
     go_on();
     CHECK(waitid(P_PGID, 77, &info, WSTOPPED), 0);
     check_info(&info, SIGCHLD, CLD_TRAPPED, 100, SIGTRAP | 0x80);
-    go_on();
-    CHECK(waitpid(-77, NULL, WUNTRACED), 100);
     go_on();
     CHECK(waitid(P_PID, 100, &info, WEXITED | WNOWAIT), 0);
     check_info(&info, SIGCHLD, CLD_EXITED, 100, 3);
@@ -61,7 +64,7 @@ static void refusals(void)
     CHECK_ERRNO(waitpid(999, &status, 0), ECHILD);
     CHECK_ERRNO(waitpid(-78, &status, WNOHANG), ECHILD);
     CHECK_ERRNO(wait(&status), ECHILD);
-    CHECK_ERRNO(wait4(-1, &status, 0, NULL), ECHILD);
+    CHECK_ERRNO(wait4(-77, &status, 0, NULL), ECHILD);
     CHECK_ERRNO(waitpid(-1, &status, 0x10), EINVAL);
     CHECK_ERRNO(waitpid(-1, &status, WNOWAIT), EINVAL);
     CHECK_ERRNO(waitpid(INT_MIN, &status, 0), ESRCH);

@@ -15,11 +15,13 @@ use pukzarn::libc::{ptrace_syscall_info, siginfo_t, user_regs_struct};
 use pukzarn::sys::ptrace;
 use pukzarn::sys::signal::{Signal, kill};
 use pukzarn::unistd::Pid;
-use std::ffi::{CStr, c_char, c_int, c_long, c_uint, c_void};
+use std::ffi::{CStr, c_char, c_int, c_long, c_uint, c_ulong, c_void};
 
 /// What a thread of C runs.
 type ThreadBody = extern "C-unwind" fn(*mut c_void);
 type Test = extern "C-unwind" fn(*const Simulation<'_>, *mut c_void);
+/// An array of struct iovec.
+type Vectors = *const c_void;
 /// What pthread_create(3) starts.
 type Routine = extern "C" fn(*mut c_void) -> *mut c_void;
 
@@ -35,7 +37,31 @@ unsafe extern "C" {
     fn __real_kill(pid: c_int, signal: c_int) -> c_int;
     fn __real_tgkill(tgid: c_int, tid: c_int, signal: c_int) -> c_int;
     fn __real_pthread_create(thread: *mut c_void, attr: *const c_void, start: Routine, arg: *mut c_void) -> c_int;
+    fn __real_wait3(status: *mut c_int, options: c_int, usage: *mut c_void) -> c_int;
+    fn __real_process_vm_readv(
+        pid: c_int,
+        to: Vectors,
+        tos: c_ulong,
+        from: Vectors,
+        froms: c_ulong,
+        flags: c_ulong,
+    ) -> isize;
+    fn __real_process_vm_writev(
+        pid: c_int,
+        from: Vectors,
+        froms: c_ulong,
+        to: Vectors,
+        tos: c_ulong,
+        flags: c_ulong,
+    ) -> isize;
+    fn __real_fork() -> c_int;
+    fn __real_syscall(number: c_long, ...) -> c_long;
+    fn __real_exit(status: c_int) -> !;
+    fn __real__exit(status: c_int) -> !;
+    fn __real_abort() -> !;
+    fn __real___assert_fail(what: *const c_char, file: *const c_char, line: c_uint, function: *const c_char) -> !;
     fn __errno_location() -> *mut c_int;
+    fn atexit(call: extern "C" fn()) -> c_int;
 }
 
 fn set_errno(number: c_int) {
@@ -115,6 +141,16 @@ pub unsafe extern "C-unwind" fn __wrap_wait4(
 }
 
 #[unsafe(no_mangle)]
+pub unsafe extern "C-unwind" fn __wrap_wait3(status: *mut c_int, options: c_int, usage: *mut c_void) -> c_int {
+    match answerer("wait3") {
+        // SAFETY: the call is passed on as it is.
+        Answerer::Kernel => unsafe { __real_wait3(status, options, usage) },
+        // SAFETY: the status is the caller's.
+        Answerer::Simulation => unsafe { __wrap_wait4(-1, status, options, usage) },
+    }
+}
+
+#[unsafe(no_mangle)]
 pub unsafe extern "C-unwind" fn __wrap_waitid(idtype: c_uint, id: c_uint, info: *mut c_void, options: c_int) -> c_int {
     match answerer("waitid") {
         // SAFETY: the call is passed on as it is.
@@ -167,6 +203,138 @@ pub unsafe extern "C-unwind" fn __wrap_pthread_create(
         Answerer::Simulation => {
             not_simulated("pthread_create", "the model starts the tracer's threads: call pukzarn_thread_start")
         }
+    }
+}
+
+#[unsafe(no_mangle)]
+pub unsafe extern "C-unwind" fn __wrap_fork() -> c_int {
+    match answerer("fork") {
+        // SAFETY: the call is passed on as it is.
+        Answerer::Kernel => unsafe { __real_fork() },
+        Answerer::Simulation => not_simulated("fork", "a test begins at the tracer's loop, with tracees of a case"),
+    }
+}
+
+// ---- What ends the program ----
+
+// In a simulation that would end the search, and an exit with 0 would be taken for a success.
+
+#[unsafe(no_mangle)]
+pub unsafe extern "C-unwind" fn __wrap_exit(status: c_int) -> ! {
+    place::expect_outside(|| format!("exit({status}) is called"));
+    // SAFETY: the call is passed on as it is.
+    unsafe { __real_exit(status) }
+}
+
+#[unsafe(no_mangle)]
+pub unsafe extern "C-unwind" fn __wrap__exit(status: c_int) -> ! {
+    place::expect_outside(|| format!("_exit({status}) is called"));
+    // SAFETY: the call is passed on as it is.
+    unsafe { __real__exit(status) }
+}
+
+#[unsafe(no_mangle)]
+pub unsafe extern "C-unwind" fn __wrap_abort() -> ! {
+    place::expect_outside(|| "abort is called".to_string());
+    // SAFETY: the call is passed on as it is.
+    unsafe { __real_abort() }
+}
+
+/// What assert(3) calls.
+#[unsafe(no_mangle)]
+pub unsafe extern "C-unwind" fn __wrap___assert_fail(
+    what: *const c_char,
+    file: *const c_char,
+    line: c_uint,
+    function: *const c_char,
+) -> ! {
+    // SAFETY: assert(3) hands texts that are ended by a zero byte.
+    place::expect_outside(|| unsafe { format!("{}:{line}: assertion `{}` failed", text(file), text(what)) });
+    // SAFETY: the call is passed on as it is.
+    unsafe { __real___assert_fail(what, file, line, function) }
+}
+
+/// Called where the program exits by another way than those above, as err(3) does within the C library.
+extern "C" fn at_exit() {
+    if place::place() != Place::Outside {
+        eprintln!("pukzarn: FAILED: the program is ended within a schedule, as by err(3)");
+        // SAFETY: it ends the program, and needs nothing.
+        unsafe { __real__exit(1) }
+    }
+}
+
+/// From here on, an exit within a schedule is no success.
+pub(crate) fn watch_exits() {
+    // SAFETY: the function takes nothing and does not unwind.
+    unsafe { atexit(at_exit) };
+}
+
+// ---- syscall(2) and process_vm_readv(2) ----
+
+const SYS_KILL: c_long = 62;
+const SYS_WAIT4: c_long = 61;
+const SYS_PTRACE: c_long = 101;
+const SYS_TKILL: c_long = 200;
+const SYS_TGKILL: c_long = 234;
+const SYS_WAITID: c_long = 247;
+
+/// A call by its number: the same as by its name, where it has one here.
+#[unsafe(no_mangle)]
+pub unsafe extern "C-unwind" fn __wrap_syscall(
+    number: c_long,
+    a: c_long,
+    b: c_long,
+    c: c_long,
+    d: c_long,
+    e: c_long,
+    f: c_long,
+) -> c_long {
+    let is_known = matches!(number, SYS_KILL | SYS_WAIT4 | SYS_PTRACE | SYS_TKILL | SYS_TGKILL | SYS_WAITID);
+    if !is_known || answerer("syscall") == Answerer::Kernel {
+        // SAFETY: the call is passed on as it is: no call has more arguments, and one that has fewer reads no others.
+        return unsafe { __real_syscall(number, a, b, c, d, e, f) };
+    }
+    // SAFETY: the arguments are those of the call of this number.
+    let answer = match number {
+        SYS_KILL => unsafe { __wrap_kill(a as c_int, b as c_int) },
+        SYS_TKILL => unsafe { __wrap_tgkill(a as c_int, a as c_int, b as c_int) },
+        SYS_TGKILL => unsafe { __wrap_tgkill(a as c_int, b as c_int, c as c_int) },
+        SYS_WAIT4 => unsafe { __wrap_wait4(a as c_int, b as *mut c_int, c as c_int, d as *mut c_void) },
+        SYS_WAITID => unsafe { __wrap_waitid(a as c_uint, b as c_uint, c as *mut c_void, d as c_int) },
+        _ => not_simulated("syscall of SYS_ptrace", "call ptrace(2)"),
+    };
+    c_long::from(answer)
+}
+
+#[unsafe(no_mangle)]
+pub unsafe extern "C-unwind" fn __wrap_process_vm_readv(
+    pid: c_int,
+    to: Vectors,
+    tos: c_ulong,
+    from: Vectors,
+    froms: c_ulong,
+    flags: c_ulong,
+) -> isize {
+    match answerer("process_vm_readv") {
+        // SAFETY: the call is passed on as it is.
+        Answerer::Kernel => unsafe { __real_process_vm_readv(pid, to, tos, from, froms, flags) },
+        Answerer::Simulation => not_simulated("process_vm_readv", "read words by PTRACE_PEEKDATA"),
+    }
+}
+
+#[unsafe(no_mangle)]
+pub unsafe extern "C-unwind" fn __wrap_process_vm_writev(
+    pid: c_int,
+    from: Vectors,
+    froms: c_ulong,
+    to: Vectors,
+    tos: c_ulong,
+    flags: c_ulong,
+) -> isize {
+    match answerer("process_vm_writev") {
+        // SAFETY: the call is passed on as it is.
+        Answerer::Kernel => unsafe { __real_process_vm_writev(pid, from, froms, to, tos, flags) },
+        Answerer::Simulation => not_simulated("process_vm_writev", "write words by PTRACE_POKEDATA"),
     }
 }
 

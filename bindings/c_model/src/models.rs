@@ -1,5 +1,6 @@
 //! Models of tests in C: how each is searched, and what is printed of it.
 
+use crate::exports::watch_exits;
 use crate::place::{self, Place, fail, place};
 use pukzarn::sys::ptrace::Options;
 use pukzarn::{Builder, Deadlocks, Effort, End, Failure, Phase, Report, Shares, Sim};
@@ -115,7 +116,7 @@ pub(crate) fn run(bounds: Bounds, name: &str, test: impl Fn(&Simulation<'_>) + S
 
 /// Searches in a thread of the test's name, by which the crate knows the test.
 fn search(bounds: Bounds, name: &str, test: impl Fn(&Simulation<'_>) + Send) -> Result<Report, String> {
-    keep_panics_quiet();
+    prepare();
     let of_schedule = move |sim: &Sim| place::at(Place::Test, || test(&Simulation { sim, end: RefCell::default() }));
     let body = move || bounds.builder()?.explore(of_schedule).map_err(|failure| of_failure(&failure));
     let searched = thread::scope(|scope| {
@@ -129,10 +130,11 @@ fn search(bounds: Bounds, name: &str, test: impl Fn(&Simulation<'_>) + Send) -> 
     }
 }
 
-/// The model prints why a schedule failed, so the threads of one need not.
-fn keep_panics_quiet() {
+/// The model prints why a schedule failed, so the threads of one need not; and an exit within one is no success.
+fn prepare() {
     static ONCE: Once = Once::new();
     ONCE.call_once(|| {
+        watch_exits();
         let others = std::panic::take_hook();
         std::panic::set_hook(Box::new(move |panic| {
             if place() == Place::Outside {

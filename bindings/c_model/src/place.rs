@@ -51,6 +51,13 @@ pub(crate) fn answerer(call: &str) -> Answerer {
     }
 }
 
+/// Fails the schedule at a call that would end the program, and so the search.
+pub(crate) fn expect_outside(what: impl FnOnce() -> String) {
+    if place() != Place::Outside {
+        fail(what());
+    }
+}
+
 /// Fails the schedule that the calling thread is in. No panic is printed: the model prints the message.
 pub(crate) fn fail(message: String) -> ! {
     if place() == Place::Outside {

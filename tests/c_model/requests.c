@@ -81,7 +81,7 @@ static void memory(void)
     CHECK(ptrace(PTRACE_PEEKTEXT, 100, (void *)0x10000, 0), 0x0a6968);
     CHECK(ptrace(PTRACE_PEEKDATA, 100, (void *)0x10001, 0), 0x0a69);
     CHECK(ptrace(PTRACE_POKEDATA, 100, (void *)0x10003, 0x1122334455667788), 0);
-    CHECK(ptrace(PTRACE_POKETEXT, 100, (void *)0x10ff8, -1), 0);
+    CHECK(ptrace(PTRACE_POKETEXT, 100, (void *)0x10ff8, -1L), 0);
     errno = EPERM;
     CHECK(ptrace(PTRACE_PEEKDATA, 100, (void *)0x10ff8, 0), -1);
     CHECK(errno, 0);

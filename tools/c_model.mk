@@ -1,7 +1,5 @@
 # The model for C (docs/C_MODEL.md): libpukzarn_model.a, with libpukzarn.a inside, and the programs of tests/c_model.
-CARGO ?= cargo
 MODEL_LIBRARY ?= lib/libpukzarn_model.a
-MODEL_BUILT = $(abspath $(OUT)/c_model/cargo)
 # What a tracer is linked with: the archive needs the real functions, and so each of these.
 MODEL_CALLS = waitpid wait wait3 wait4 waitid ptrace kill tgkill process_vm_readv process_vm_writev syscall \
 	pthread_create fork exit _exit abort __assert_fail
@@ -14,11 +12,10 @@ MODEL_EXPORTS = $(MODEL_CALLS:%=__wrap_%) \
 # Nothing is global but what the header has and the calls' replacements. Its own calls of std are the real ones.
 c-model: $(LIBRARY)
 	@echo "c-model: building $(MODEL_LIBRARY), with $(LIBRARY) inside (some seconds; at first a minute)"
-	@cd bindings && PUKZARN_LIB_DIR=$(abspath $(dir $(LIBRARY))) CARGO_TARGET_DIR=$(MODEL_BUILT) \
-	  $(CARGO) build --quiet --offline --release --package pukzarn_model
+	@$(IN_RUST) $(CARGO) build --quiet --release --package pukzarn_model --manifest-path bindings/Cargo.toml
 	@mkdir -p $(dir $(MODEL_LIBRARY)) && rm -f $(MODEL_LIBRARY)
 	@ld -r --gc-sections $(MODEL_EXPORTS:%=-u %) -T tools/c_model.ld -o $(MODEL_LIBRARY:.a=.o) \
-	  $(MODEL_BUILT)/release/libpukzarn_model.a
+	  $(CARGO_TARGET_DIR)/release/libpukzarn_model.a
 	@objcopy --strip-debug $(MODEL_EXPORTS:%=--keep-global-symbol=%) \
 	  $(foreach call,$(MODEL_CALLS),--redefine-sym $(call)=__real_$(call)) $(MODEL_LIBRARY:.a=.o)
 	@printf -- '-Wl,--wrap=%s\n' $(MODEL_CALLS) > $(MODEL_WRAPS)

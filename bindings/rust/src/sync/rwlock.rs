@@ -3,7 +3,7 @@
 use super::{LockResult, TryLockError, TryLockResult, in_model, is_unwound, release, unpoisoned, unpoisoned_try};
 use crate::context::{Identity, Noun, Permits};
 use std::ops::{Deref, DerefMut};
-use std::{fmt, sync};
+use std::{fmt, mem, sync};
 
 /// A lock of many readers or one writer, as `std::sync::RwLock`. To take it is one step of a model.
 ///
@@ -166,6 +166,25 @@ impl<T: ?Sized> RwLock<T> {
     /// ```
     pub fn get_mut(&mut self) -> LockResult<&mut T> {
         self.inner.get_mut()
+    }
+}
+
+impl<'a, T: ?Sized> RwLockWriteGuard<'a, T> {
+    /// Lets others read beside this thread, which reads from now on; no step.
+    ///
+    /// ```
+    /// use pukzarn::sync::{RwLock, RwLockWriteGuard};
+    ///
+    /// let lock = RwLock::new(1);
+    /// let guard = RwLockWriteGuard::downgrade(lock.write().unwrap());
+    /// assert_eq!(*guard, *lock.read().unwrap());
+    /// ```
+    pub fn downgrade(mut guard: RwLockWriteGuard<'a, T>) -> RwLockReadGuard<'a, T> {
+        let lock = guard.lock;
+        let inner = guard.inner.take().map(sync::RwLockWriteGuard::downgrade);
+        mem::forget(guard);
+        release(&lock.identity, Permits { all: READERS, take: READERS - 1 });
+        RwLockReadGuard { lock, inner }
     }
 }
 

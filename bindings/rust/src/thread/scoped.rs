@@ -3,6 +3,7 @@
 use super::handle::{Answer, answering, join_simulated};
 use super::{Builder, Result, Thread};
 use crate::context;
+use std::any::Any;
 use std::panic::{AssertUnwindSafe, catch_unwind, resume_unwind};
 use std::sync::{Mutex, PoisonError};
 use std::{fmt, io, mem, thread};
@@ -47,9 +48,13 @@ where
         // std lends its own scope alone for the whole of 'scope, so ours is never given back: some 50 bytes.
         let scope: &Scope<'_, 'env> = Box::leak(Box::new(Scope { inner, left: Mutex::default() }));
         // The threads that are left have to end by calls of the simulation before std waits for them.
-        let answer = catch_unwind(AssertUnwindSafe(|| body(scope)));
-        scope.join_left();
-        answer.unwrap_or_else(|payload| resume_unwind(payload))
+        match catch_unwind(AssertUnwindSafe(|| body(scope))) {
+            Ok(answer) => {
+                scope.join_left();
+                answer
+            }
+            Err(payload) => scope.end_by(payload),
+        }
     })
 }
 
@@ -75,6 +80,16 @@ impl<'scope, 'env> Scope<'scope, 'env> {
         }
         // What is never given back keeps no numbers.
         drop(mem::take(&mut *lock(&self.left)));
+    }
+
+    /// Ends with a panic of the scope's body. The threads that are left may wait for what never comes, so another one
+    /// reports the panic, which ends the simulation.
+    fn end_by(&self, payload: Box<dyn Any + Send>) -> ! {
+        let Some(calls) = context::get().filter(|_| !lock(&self.left).is_empty()) else { resume_unwind(payload) };
+        let Some(message) = context::message(payload) else { context::leave() };
+        calls.spawn(Some("a scope".into()), Box::new(move || resume_unwind(Box::new(message))));
+        self.join_left();
+        context::leave()
     }
 }
 

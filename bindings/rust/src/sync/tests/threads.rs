@@ -1,7 +1,8 @@
 //! Atomics, what happens once, and threads.
 
-use super::outcomes;
+use super::{cause, outcomes};
 use crate::sync::atomic::{AtomicBool, AtomicUsize, Ordering::SeqCst};
+use crate::sync::mpsc::channel;
 use crate::sync::{Arc, Barrier, OnceLock};
 use crate::thread;
 use std::collections::BTreeSet;
@@ -138,4 +139,21 @@ fn a_scope_waits_for_threads_that_nobody_joins() {
         });
     });
     assert_eq!(served, BTreeSet::from([([1, 2], 3)]));
+}
+
+#[test]
+fn a_panic_in_a_scope_is_the_cause_though_others_wait() {
+    let cause = cause(|sim| {
+        sim.tracer("main", || {
+            let (sender, receiver) = channel::<u32>();
+            thread::scope(|scope| {
+                // It waits for more as long as the sender lives, which is longer than the scope.
+                scope.spawn(move || receiver.iter().count());
+                sender.send(1).unwrap();
+                panic!("on purpose");
+            });
+        });
+        sim.run();
+    });
+    assert!(cause.ends_with("panicked: on purpose"), "{cause}");
 }

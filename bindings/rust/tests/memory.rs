@@ -3,7 +3,7 @@
 
 use pukzarn::sys::ptrace;
 use pukzarn::sys::wait::{WaitStatus, waitpid};
-use pukzarn::{Builder, Row, Sim, Stop};
+use pukzarn::{Builder, Row, Shares, Sim, Stop, Threads};
 use std::alloc::{GlobalAlloc, Layout, System};
 use std::sync::atomic::{AtomicUsize, Ordering::SeqCst};
 
@@ -66,22 +66,27 @@ fn two_tracers(sim: &Sim) {
     sim.run().assert_all_reaped();
 }
 
-/// The situations that so many schedules have, and the most bytes that were in use for them.
-fn measure(max_schedules: u64) -> (u64, u64) {
+/// The situations that so many schedules of one search have, and the most bytes that were in use for them.
+fn measure(shares: Shares, max_schedules: u64) -> (u64, u64) {
     let before = LIVE.load(SeqCst);
     PEAK.store(before, SeqCst);
-    let report = Builder { max_schedules, ..Builder::new() }.explore(two_tracers).expect("the tracer has no fault");
+    let threads = Threads::Reused;
+    let builder = Builder { shares, max_schedules, threads, deviations: Some(6), ..Builder::new() };
+    let report = builder.explore(two_tracers).expect("the tracer has no fault");
     (report.situations, (PEAK.load(SeqCst) - before) as u64)
 }
 
 #[test]
 fn a_situation_takes_at_most_32_bytes() {
     // What one schedule needs is given back after it.
-    let (_, of_one) = measure(1);
-    for schedules in [3_000, 12_000, 20_000] {
-        let (situations, bytes) = measure(schedules);
-        println!("{schedules} schedules: {situations} situations, {bytes} bytes, of which one schedule takes {of_one}");
-        assert!(situations > schedules, "most schedules have situations of their own");
+    let (_, of_one) = measure(Shares::Memory, 1);
+    let searches = [(Shares::Memory, 3_000), (Shares::Memory, 9_000), (Shares::Memory, 20_000), (Shares::Sync, 9_000)];
+    for (shares, schedules) in searches {
+        let (situations, bytes) = measure(shares, schedules);
+        println!(
+            "{shares:?}, {schedules} schedules: {situations} situations, {bytes} bytes; {of_one} for one schedule"
+        );
+        assert!(situations > 2_000, "there are situations to remember");
         assert!(bytes <= of_one + MOST_BYTES * situations, "{bytes} bytes for {situations} situations");
     }
 }

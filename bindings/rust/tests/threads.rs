@@ -197,7 +197,7 @@ fn what_threads_do_not_have_is_named() {
     let fault = fault_of(|sim| {
         sim.kills();
         sim.tracee(Row::root(100), |tracee| tracee.stop(Stop::Start).map(drop));
-        sim.tracer("main", || drop(ptrace::kill(Pid::from_raw(100))));
+        sim.tracer("main", || ptrace::kill(Pid::from_raw(100)).expect("it never answers"));
         sim.run();
     });
     assert!(fault.contains("kill on threads is not simulated"), "{fault}");

@@ -5,14 +5,22 @@ mod locks;
 mod on_threads;
 mod threads;
 
-use crate::{Builder, Coverage, Sim};
+use crate::{Builder, Coverage, Shares, Sim};
 use std::collections::BTreeSet;
 use std::sync::{Arc, Mutex};
 
-/// Runs every interleaving, and answers what they came to.
+/// Runs every interleaving, and answers what they came to, which is the same whatever is taken to be shared.
 fn outcomes<T: Ord + Send + 'static>(test: impl Fn(&Sim, &Outcome<T>)) -> BTreeSet<T> {
+    let all = outcomes_of(Shares::Memory, &test);
+    assert!(all == outcomes_of(Shares::Sync, &test), "situations that differ were taken for the same");
+    assert!(all == outcomes_of(Shares::Everything, &test), "situations that differ were taken for the same");
+    all
+}
+
+fn outcomes_of<T: Ord + Send + 'static>(shares: Shares, test: &impl Fn(&Sim, &Outcome<T>)) -> BTreeSet<T> {
     let all = Mutex::new(BTreeSet::new());
-    let report = Builder::new().exhaustive().check(|sim| {
+    let builder = Builder { shares, max_schedules: 1_000_000, ..Builder::new().exhaustive() };
+    let report = builder.check(|sim| {
         let outcome = Outcome(Arc::new(Mutex::new(Vec::new())));
         test(sim, &outcome);
         let end = sim.run();

@@ -7,8 +7,8 @@ use std::time::Duration;
 
 /// A condition that threads wait for, as `std::sync::Condvar`.
 ///
-/// In a model, which thread a notification wakes is a choice, and a wait with a time limit may end at any moment. Nobody
-/// is woken without a notification.
+/// In a model, which thread a notification wakes is a choice, and a wait with a time limit may end at any moment.
+/// Nobody is woken without a notification.
 ///
 /// ```
 /// use pukzarn::sync::{Arc, Condvar, Mutex};

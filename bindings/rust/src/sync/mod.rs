@@ -73,7 +73,8 @@ fn unpoisoned_try<T, U>(answer: TryLockResult<T>, wrap: impl FnOnce(T) -> U) -> 
     }
 }
 
-/// Whether a lock that is given back now is poisoned although it is not to be: a schedule ends by unwinding its threads.
+/// Whether a lock that is given back now is poisoned although it is not to be: a schedule ends by unwinding its
+/// threads.
 fn is_unwound() -> bool {
     std::thread::panicking() && context::get().is_some()
 }

@@ -1,8 +1,8 @@
 //! What the ends of a channel share.
 //!
-//! In a model, the values that may be received are the permits of one object, and the places for values those of another
-//! one, without limit where the other end is gone. A sender that hands its value over has an object of its own: a permit
-//! there says that its value was taken. Elsewhere a condition variable of std blocks.
+//! In a model, the values that may be received are the permits of one object, and the places for values those of
+//! another one, without limit where the other end is gone. A sender that hands its value over has an object of its own:
+//! a permit there says that its value was taken. Elsewhere a condition variable of std blocks.
 
 use super::{changed, in_model, release};
 use crate::context::{Identity, Noun, Permits, UNLIMITED};
@@ -186,7 +186,7 @@ impl<T> Queue<T> {
         self.pop(state).ok_or(TryRecvError::Disconnected)
     }
 
-    /// As `try_receive`, after a wait where it is on no model's time.
+    /// As `try_receive`, after a wait for a value; not in a model, where no time passes.
     pub(super) fn receive_until(&self, end: Option<Instant>) -> Result<T, TryRecvError> {
         let mut state = self.lock();
         state.is_receiving = true;

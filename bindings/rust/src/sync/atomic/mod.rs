@@ -122,7 +122,11 @@ macro_rules! common_methods {
 
         $crate::sync::atomic::method! { $atomic, $old,
             "The value, which nobody else can reach; no step."
-            concat!("let mut value = value;\n*value.get_mut() = ", $new, ";\nassert_eq!(value.into_inner(), ", $new, ");"),
+            concat!(
+                "let mut value = value;\n",
+                "*value.get_mut() = ", $new, ";\n",
+                "assert_eq!(value.into_inner(), ", $new, ");"
+            ),
             pub fn get_mut(&mut self) -> &mut $value {
                 self.inner.get_mut()
             }

@@ -64,6 +64,10 @@ pub(crate) trait Calls {
     fn take_up(&self, row: usize) -> RestartNumbers;
     /// Ends the row; a leader's once its threads have ended.
     fn exit(&self, row: usize, status: u32);
+    /// The same as the last act of the tracee's thread, which need not wait for it.
+    fn exit_at_last(&self, row: usize, status: u32) {
+        self.exit(row, status);
+    }
     /// Ends the other rows of its thread group; `exit` comes after it.
     fn exit_group(&self, row: usize, status: u32);
     /// Calls with the tracee's own record, once.

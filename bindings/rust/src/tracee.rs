@@ -228,7 +228,9 @@ pub(crate) fn play(row: usize, body: Play) {
         panic!("the tracee's closure ends with an error: {errno}");
     }
     if tracee.life == Life::Alive {
-        tracee.exit(Death::Exited(0));
+        let death = Death::Exited(0);
+        tracee.announce(death);
+        context::calls().exit_at_last(row, death.status());
     }
 }
 

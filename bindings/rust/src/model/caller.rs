@@ -190,6 +190,13 @@ impl Calls for Caller {
         while let Some(Reply::TakenUp(_)) = self.stop_by(Op::Exit(row, status)) {}
     }
 
+    fn exit_at_last(&self, row: usize, status: u32) {
+        let mut state = self.model.lock();
+        if !state.is_over() {
+            state.leave_to_others(self.actor, Op::Exit(row, status));
+        }
+    }
+
     fn exit_group(&self, row: usize, status: u32) {
         if self.model.lock().is_immediate() {
             not_simulated("exit_group without Sim::kills", "each ptrace call has to be a step of its own then");

@@ -101,7 +101,11 @@ impl Model {
         };
         let mut state = self.lock();
         let was_over = state.is_over();
-        state.end_actor(actor);
+        if state.actors[actor].last_act.is_none() {
+            state.end_actor(actor);
+        } else {
+            state.actors[actor].seat = Seat::None;
+        }
         if let Some(message) = ended.err().and_then(context::message) {
             let cause = format!("thread `{}` panicked: {message}", state.actors[actor].name);
             state.fail(cause);

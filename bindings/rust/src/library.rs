@@ -694,7 +694,7 @@ impl Machine {
     }
 }
 
-// ---- The processors of a thread ----
+// ---- The processors and the scheduling policy of a thread ----
 
 /// A set of processors.
 #[derive(Clone, Copy, Debug, PartialEq, Eq)]
@@ -703,6 +703,24 @@ pub(crate) struct Processors([u64; 16]);
 unsafe extern "C" {
     fn sched_getaffinity(pid: c_int, size: usize, mask: *mut u64) -> c_int;
     fn sched_setaffinity(pid: c_int, size: usize, mask: *const u64) -> c_int;
+    fn sched_getscheduler(pid: c_int) -> c_int;
+    fn sched_setscheduler(pid: c_int, policy: c_int, priority: *const c_int) -> c_int;
+}
+
+const SCHED_OTHER: c_int = 0;
+const SCHED_BATCH: c_int = 3;
+
+/// Lets the calling thread, and those that it starts, wait for their turns where another of them wakes them (SCHED_BATCH):
+/// who wakes another is about to wait itself. False where the thread has another policy than the usual one.
+pub(crate) fn set_batch_policy() -> bool {
+    // SAFETY: no memory is passed but the priority, struct sched_param, whose one field is an int.
+    unsafe { sched_getscheduler(0) == SCHED_OTHER && sched_setscheduler(0, SCHED_BATCH, &0) == 0 }
+}
+
+/// The usual policy again.
+pub(crate) fn set_usual_policy() {
+    // SAFETY: as in set_batch_policy.
+    unsafe { sched_setscheduler(0, SCHED_OTHER, &0) };
 }
 
 impl Processors {

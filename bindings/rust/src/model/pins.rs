@@ -1,7 +1,7 @@
 //! One processor for all threads of a model, since one of them runs at a time: handing over is cheaper so. Models that
 //! run side by side each take another one, where there are enough.
 
-use crate::library::Processors;
+use crate::library::{Processors, set_batch_policy, set_usual_policy};
 use std::sync::{Mutex, MutexGuard, PoisonError};
 
 /// How many models each processor has.
@@ -15,6 +15,8 @@ fn used() -> MutexGuard<'static, Vec<u32>> {
 pub(super) struct Pinned {
     before: Processors,
     processor: usize,
+    /// Whether the thread had the usual policy of scheduling, which it has again in the end.
+    was_usual: bool,
 }
 
 impl Pinned {
@@ -23,7 +25,7 @@ impl Pinned {
         let before = Processors::of_thread()?;
         let processor = take(&mut used(), before.numbers())?;
         Processors::one(processor).set_for_thread();
-        Some(Pinned { before, processor })
+        Some(Pinned { before, processor, was_usual: set_batch_policy() })
     }
 }
 
@@ -40,6 +42,9 @@ fn take(used: &mut Vec<u32>, of: impl Iterator<Item = usize>) -> Option<usize> {
 impl Drop for Pinned {
     fn drop(&mut self) {
         self.before.set_for_thread();
+        if self.was_usual {
+            set_usual_policy();
+        }
         used()[self.processor] -= 1;
     }
 }

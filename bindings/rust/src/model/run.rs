@@ -34,7 +34,7 @@ static SCHEDULES: AtomicU64 = AtomicU64::new(0);
 const LOOK: Duration = Duration::from_millis(100);
 
 impl Model {
-    pub(super) fn new(builder: &Builder, crew: &Arc<Crew>, search: Search, declared: Declared) -> Arc<Model> {
+    pub(super) fn new(builder: &Arc<Builder>, crew: &Arc<Crew>, search: Search, declared: Declared) -> Arc<Model> {
         let mut state = State::new(builder.clone(), Tracees::open(&declared), search);
         declare(&mut state, declared);
         let schedule = SCHEDULES.fetch_add(1, Ordering::Relaxed) + 1;

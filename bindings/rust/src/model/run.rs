@@ -53,7 +53,12 @@ impl Model {
         self.hand_over(None, state, turn);
         self.watch();
         let mut state = self.lock();
-        End { tracees: state.tracees.phases(), waiting: std::mem::take(&mut state.waiting) }
+        let end = End { tracees: state.tracees.phases(), waiting: std::mem::take(&mut state.waiting) };
+        // What was never started, as of a tracee that was not born, may own what the test looks at next.
+        let seats: Vec<Seat> = state.actors.iter_mut().map(|actor| std::mem::take(&mut actor.seat)).collect();
+        drop(state);
+        drop(seats);
+        end
     }
 
     /// Hands the baton on: `from` does not run until it is handed on again. Where the schedule is over, all threads that
@@ -73,9 +78,10 @@ impl Model {
         let before = std::mem::replace(&mut state.actors[actor].seat, Seat::Started(baton.clone()));
         let Seat::NotStarted(body) = before else { unreachable!("the turn of an actor without a thread") };
         state.live += 1;
+        let name = state.actors[actor].name.clone();
         drop(state);
         let model = self.clone();
-        reserved.start(Box::new(move || model.run_thread(actor, baton, body)));
+        reserved.start(&name, Box::new(move || model.run_thread(actor, baton, body)));
     }
 
     /// Wakes all threads that wait for the baton, but `from`, so that they end. This happens once in a schedule.

@@ -318,3 +318,114 @@ fn situations_take_at_most_32_bytes_each() {
     assert!(report.situations > 1_000, "{report:?}");
     assert!(report.situation_bytes <= 32 * report.situations, "{report:?}");
 }
+
+/// A main loop that says what counts at its head.
+fn forgetful_loop() {
+    loop {
+        crate::forget(&());
+        match wait() {
+            Ok(WaitStatus::Exited(..)) => {}
+            Ok(status) => ptrace::syscall(status.pid().unwrap(), None).unwrap(),
+            Err(_) => return,
+        }
+    }
+}
+
+#[test]
+fn what_is_forgotten_is_searched_once() {
+    let search = |body: fn()| {
+        let sim = |sim: &Sim| {
+            sim.case(ONE_CALL).unwrap();
+            sim.case(&ONE_CALL.replace("100", "200")).unwrap();
+            sim.tracer("main", body);
+            sim.run().assert_all_reaped();
+        };
+        builder().exhaustive().check(sim)
+    };
+    let (all, forgetful) = (search(main_loop), search(forgetful_loop));
+    assert!(forgetful.schedules < all.schedules, "{forgetful:?} {all:?}");
+    assert!(forgetful.to_string().starts_with("all interleavings, as far as `forget` holds: "), "{forgetful}");
+}
+
+#[test]
+fn what_a_closure_owns_is_given_back_after_the_run() {
+    builder().exhaustive().check(|sim| {
+        let owned = Arc::new(());
+        let (of_tracee, of_tracer) = (owned.clone(), owned.clone());
+        sim.tracee(Row::root(100), |_| Ok(()));
+        // Nobody creates this one.
+        sim.tracee(Row::child(101, 100), move |_| {
+            drop(of_tracee);
+            Ok(())
+        });
+        sim.tracer("main", move || {
+            let _ = (wait(), of_tracer);
+        });
+        sim.run();
+        assert_eq!(Arc::strong_count(&owned), 1);
+    });
+}
+
+#[test]
+fn an_interrupt_stops_a_tracee_whose_thread_has_ended() {
+    builder().exhaustive().check(|sim| {
+        sim.tracee(Row::root(100), |tracee| tracee.stop(Stop::Start).map(drop));
+        sim.tracer("main", || {
+            let pid = wait().unwrap().pid().unwrap();
+            ptrace::cont(pid, None).unwrap();
+            ptrace::interrupt(pid).unwrap();
+            while let Ok(status) = wait() {
+                if !matches!(status, WaitStatus::Exited(..)) {
+                    ptrace::cont(pid, None).unwrap();
+                }
+            }
+        });
+        sim.run().assert_all_reaped();
+    });
+}
+
+#[test]
+fn a_wait_is_interrupted_so_often_as_is_said() {
+    let interrupted = Arc::new(AtomicU64::new(0));
+    let of_tracer = interrupted.clone();
+    builder().exhaustive().check(|sim| {
+        sim.eintrs(2);
+        sim.case(ONE_CALL).unwrap();
+        let of_tracer = of_tracer.clone();
+        sim.tracer("main", move || {
+            let mut times = 0;
+            loop {
+                match wait() {
+                    Ok(WaitStatus::Exited(..)) => {}
+                    Ok(status) => ptrace::cont(status.pid().unwrap(), None).unwrap(),
+                    Err(crate::Errno::EINTR) => times += 1,
+                    Err(_) => break,
+                }
+            }
+            of_tracer.fetch_max(times, Ordering::SeqCst);
+        });
+        sim.run().assert_all_reaped();
+    });
+    assert_eq!(interrupted.load(Ordering::SeqCst), 2);
+}
+
+#[test]
+fn only_the_thread_that_traces_restarts() {
+    let builder = Builder { deadlocks: Deadlocks::End, ..builder() };
+    builder.check(|sim| {
+        sim.only_tracer("main");
+        sim.tracee(Row::root(100), |tracee| tracee.stop(Stop::Start).map(drop));
+        sim.tracer("main", || {
+            // Also a stop that another thread was answered.
+            while ptrace::cont(Pid::from_raw(100), None).is_err() {
+                crate::thread::yield_now();
+            }
+        });
+        sim.tracer("other", || {
+            if let Ok(WaitStatus::PtraceEvent(pid, ..)) = wait() {
+                assert_eq!(ptrace::cont(pid, None), Err(crate::Errno::ESRCH));
+            }
+        });
+        sim.run();
+    });
+}

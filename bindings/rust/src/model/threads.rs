@@ -35,8 +35,10 @@ impl Baton {
 }
 
 /// How an actor comes to run.
+#[derive(Default)]
 pub(super) enum Seat {
-    /// A scripted tracee has no thread.
+    /// It has no thread: a scripted tracee, or one whose thread has ended before it.
+    #[default]
     None,
     /// Its thread is started at its first turn.
     NotStarted(Body),
@@ -130,7 +132,7 @@ impl Crew {
         }
         let worker = Arc::new(Worker { baton: Arc::default(), job: Mutex::default() });
         let of_thread = worker.clone();
-        spawn(move || of_thread.run());
+        spawn("pukzarn", move || of_thread.run());
         workers.all.push(worker.clone());
         worker
     }
@@ -161,10 +163,10 @@ impl Reserved {
         }
     }
 
-    /// Starts its job, with the baton.
-    pub(super) fn start(self, job: Body) {
+    /// Starts its job, with the baton. A new thread has the name that a panic is printed with.
+    pub(super) fn start(self, name: &str, job: Body) {
         match self {
-            Reserved::New(_) => spawn(job),
+            Reserved::New(_) => spawn(name, job),
             Reserved::Worker(worker) => {
                 worker.start(Job::Run(job));
             }
@@ -172,8 +174,8 @@ impl Reserved {
     }
 }
 
-fn spawn(job: impl FnOnce() + Send + 'static) {
-    let started = std::thread::Builder::new().name("pukzarn".into()).spawn(job);
+fn spawn(name: &str, job: impl FnOnce() + Send + 'static) {
+    let started = std::thread::Builder::new().name(name.replace('\0', "")).spawn(job);
     if let Err(error) = started {
         panic!("pukzarn: a thread cannot be started: {error}");
     }

@@ -11,7 +11,9 @@ pub mod errno;
 pub mod libc;
 mod library;
 mod model;
+mod row;
 mod sim;
+mod stop;
 mod stress;
 pub mod sync;
 pub mod sys;
@@ -21,9 +23,11 @@ pub mod unistd;
 
 pub use errno::Errno;
 pub use model::{Builder, Coverage, Deadlocks, Effort, Failure, Report, Shares, Threads, forget, model};
+pub use row::Row;
 pub use sim::{CaseFault, End, Phase, Sim};
+pub use stop::{Death, Restart, Stop};
 pub use stress::{Stress, stress};
-pub use tracee::{Death, Restart, Row, Stop, Tracee};
+pub use tracee::Tracee;
 
 /// nix's Result: the error is an `Errno`.
 pub type Result<T> = std::result::Result<T, Errno>;

@@ -2,8 +2,9 @@
 
 use crate::context::{Body, World};
 use crate::library::{Case, CaseRefused, Machine, RowNumbers};
+use crate::row::Row;
 use crate::sys::ptrace::Options;
-use crate::tracee::{Play, Row, Tracee};
+use crate::tracee::{Play, Tracee};
 use crate::{Errno, Result};
 use std::cell::RefCell;
 use std::fmt;

@@ -1,9 +1,10 @@
 //! What a thread of a model asks for: each call is announced, and made when it is its turn.
 
+use super::actors::Kind;
 use super::calls::{Op, Reply};
 use super::objects::ObjectNumber;
 use super::run::Model;
-use super::state::{Kind, State, Turn};
+use super::state::{State, Turn};
 use super::threads::{Baton, Seat};
 use crate::context::{
     self, Body, Calls, Enrolled, Identity, ModelCalls, Notify, Noun, Patience, Permits, Published, Request, Wakeup,

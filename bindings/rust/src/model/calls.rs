@@ -1,8 +1,9 @@
 //! The calls of the actors: in how many ways each can be answered now, and what it then does. Each is one step.
 
+use super::actors::{Idle, Kind};
 use super::hash::{hash_of, mix};
 use super::objects::ObjectNumber;
-use super::state::{CallsAre, Idle, Kind, State, Step};
+use super::state::{CallsAre, State, Step};
 use crate::context::{Notify, Noun, Patience, Published, Request, Wakeup};
 use crate::errno::Errno;
 use crate::library::{RestartNumbers, StopNumbers, Waited, phase};

@@ -6,6 +6,7 @@
 //!   schedule where it comes to a situation that was there before (`situations`).
 //! - A failing schedule is printed (`words`), with the text that runs it again (`schedule`).
 
+mod actors;
 mod builder;
 mod caller;
 mod calls;

@@ -1,11 +1,12 @@
 //! One schedule: its threads, and the thread of the test that waits for their end.
 
+use super::actors::Kind;
 use super::builder::Builder;
 use super::caller::Caller;
 use super::calls::Op;
 use super::decisions::Search;
 use super::scripts::Script;
-use super::state::{CallsAre, Kind, State, Turn};
+use super::state::{CallsAre, State, Turn};
 use super::threads::{Baton, Crew, Seat};
 use super::tracees::Tracees;
 use crate::context::{self, Body};

@@ -1,7 +1,8 @@
 //! Scripted tracees: who has the baton makes their calls.
 
+use super::actors::Kind;
 use super::calls::{Op, Reply};
-use super::state::{Kind, State};
+use super::state::State;
 use crate::context::Published;
 use crate::library::{Machine, Next, RestartNumbers};
 use crate::sim::{machine_options, options_refused};

@@ -1,8 +1,9 @@
 //! Calls and their answers in words: those of `tracer explore` where it has them.
 
+use super::actors::{Actor, Kind};
 use super::calls::{Op, Reply};
 use super::objects::ObjectNumber;
-use super::state::{Actor, Kind, State, Step};
+use super::state::{State, Step};
 use crate::context::{Notify, Noun, Patience, Published, Request, Wakeup};
 use crate::errno::Errno;
 use crate::library::{RestartNumbers, StopNumbers, Waited, kind, phase, restart, wait};

@@ -9,7 +9,8 @@
  *     simulation, with the numbers of their manual pages: waitpid, wait, wait3, wait4, waitid, ptrace, kill and tgkill,
  *     also by syscall(2). In any other thread of the program they are the real ones. What they are asked and the
  *     simulation has not (another request, another signal, an attach ..) fails the schedule with that reason, and so do
- *     pthread_create, fork, process_vm_readv and process_vm_writev.
+ *     pthread_create, fork, process_vm_readv and process_vm_writev. In sleep, usleep, nanosleep, clock_nanosleep and
+ *     sched_yield no time passes: other threads may go first.
  *
  * FAILING
  *     A schedule fails by pukzarn_fail, PUKZARN_CHECK and assert, by exit and abort, by a call that is not simulated,
@@ -133,12 +134,10 @@ PUKZARN_NORETURN void pukzarn_fail(const char *message);
 #define PUKZARN_TEXT(line) PUKZARN_TEXT_OF(line)
 #define PUKZARN_TEXT_OF(line) #line
 
-/* A thread that a thread of the tracer starts, in place of pthread_create. */
-typedef struct pukzarn_thread pukzarn_thread;
-
-/* Starts a thread, which takes part in the model; and waits for its end, and forgets it. */
-pukzarn_thread *pukzarn_thread_start(void (*body)(void *), void *arg);
-void pukzarn_thread_join(pukzarn_thread *thread);
+/* Starts a further thread of the tracer, in place of pthread_create, and answers its number; and waits for its end. A
+ * thread is joined once, or never. */
+int pukzarn_thread_start(void (*body)(void *), void *arg);
+void pukzarn_thread_join(int thread);
 
 /* Called at the head of a loop: of all that has happened, only these bytes count for what this thread does from here
  * on. Then fewer schedules are run; the report says "as far as `pukzarn_forget` holds". */

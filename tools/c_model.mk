@@ -2,7 +2,7 @@
 MODEL_LIBRARY ?= lib/libpukzarn_model.a
 # What a tracer is linked with: the archive needs the real functions, and so each of these.
 MODEL_CALLS = waitpid wait wait3 wait4 waitid ptrace kill tgkill process_vm_readv process_vm_writev syscall \
-	pthread_create fork exit _exit abort __assert_fail
+	pthread_create fork sleep usleep nanosleep clock_nanosleep sched_yield exit _exit abort __assert_fail
 MODEL_WRAPS = $(dir $(MODEL_LIBRARY))pukzarn_model.wraps
 MODEL_EXPORTS = $(MODEL_CALLS:%=__wrap_%) \
 	$(shell sed -n 's/^[a-zA-Z].*\(pukzarn_[a-z_]*\)(.*);$$/\1/p' include/pukzarn_model.h | grep -v '^pukzarn_test$$')
@@ -21,13 +21,13 @@ c-model: $(LIBRARY)
 	@printf -- '-Wl,--wrap=%s\n' $(MODEL_CALLS) > $(MODEL_WRAPS)
 	@ar rcs $(MODEL_LIBRARY) $(MODEL_LIBRARY:.a=.o) && rm $(MODEL_LIBRARY:.a=.o)
 
-# Each program as C99, with the sanitizer of undefined behaviour, and without debugging's tables.
+# Each program as C99, with the sanitizers, and with what gcc leaves out where it may.
 MODEL_OUT = $(OUT)/c_model
 MODEL_PROGRAMS = $(basename $(notdir $(wildcard tests/c_model/*.c)))
 MODEL_TESTS = $(foreach kind,plain sanitized bare,$(MODEL_PROGRAMS:%=$(MODEL_OUT)/%.$(kind)))
 MODEL_FLAGS = -std=c99 -D_DEFAULT_SOURCE -Wall -Wextra -Werror -Iinclude
 $(MODEL_OUT)/%.plain: MODEL_KIND = -O2
-$(MODEL_OUT)/%.sanitized: MODEL_KIND = -O1 -g -fsanitize=undefined -fno-sanitize-recover
+$(MODEL_OUT)/%.sanitized: MODEL_KIND = -O1 -g -fsanitize=address,undefined -fno-sanitize-recover
 $(MODEL_OUT)/%.bare: MODEL_KIND = -O3 -fno-exceptions -fomit-frame-pointer
 
 $(MODEL_TESTS): $(wildcard tests/c_model/*.[ch] include/*.h) $(MODEL_LIBRARY)
@@ -36,6 +36,7 @@ $(MODEL_TESTS): $(wildcard tests/c_model/*.[ch] include/*.h) $(MODEL_LIBRARY)
 c-model-test: c-model
 	@echo "c-model-test: building and running the programs of tests/c_model (a minute)"
 	@mkdir -p $(MODEL_OUT)
+	@echo '#include <pukzarn_model.h>' | $(CXX) -std=c++17 -Wall -Wextra -Werror -Iinclude -fsyntax-only -x c++ -
 	@$(MAKE) --no-print-directory $(MODEL_TESTS)
 	@for program in $(MODEL_TESTS); do timeout 120 $$program > $(MODEL_OUT)/printed.txt 2>&1 || { \
 	  cat $(MODEL_OUT)/printed.txt; echo "c-model-test: FAILED: $$program, or it took more than 120 s" >&2; exit 1; }; done

@@ -1,9 +1,12 @@
 /* Threads that a tracer starts, and `pukzarn_forget` at the head of a loop. */
 #define _GNU_SOURCE
 #include "check_model.h"
+#include <sched.h>
 #include <signal.h>
 #include <sys/ptrace.h>
 #include <sys/wait.h>
+#include <time.h>
+#include <unistd.h>
 
 /* Traces until no tracee is left. */
 static void trace(void *forgets)
@@ -22,7 +25,7 @@ static void trace(void *forgets)
 
 static void starts_workers(void *forgets)
 {
-    pukzarn_thread *workers[2];
+    int workers[2];
     for (int i = 0; i < 2; i++)
         workers[i] = pukzarn_thread_start(trace, forgets);
     for (int i = 0; i < 2; i++)
@@ -61,9 +64,79 @@ static void reapers(pukzarn_sim *sim, void *mended)
     PUKZARN_CHECK(pukzarn_sim_run(sim) == 0);
 }
 
+/* A thread that polls what another one sets: no time passes while it sleeps, and the other one goes first. */
+static volatile int is_traced;
+
+static void traces_and_says_so(void *unused)
+{
+    int forgets = 0;
+    (void)unused;
+    trace(&forgets);
+    is_traced = 1;
+}
+
+static void polls(void *sleeps)
+{
+    const struct timespec hour = {3600, 0};
+    while (!is_traced) {
+        switch (*(int *)sleeps) {
+        case 0:
+            PUKZARN_CHECK(sleep(3600) == 0);
+            break;
+        case 1:
+            PUKZARN_CHECK(usleep(999999) == 0);
+            break;
+        case 2:
+            PUKZARN_CHECK(nanosleep(&hour, NULL) == 0);
+            break;
+        case 3:
+            PUKZARN_CHECK(clock_nanosleep(CLOCK_MONOTONIC, 0, &hour, NULL) == 0);
+            break;
+        default:
+            PUKZARN_CHECK(sched_yield() == 0);
+        }
+    }
+}
+
+static void polled(pukzarn_sim *sim, void *sleeps)
+{
+    is_traced = 0;
+    pukzarn_sim_case(sim, "tracee 100 100 77 0\nexit 3\nend\n");
+    pukzarn_sim_tracer(sim, "polls", polls, sleeps);
+    pukzarn_sim_tracer(sim, "traces", traces_and_says_so, NULL);
+    PUKZARN_CHECK(pukzarn_sim_run(sim) == 0);
+}
+
+static void joins_twice(void *forgets)
+{
+    int worker = pukzarn_thread_start(trace, forgets);
+    pukzarn_thread_join(worker);
+    pukzarn_thread_join(worker);
+}
+
+static void joined_twice(pukzarn_sim *sim, void *forgets)
+{
+    pukzarn_sim_tracer(sim, "main", joins_twice, forgets);
+    pukzarn_sim_run(sim);
+}
+
+static void starts_itself(pukzarn_sim *sim, void *forgets)
+{
+    (void)sim;
+    pukzarn_thread_start(trace, forgets);
+}
+
 int main(void)
 {
     int forgets = 0;
+    for (int sleeps = 0; sleeps < 5; sleeps++) {
+        CHECK(pukzarn_model("polled", polled, &sleeps), 0);
+        CHECK(has_printed("all interleavings"), 1);
+    }
+    CHECK(pukzarn_model("joined_twice", joined_twice, &forgets), 1);
+    CHECK(has_printed("pukzarn_thread_join of 0, which was joined"), 1);
+    CHECK(pukzarn_model("starts_itself", starts_itself, &forgets), 1);
+    CHECK(has_printed("pukzarn_thread_start is called by a thread that is in no simulation"), 1);
     CHECK(pukzarn_model("workers", workers, &forgets), 0);
     forgets = 1;
     CHECK(pukzarn_model("workers_forget", workers, &forgets), 0);

@@ -9,6 +9,7 @@
 use crate::models::{self, Bounds, Simulation};
 use crate::place::{self, Answerer, Place, answerer, fail, not_simulated};
 use crate::requests::{self, PEEKDATA, PEEKTEXT, PEEKUSER};
+use crate::threads;
 use crate::waits::{self, Reported, SignalInfo};
 use pukzarn::errno::Errno;
 use pukzarn::libc::{ptrace_syscall_info, siginfo_t, user_regs_struct};
@@ -55,6 +56,11 @@ unsafe extern "C" {
         flags: c_ulong,
     ) -> isize;
     fn __real_fork() -> c_int;
+    fn __real_sched_yield() -> c_int;
+    fn __real_sleep(seconds: c_uint) -> c_uint;
+    fn __real_usleep(microseconds: c_uint) -> c_int;
+    fn __real_nanosleep(time: *const c_void, left: *mut c_void) -> c_int;
+    fn __real_clock_nanosleep(clock: c_int, flags: c_int, time: *const c_void, left: *mut c_void) -> c_int;
     fn __real_syscall(number: c_long, ...) -> c_long;
     fn __real_exit(status: c_int) -> !;
     fn __real__exit(status: c_int) -> !;
@@ -213,6 +219,52 @@ pub unsafe extern "C-unwind" fn __wrap_fork() -> c_int {
         Answerer::Kernel => unsafe { __real_fork() },
         Answerer::Simulation => not_simulated("fork", "a test begins at the tracer's loop, with tracees of a case"),
     }
+}
+
+// ---- Time, of which none passes in a model: others go first ----
+
+/// Whether a thread of a simulation has let others go first, in place of a sleep.
+fn has_yielded() -> bool {
+    let is_simulated = place::place() == Place::Simulation;
+    if is_simulated {
+        pukzarn::thread::yield_now();
+    }
+    is_simulated
+}
+
+#[unsafe(no_mangle)]
+pub unsafe extern "C-unwind" fn __wrap_sched_yield() -> c_int {
+    // SAFETY: the call is passed on as it is.
+    if has_yielded() { 0 } else { unsafe { __real_sched_yield() } }
+}
+
+#[unsafe(no_mangle)]
+pub unsafe extern "C-unwind" fn __wrap_sleep(seconds: c_uint) -> c_uint {
+    // SAFETY: the call is passed on as it is.
+    if has_yielded() { 0 } else { unsafe { __real_sleep(seconds) } }
+}
+
+#[unsafe(no_mangle)]
+pub unsafe extern "C-unwind" fn __wrap_usleep(microseconds: c_uint) -> c_int {
+    // SAFETY: the call is passed on as it is.
+    if has_yielded() { 0 } else { unsafe { __real_usleep(microseconds) } }
+}
+
+#[unsafe(no_mangle)]
+pub unsafe extern "C-unwind" fn __wrap_nanosleep(time: *const c_void, left: *mut c_void) -> c_int {
+    // SAFETY: the call is passed on as it is.
+    if has_yielded() { 0 } else { unsafe { __real_nanosleep(time, left) } }
+}
+
+#[unsafe(no_mangle)]
+pub unsafe extern "C-unwind" fn __wrap_clock_nanosleep(
+    clock: c_int,
+    flags: c_int,
+    time: *const c_void,
+    left: *mut c_void,
+) -> c_int {
+    // SAFETY: the call is passed on as it is.
+    if has_yielded() { 0 } else { unsafe { __real_clock_nanosleep(clock, flags, time, left) } }
 }
 
 // ---- What ends the program ----
@@ -468,9 +520,9 @@ impl Arg {
     }
 }
 
-/// Runs a function of C as a thread of a simulation.
-fn simulated(body: ThreadBody, arg: Arg) -> impl FnOnce() + Send + 'static {
-    move || place::at(Place::Simulation, || body(arg.pointer()))
+/// A call of a function of C.
+fn called(body: ThreadBody, arg: Arg) -> impl FnOnce() + Send + 'static {
+    move || body(arg.pointer())
 }
 
 #[unsafe(no_mangle)]
@@ -530,7 +582,7 @@ pub unsafe extern "C-unwind" fn pukzarn_sim_tracer(
 ) {
     // SAFETY: the simulation and the name are the caller's.
     let (simulation, name) = unsafe { (of(sim), text(name)) };
-    simulation.sim.tracer(&name, simulated(body, Arg(arg)));
+    simulation.sim.tracer(&name, threads::simulated(simulation.threads.clone(), called(body, Arg(arg))));
 }
 
 #[unsafe(no_mangle)]
@@ -576,23 +628,16 @@ pub unsafe extern "C-unwind" fn pukzarn_fail(message: *const c_char) -> ! {
     fail(unsafe { text(message) })
 }
 
-/// A thread that C has started and not joined.
-pub struct Started(pukzarn::thread::JoinHandle<()>);
-
 #[unsafe(no_mangle)]
-pub unsafe extern "C-unwind" fn pukzarn_thread_start(body: ThreadBody, arg: *mut c_void) -> *mut Started {
+pub unsafe extern "C-unwind" fn pukzarn_thread_start(body: ThreadBody, arg: *mut c_void) -> c_int {
     models::in_simulation("pukzarn_thread_start");
-    Box::into_raw(Box::new(Started(pukzarn::thread::spawn(simulated(body, Arg(arg))))))
+    threads::start(called(body, Arg(arg)))
 }
 
 #[unsafe(no_mangle)]
-pub unsafe extern "C-unwind" fn pukzarn_thread_join(thread: *mut Started) {
+pub unsafe extern "C-unwind" fn pukzarn_thread_join(thread: c_int) {
     models::in_simulation("pukzarn_thread_join");
-    // SAFETY: the header says that it is of pukzarn_thread_start, and joined once.
-    let Started(handle) = *unsafe { Box::from_raw(thread) };
-    if handle.join().is_err() {
-        fail("a thread that is joined has failed".to_string());
-    }
+    threads::join(thread);
 }
 
 #[unsafe(no_mangle)]

@@ -10,4 +10,6 @@ mod exports;
 mod models;
 mod place;
 mod requests;
+mod threads;
 mod waits;
+mod words;

@@ -2,12 +2,14 @@
 
 use crate::exports::watch_exits;
 use crate::place::{self, Place, fail, place};
+use crate::threads::Threads;
+use crate::words::in_c;
 use pukzarn::sys::ptrace::Options;
 use pukzarn::{Builder, Deadlocks, Effort, End, Failure, Phase, Report, Shares, Sim};
 use std::any::Any;
 use std::cell::RefCell;
 use std::ffi::{c_int, c_uint};
-use std::sync::Once;
+use std::sync::{Arc, Once};
 use std::thread;
 
 /// `struct pukzarn_bounds` of the header.
@@ -52,10 +54,15 @@ fn one_of<T: Copy>(field: &str, number: u32, all: [T; 2]) -> Result<T, String> {
 /// What a test adds to one run.
 pub(crate) struct Simulation<'a> {
     pub(crate) sim: &'a Sim,
+    pub(crate) threads: Arc<Threads>,
     end: RefCell<Option<End>>,
 }
 
-impl Simulation<'_> {
+impl<'a> Simulation<'a> {
+    fn new(sim: &'a Sim) -> Simulation<'a> {
+        Simulation { sim, threads: Arc::default(), end: RefCell::default() }
+    }
+
     pub(crate) fn options(&self, bits: c_uint) {
         match Options::from_bits(bits.cast_signed()) {
             Some(options) => self.sim.options(options),
@@ -105,7 +112,7 @@ pub(crate) fn run(bounds: Bounds, name: &str, test: impl Fn(&Simulation<'_>) + S
         fail(format!("the model {name} is run within a test"));
     }
     let (code, found) = match search(bounds, name, test) {
-        Ok(report) => (0, of_report(&report)),
+        Ok(report) => (0, in_c(&report.to_string())),
         Err(failure) => (1, failure),
     };
     let text = format!("pukzarn: {name}: {found}\n");
@@ -117,7 +124,7 @@ pub(crate) fn run(bounds: Bounds, name: &str, test: impl Fn(&Simulation<'_>) + S
 /// Searches in a thread of the test's name, by which the crate knows the test.
 fn search(bounds: Bounds, name: &str, test: impl Fn(&Simulation<'_>) + Send) -> Result<Report, String> {
     prepare();
-    let of_schedule = move |sim: &Sim| place::at(Place::Test, || test(&Simulation { sim, end: RefCell::default() }));
+    let of_schedule = move |sim: &Sim| place::at(Place::Test, || test(&Simulation::new(sim)));
     let body = move || bounds.builder()?.explore(of_schedule).map_err(|failure| of_failure(&failure));
     let searched = thread::scope(|scope| {
         let started = thread::Builder::new().name(name.to_string()).spawn_scoped(scope, body);
@@ -149,16 +156,14 @@ fn of_panic(panic: &(dyn Any + Send)) -> String {
     text.or_else(|| panic.downcast_ref::<String>().cloned()).unwrap_or_else(|| "a panic without a text".to_string())
 }
 
-/// The report of the crate, in the words of C.
-fn of_report(report: &Report) -> String {
-    report.to_string().replace("only what is of pukzarn::sync", "nothing").replace("`forget`", "`pukzarn_forget`")
-}
-
-/// The failing schedule, and the line that runs this program's again.
+/// What failed, its steps, and the line that runs this program's schedule again, where it is one.
 fn of_failure(failure: &Failure) -> String {
-    let mut text = failure.cause.replacen(" panicked: ", " failed: ", 1);
+    let mut text = in_c(&failure.cause);
     for step in &failure.steps {
         text += &format!("\n  {step}");
+    }
+    if failure.schedule.is_empty() {
+        return text;
     }
     text += &format!(
         "\nschedule {} of the search: {} steps, {} deviations; to run it again:\n  PUKZARN_SCHEDULE='{}'{}",

@@ -7,7 +7,7 @@ MODEL_WRAPS = $(dir $(MODEL_LIBRARY))pukzarn_model.wraps
 MODEL_EXPORTS = $(MODEL_CALLS:%=__wrap_%) \
 	$(shell sed -n 's/^[a-zA-Z].*\(pukzarn_[a-z_]*\)(.*);$$/\1/p' include/pukzarn_model.h | grep -v '^pukzarn_test$$')
 
-.PHONY: c-model c-model-test
+.PHONY: c-model c-model-test install-c-model
 
 # Nothing is global but what the header has and the calls' replacements. Its own calls of std are the real ones.
 c-model: $(LIBRARY)
@@ -33,6 +33,18 @@ $(MODEL_OUT)/%.bare: MODEL_KIND = -O3 -fno-exceptions -fomit-frame-pointer
 $(MODEL_TESTS): $(wildcard tests/c_model/*.[ch] include/*.h) $(MODEL_LIBRARY)
 	@$(CC) $(MODEL_FLAGS) $(MODEL_KIND) $(basename tests/c_model/$(@F)).c $(MODEL_LIBRARY) @$(MODEL_WRAPS) -o $@
 
+install-c-model: $(MODEL_LIBRARY)
+	@echo "install: copying $(MODEL_LIBRARY) and its headers to $(DESTDIR)$(PREFIX)"
+	@install -d $(DESTDIR)$(PREFIX)/include $(DESTDIR)$(PREFIX)/lib/pkgconfig
+	@install -m 644 include/pukzarn.h include/pukzarn_model.h $(DESTDIR)$(PREFIX)/include
+	@install -m 644 $(MODEL_LIBRARY) $(DESTDIR)$(PREFIX)/lib/libpukzarn_model.a
+	@sed 's|@PREFIX@|$(PREFIX)|; s|@VERSION@|$(VERSION)|; s|@WRAPS@|$(MODEL_CALLS:%=-Wl,--wrap=%)|' \
+	  tools/pukzarn_model.pc.in > $(DESTDIR)$(PREFIX)/lib/pkgconfig/pukzarn_model.pc
+	@chmod 644 $(DESTDIR)$(PREFIX)/lib/pkgconfig/pukzarn_model.pc
+
+$(MODEL_LIBRARY):
+	@$(MAKE) --no-print-directory c-model
+
 c-model-test: c-model
 	@echo "c-model-test: building and running the programs of tests/c_model (a minute)"
 	@mkdir -p $(MODEL_OUT)
@@ -40,7 +52,10 @@ c-model-test: c-model
 	@$(MAKE) --no-print-directory $(MODEL_TESTS)
 	@for program in $(MODEL_TESTS); do timeout 120 $$program > $(MODEL_OUT)/printed.txt 2>&1 || { \
 	  cat $(MODEL_OUT)/printed.txt; echo "c-model-test: FAILED: $$program, or it took more than 120 s" >&2; exit 1; }; done
-	@cp $(MODEL_OUT)/early_child.plain $(MODEL_OUT)/early_child && (cd $(MODEL_OUT) && ./early_child) 2>&1 \
+	@$(MAKE) --no-print-directory install-c-model PREFIX=$(abspath $(MODEL_OUT)/root)
+	@$(CC) -o $(MODEL_OUT)/early_child tests/c_model/early_child.c $$(PKG_CONFIG_PATH=$(MODEL_OUT)/root/lib/pkgconfig \
+	  pkg-config --cflags --libs pukzarn_model)
+	@(cd $(MODEL_OUT) && ./early_child) 2>&1 \
 	  | sed '/^pukzarn: mended/,$$d' > $(MODEL_OUT)/printed.txt
 	@sed -n '/^```text$$/,/^```$$/{/^```/!p}' docs/C_MODEL.md | diff - $(MODEL_OUT)/printed.txt \
 	  || { echo "c-model-test: FAILED: docs/C_MODEL.md shows another text than early_child prints" >&2; exit 1; }

@@ -1,8 +1,10 @@
 /* How a run may end, how far a search comes, and what a test may set. */
 #define _GNU_SOURCE
 #include "check_model.h"
+#include <err.h>
 #include <sys/ptrace.h>
 #include <sys/wait.h>
+#include <unistd.h>
 
 static void trace(void *unused)
 {
@@ -143,9 +145,35 @@ static void with_other_bits(pukzarn_sim *sim, void *unused)
     pukzarn_sim_options(sim, 0x40000000);
 }
 
+/* An exit within the C library ends the program, but is no success. */
+static void gives_up(void *unused)
+{
+    (void)unused;
+    CHECK(waitpid(-1, NULL, __WALL), 100);
+    errx(0, "this tracer gives up, and takes that for a success");
+}
+
+static void exits(pukzarn_sim *sim, void *unused)
+{
+    pukzarn_sim_case(sim, ONE_PROCESS);
+    pukzarn_sim_tracer(sim, "main", gives_up, unused);
+    pukzarn_sim_run(sim);
+}
+
+static void an_exit_is_no_success(void)
+{
+    int status, pid = fork();
+    if (pid == 0)
+        _exit(pukzarn_model("exits", exits, NULL) == 0 ? 7 : 8);
+    CHECK(waitpid(pid, &status, 0), pid);
+    CHECK(WIFEXITED(status), 1);
+    CHECK(WEXITSTATUS(status), 1);
+}
+
 int main(void)
 {
     char cut[8] = "zzzzzzz";
+    an_exit_is_no_success();
     deadlocks();
     CHECK(pukzarn_model("phases", phases, NULL), 0);
     CHECK(pukzarn_model("claimed", claimed, NULL), 0);

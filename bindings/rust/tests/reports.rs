@@ -94,7 +94,8 @@ fn a_test_whose_calls_differ_is_not_deterministic() {
 
 #[test]
 fn a_lock_of_std_that_is_held_over_a_call_is_reported() {
-    let failure = failure_of(|sim| {
+    let builder = Builder { patience: Duration::from_millis(500), ..Builder::new() };
+    let held = |sim: &Sim| {
         let lock = Arc::new(std::sync::Mutex::new(()));
         short_process(sim, 100);
         short_process(sim, 200);
@@ -106,8 +107,9 @@ fn a_lock_of_std_that_is_held_over_a_call_is_reported() {
             });
         }
         sim.run();
-    });
-    assert_says(&failure, &["lock"]);
+    };
+    let failure = builder.explore(held).expect_err("the test has a fault");
+    assert_says(&failure, &["makes no call", "a lock of std", "`two`"]);
 }
 
 #[test]

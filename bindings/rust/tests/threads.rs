@@ -20,9 +20,8 @@ fn main_loop() {
     }
 }
 
-fn fault_of(test: impl Fn(&Sim)) -> String {
-    let settings = Stress { rounds: 20, patience: Duration::from_millis(200), ..Stress::new() };
-    settings.explore(test).expect_err("a round fails")
+fn fault_of(patience: Duration, test: impl Fn(&Sim)) -> String {
+    Stress { rounds: 20, patience, ..Stress::new() }.explore(test).expect_err("a round fails")
 }
 
 /// A process with a thread, and a child of its own.
@@ -83,6 +82,20 @@ fn main_loop_after(pid: Pid) {
     main_loop();
 }
 
+/// Restarts whatever stops, and counts the stops that an interrupt makes.
+fn main_loop_that_counts(interrupted: &AtomicU32) {
+    while let Ok(status) = wait() {
+        match status {
+            WaitStatus::Exited(..) => continue,
+            WaitStatus::PtraceEvent(_, _, event) if event == Event::PTRACE_EVENT_STOP as i32 => {
+                interrupted.fetch_add(1, SeqCst);
+            }
+            _ => {}
+        }
+        ptrace::cont(status.pid().expect("a stop is of a tracee"), None).expect("it was claimed");
+    }
+}
+
 #[test]
 fn an_interrupt_stops_a_tracee_before_its_next_stop_or_comes_too_late() {
     let interrupted = Arc::new(AtomicU32::new(0));
@@ -95,17 +108,7 @@ fn an_interrupt_stops_a_tracee_before_its_next_stop_or_comes_too_late() {
                 Ok(()) | Err(Errno::ESRCH) => {}
                 Err(errno) => panic!("the interrupt failed: {errno}"),
             }
-            while let Ok(status) = wait() {
-                match status {
-                    WaitStatus::Exited(..) => {}
-                    WaitStatus::PtraceEvent(pid, _, event) => {
-                        assert_eq!(event, Event::PTRACE_EVENT_STOP as i32);
-                        count.fetch_add(1, SeqCst);
-                        ptrace::cont(pid, None).expect("it was claimed");
-                    }
-                    status => ptrace::cont(status.pid().expect("a stop"), None).expect("it was claimed"),
-                }
-            }
+            main_loop_that_counts(&count);
         });
         sim.run().assert_all_reaped();
     });
@@ -181,7 +184,7 @@ fn a_round_ends_where_nobody_restarts_what_is_stopped() {
 
 #[test]
 fn a_round_in_which_nothing_happens_fails() {
-    let fault = fault_of(|sim| {
+    let fault = fault_of(Duration::from_millis(200), |sim| {
         let never = Arc::new((Mutex::new(()), Condvar::new()));
         sim.tracer("main", move || drop(never.1.wait(never.0.lock().unwrap())));
         sim.run();
@@ -194,14 +197,14 @@ fn a_round_in_which_nothing_happens_fails() {
 
 #[test]
 fn what_threads_do_not_have_is_named() {
-    let fault = fault_of(|sim| {
+    let fault = fault_of(Duration::from_secs(20), |sim| {
         sim.kills();
         sim.tracee(Row::root(100), |tracee| tracee.stop(Stop::Start).map(drop));
         sim.tracer("main", || ptrace::kill(Pid::from_raw(100)).expect("it never answers"));
         sim.run();
     });
     assert!(fault.contains("kill on threads is not simulated"), "{fault}");
-    let fault = fault_of(|sim| {
+    let fault = fault_of(Duration::from_secs(20), |sim| {
         sim.tracee(Row::root(100), |tracee| {
             tracee.stop(Stop::Clone(101))?;
             tracee.exit_group(0);

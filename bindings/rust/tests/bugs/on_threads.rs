@@ -7,24 +7,32 @@ use std::time::Duration;
 /// More rounds than any of the faults has needed, by far.
 const ROUNDS: u64 = 50_000;
 
+/// A machine that is busy with other things may let a round wait for long.
+const PATIENCE: Duration = Duration::from_secs(20);
+
 #[track_caller]
 fn is_found(test: impl Fn(&Sim), words: &[&str]) {
-    let settings = Stress { rounds: ROUNDS, patience: Duration::from_millis(500), ..Stress::new() };
-    let fault = settings.explore(test).expect_err("the fault is found");
+    is_found_within(PATIENCE, test, words);
+}
+
+#[track_caller]
+fn is_found_within(patience: Duration, test: impl Fn(&Sim), words: &[&str]) {
+    let fault = Stress { rounds: ROUNDS, patience, ..Stress::new() }.explore(test).expect_err("the fault is found");
     assert!(words.iter().any(|words| fault.contains(words)), "{fault}");
     println!("{fault}");
 }
 
 #[track_caller]
 fn passes(test: impl Fn(&Sim)) {
-    Stress { rounds: 300, ..Stress::new() }.check(test);
+    Stress { rounds: 300, patience: PATIENCE, ..Stress::new() }.check(test);
 }
 
 #[test]
 fn a_look_and_a_claim_of_another() {
     // What was claimed and not seen may be a stop too, which nobody restarts then.
     let words = ["its stop was claimed: ESRCH", "nothing has happened"];
-    is_found(|sim| looked_at::two_processes(sim, looked_at::serves_what_it_saw), &words);
+    let patience = Duration::from_secs(1);
+    is_found_within(patience, |sim| looked_at::two_processes(sim, looked_at::serves_what_it_saw), &words);
     passes(|sim| looked_at::two_processes(sim, looked_at::claims_what_it_saw));
 }
 
@@ -66,6 +74,8 @@ fn a_restart_by_another_thread() {
 
 #[test]
 fn a_lost_wake_up() {
-    is_found(|sim| lost_wake_up::with_a_window(sim, lost_wake_up::waits_for_a_wake_up), &["nothing has happened"]);
+    let patience = Duration::from_secs(1);
+    let waits = |sim: &Sim| lost_wake_up::with_a_window(sim, lost_wake_up::waits_for_a_wake_up);
+    is_found_within(patience, waits, &["nothing has happened"]);
     passes(|sim| lost_wake_up::with_a_window(sim, lost_wake_up::waits_for_the_flag));
 }

@@ -167,9 +167,9 @@ impl Calls for Caller {
 
     fn publish(&self, row: usize, stop: StopNumbers) -> Result<Published, Errno> {
         match self.stop_by(Op::Publish(row, stop)) {
-            Some(Reply::TakenUp(how)) => {
+            Some(Reply::TakenUp(how, published)) => {
                 self.restart.set(Some(how));
-                Ok(self.model.lock().actors[self.actor].published)
+                Ok(published)
             }
             Some(Reply::Published(Err(errno), _)) => Err(errno),
             _ => Err(Errno::ESRCH),
@@ -181,14 +181,14 @@ impl Calls for Caller {
             return how;
         }
         match self.stop_by(Op::TakeUp(row)) {
-            Some(Reply::TakenUp(how)) => how,
+            Some(Reply::TakenUp(how, _)) => how,
             _ => RestartNumbers::default(),
         }
     }
 
     fn exit(&self, row: usize, status: u32) {
         // Where it is interrupted, it stops before that.
-        while let Some(Reply::TakenUp(_)) = self.stop_by(Op::Exit(row, status)) {}
+        while let Some(Reply::TakenUp(..)) = self.stop_by(Op::Exit(row, status)) {}
     }
 
     fn exit_at_last(&self, row: usize, status: u32) {

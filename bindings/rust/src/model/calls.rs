@@ -1,6 +1,7 @@
 //! The calls of the actors: in how many ways each can be answered now, and what it then does. Each is one step.
 
 use super::actors::{Idle, Kind};
+use super::builder::Shares;
 use super::hash::{hash_of, mix};
 use super::objects::ObjectNumber;
 use super::state::{CallsAre, State, Step};
@@ -52,7 +53,8 @@ pub(super) enum Op {
 pub(super) enum Reply {
     Done,
     Published(Result<u32, Errno>, Published),
-    TakenUp(RestartNumbers),
+    /// With the stop that it was restarted from.
+    TakenUp(RestartNumbers, Published),
     /// The row has ended, also where it was about to do something else and was killed.
     Ended,
     Waited(Result<Option<Waited>, Errno>),
@@ -133,7 +135,7 @@ impl State {
         self.moves += 1;
         let reply = match op {
             Op::Start | Op::Access(..) | Op::Join(_) => Reply::Done,
-            Op::TakeUp(row) => Reply::TakenUp(self.tracees.last_restart(row)),
+            Op::TakeUp(row) => Reply::TakenUp(self.tracees.last_restart(row), self.actors[actor].published),
             Op::Publish(row, stop) => self.make_stop(row, stop),
             // The stop of an interrupt, which comes first.
             Op::Exit(row, _) if self.tracees.is_interrupted(row) => self.make_stop(row, StopNumbers::default()),
@@ -250,8 +252,19 @@ impl State {
         self.tracees.resume(row, tracer, how)
     }
 
-    /// Keeps the reply, and what the call adds to the situation.
+    /// Keeps the step and the reply, and what they add to the situation.
     fn answer(&mut self, actor: usize, op: Op, reply: Reply) {
+        if self.builder.shares != Shares::Everything {
+            self.link(actor, op, reply);
+        }
+        if !matches!(op, Op::Start | Op::TakeUp(_)) {
+            self.trace.push(Step { actor: actor as u16, op, reply });
+        }
+        self.actors[actor].reply = reply;
+    }
+
+    /// Adds a call to what its actor was answered.
+    fn link(&mut self, actor: usize, op: Op, reply: Reply) {
         let accessed = match op {
             Op::Acquire(object, ..) | Op::TryAcquire(object, ..) | Op::Access(object, _) | Op::Notify(object, _) => {
                 Some(self.objects.access(object, actor))
@@ -265,13 +278,9 @@ impl State {
         // What an access finds depends on who made those before it, not on what they were answered.
         let link = match accessed {
             Some(history) => mix(history, hash_of(&reply)),
-            None => hash_of(&(actor, op, reply)),
+            None => mix(mix(actor as u64, self.actors[actor].op_hash), hash_of(&reply)),
         };
         self.chain(actor, link);
-        if !matches!(op, Op::Start | Op::TakeUp(_)) {
-            self.trace.push(Step { actor: actor as u16, op, reply });
-        }
-        self.actors[actor].reply = reply;
     }
 
     /// A ptrace call that only this thread's own calls can change is no step.

@@ -79,10 +79,10 @@ impl Model {
         let before = std::mem::replace(&mut state.actors[actor].seat, Seat::Started(baton.clone()));
         let Seat::NotStarted(body) = before else { unreachable!("the turn of an actor without a thread") };
         state.live += 1;
-        let name = state.actors[actor].name.clone();
+        let name = reserved.is_new().then(|| state.actors[actor].name.clone());
         drop(state);
         let model = self.clone();
-        reserved.start(&name, Box::new(move || model.run_thread(actor, baton, body)));
+        reserved.start(name, Box::new(move || model.run_thread(actor, baton, body)));
     }
 
     /// Wakes all threads that wait for the baton, but `from`, so that they end. This happens once in a schedule.

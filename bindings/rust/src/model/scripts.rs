@@ -38,7 +38,7 @@ impl State {
     /// What a scripted tracee does after a call.
     pub(super) fn script_goes_on(&mut self, row: usize) {
         match self.actors[row].reply {
-            Reply::TakenUp(how) => match self.next_of_script(row, how) {
+            Reply::TakenUp(how, _) => match self.next_of_script(row, how) {
                 Ok(op) => self.announce(row, op),
                 Err(cause) => self.fail(cause),
             },

@@ -132,7 +132,7 @@ impl Crew {
         }
         let worker = Arc::new(Worker { baton: Arc::default(), job: Mutex::default() });
         let of_thread = worker.clone();
-        spawn("pukzarn", move || of_thread.run());
+        spawn("pukzarn".into(), move || of_thread.run());
         workers.all.push(worker.clone());
         worker
     }
@@ -155,6 +155,10 @@ pub(super) enum Reserved {
 }
 
 impl Reserved {
+    pub(super) fn is_new(&self) -> bool {
+        matches!(self, Reserved::New(_))
+    }
+
     /// What it is to wait on for its further turns.
     pub(super) fn baton(&self) -> &Arc<Baton> {
         match self {
@@ -164,9 +168,9 @@ impl Reserved {
     }
 
     /// Starts its job, with the baton. A new thread has the name that a panic is printed with.
-    pub(super) fn start(self, name: &str, job: Body) {
+    pub(super) fn start(self, name: Option<String>, job: Body) {
         match self {
-            Reserved::New(_) => spawn(name, job),
+            Reserved::New(_) => spawn(name.unwrap_or_default(), job),
             Reserved::Worker(worker) => {
                 worker.start(Job::Run(job));
             }
@@ -174,7 +178,7 @@ impl Reserved {
     }
 }
 
-fn spawn(name: &str, job: impl FnOnce() + Send + 'static) {
+fn spawn(name: String, job: impl FnOnce() + Send + 'static) {
     let started = std::thread::Builder::new().name(name.replace('\0', "")).spawn(job);
     if let Err(error) = started {
         panic!("pukzarn: a thread cannot be started: {error}");

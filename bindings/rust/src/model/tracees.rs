@@ -3,11 +3,11 @@
 //! Which rows a wait may be answered, and which call is refused, the board decides. Its states are kept here, so that a
 //! decision asks it for nothing but the waits that a call since then may have changed.
 
-use super::hash::{hash_of, mix};
+use super::hash::mix;
 use crate::context::{Published, Request};
 use crate::errno::Errno;
 use crate::library::{
-    Board, MOST_ROWS, Record, RestartNumbers, RowNumbers, RowsRefused, State, StopNumbers, Waited, kind, phase, wait,
+    Board, Record, RestartNumbers, RowNumbers, RowsRefused, State, StopNumbers, Waited, kind, phase, wait,
 };
 use crate::sim::{Declared, Phase};
 
@@ -19,6 +19,16 @@ struct Above {
     interrupted: bool,
     /// The death that it dies next.
     killed: Option<u32>,
+}
+
+impl Above {
+    /// A hash of a tracee's state on the board, and of what changes its next act.
+    fn hash(&self, state: State) -> u64 {
+        let State { phase, number, tracer, status } = state;
+        let killed = self.killed.map_or(0, |death| u64::from(death) << 1 | 1);
+        let stop = u64::from(phase) << 32 | u64::from(number);
+        mix(mix(stop, u64::from(tracer) << 32 | u64::from(status)), killed << 1 | u64::from(self.interrupted))
+    }
 }
 
 /// In how many ways a wait may be answered at a version of the board.
@@ -38,6 +48,8 @@ pub(super) struct Tracees {
     hash: u64,
     version: u64,
     waits: Vec<Answered>,
+    /// Room for the rows that a wait may be answered.
+    answered: Vec<u32>,
 }
 
 impl Tracees {
@@ -57,6 +69,7 @@ impl Tracees {
             hash: 0,
             version: 0,
             waits: Vec::new(),
+            answered: vec![0; rows.len()],
             rows,
         };
         (0..tracees.rows.len()).for_each(|row| tracees.refresh(row));
@@ -122,9 +135,8 @@ impl Tracees {
 
     /// Answers a wait by one of the rows that it may be answered. Without WNOWAIT the tracer claims its stop or death.
     pub(super) fn answer(&mut self, request: Request, which: usize, tracer: u32) -> Result<Waited, Errno> {
-        let mut rows = [0; MOST_ROWS];
-        self.board.waitable(request.idtype, request.id, request.options, &mut rows)?;
-        let row = rows[which] as usize;
+        self.board.waitable(request.idtype, request.id, request.options, &mut self.answered)?;
+        let row = self.answered[which] as usize;
         let state = self.states[row];
         if request.options & wait::WNOWAIT == 0 {
             self.claim(row, tracer);
@@ -236,8 +248,7 @@ impl Tracees {
     /// Takes over what the board says of a row.
     fn refresh(&mut self, row: usize) {
         let state = self.board.state(row);
-        let above = &self.above[row];
-        let hash = mix(row as u64, hash_of(&(state, above.interrupted, above.killed)));
+        let hash = mix(row as u64, self.above[row].hash(state));
         self.hash = self.hash.wrapping_sub(self.hashes[row]).wrapping_add(hash);
         self.hashes[row] = hash;
         self.states[row] = state;

@@ -194,7 +194,7 @@ fn reply_words(op: Op, reply: Reply) -> String {
         Reply::Published(Ok(number), Published::Wanted) => format!("published {number}"),
         Reply::Published(Ok(number), Published::Interrupted) => format!("interrupted, published {number} start"),
         Reply::Published(Err(errno), _) => format!("refused {errno:?}"),
-        Reply::TakenUp(_) => "taken up".into(),
+        Reply::TakenUp(..) => "taken up".into(),
         Reply::Ended => "exited".into(),
         Reply::Waited(Ok(None)) => "nothing".into(),
         Reply::Waited(Ok(Some(waited))) => waited_words(waited),

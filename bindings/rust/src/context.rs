@@ -1,7 +1,7 @@
 //! Which simulation a thread is in, and what it may ask for there.
 //!
-//! nix's functions are free functions that ask the kernel. Here they ask `Calls`, which a thread of a model and a thread
-//! of stress have each in its own way. What only a model has (locks and channels as steps) is `ModelCalls`: on the
+//! nix's functions are free functions that ask the kernel. Here they ask `Calls`, which a thread of a model and a
+//! thread of stress have each in its own way. What only a model has (locks and channels as steps) is `ModelCalls`: on the
 //! threads of stress the primitives of std block by themselves.
 
 use crate::errno::Errno;
@@ -134,8 +134,8 @@ pub(crate) enum Noun {
     Once,
 }
 
-/// Permits that are asked for: `take` of an object that has `all` where it is first used in a schedule. A mutex has one;
-/// a reader takes one of a lock's many and a writer all; a channel's permits are the values in it.
+/// Permits that are asked for: `take` of an object that has `all` where it is first used in a schedule. A mutex has
+/// one; a reader takes one of a lock's many and a writer all; a channel's permits are the values in it.
 #[derive(Clone, Copy, Debug, PartialEq, Eq, Hash)]
 pub(crate) struct Permits {
     pub(crate) all: u32,
@@ -155,8 +155,8 @@ pub(crate) trait ModelCalls {
     fn release(&self, object: &Identity, permits: Permits);
     /// An access of an atomic, or a send: one step, after which the caller makes the access.
     fn step(&self, object: &Identity, noun: Noun);
-    /// The access has changed what others may look at (a store of another value, a value that is sent): what pauses, and
-    /// polls, may look again. No step of its own.
+    /// The access has changed what others may look at (a store of another value, a value that is sent): what pauses may
+    /// look again. No step of its own.
     fn changed(&self);
     /// Gives the mutex back, waits for a notification, and takes the mutex again. Beginning to wait is no step of its
     /// own, going on is one.

@@ -710,8 +710,9 @@ unsafe extern "C" {
 const SCHED_OTHER: c_int = 0;
 const SCHED_BATCH: c_int = 3;
 
-/// Lets the calling thread, and those that it starts, wait for their turns where another of them wakes them (SCHED_BATCH):
-/// who wakes another is about to wait itself. False where the thread has another policy than the usual one.
+/// Lets the calling thread, and those that it starts, wait for their turns where another of them wakes them
+/// (SCHED_BATCH): who wakes another is about to wait itself. False where the thread has another policy than the usual
+/// one.
 pub(crate) fn set_batch_policy() -> bool {
     // SAFETY: no memory is passed but the priority, struct sched_param, whose one field is an int.
     unsafe { sched_getscheduler(0) == SCHED_OTHER && sched_setscheduler(0, SCHED_BATCH, &0) == 0 }

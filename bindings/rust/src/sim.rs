@@ -175,7 +175,8 @@ impl Sim {
         self.declared.borrow_mut().kills = Kills::MayHappen;
     }
 
-    /// At most so many waits that block may be answered EINTR, as by a signal that the tracer handles. In a model alone.
+    /// At most so many waits that block may be answered EINTR, as by a signal that the tracer handles. In a model
+    /// alone.
     ///
     /// ```
     /// use pukzarn::Errno;
@@ -197,8 +198,8 @@ impl Sim {
     }
 
     /// As on Linux: the tracer's thread of this name traces all tracees. The waits of every thread may be answered, but
-    /// this one alone restarts a tracee or sees its registers; for all others that is ESRCH. Without it, the thread that
-    /// was answered a stop does.
+    /// this one alone restarts a tracee or sees its registers; for all others that is ESRCH. Without it, the thread
+    /// that was answered a stop does.
     ///
     /// ```
     /// use pukzarn::sys::{ptrace, wait};

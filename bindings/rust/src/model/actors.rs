@@ -14,7 +14,8 @@ pub(super) enum Kind {
     Tracee,
     /// A tracee that follows a script, which has no thread.
     Script(Box<Script>),
-    /// A thread of the tracer, with the number that it claims stops by. There are 16 of them; further threads have none.
+    /// A thread of the tracer, with the number that it claims stops by. There are 16 of them; further threads have
+    /// none.
     Tracer(Option<u32>),
 }
 

@@ -62,8 +62,8 @@ impl Model {
         end
     }
 
-    /// Hands the baton on: `from` does not run until it is handed on again. Where the schedule is over, all threads that
-    /// wait are woken.
+    /// Hands the baton on: `from` does not run until it is handed on again. Where the schedule is over, all threads
+    /// that wait are woken.
     pub(super) fn hand_over(self: &Arc<Model>, from: Option<usize>, mut state: MutexGuard<'_, State>, turn: Turn) {
         let Turn::Actor(actor) = turn else {
             self.end_all(from, state);

@@ -17,8 +17,8 @@ VERSION = $(shell sed -n 's/.*\.version("\(.*\)").*/\1/p' crates/tracer_cli/src/
 
 .PHONY: all kit demo examples scarce-memory refused-memory man-page documents one-source one-meaning refused-code check \
 	wrong-bodies wrong-bodies-changed wrong-bodies-test test bench bench-case bench-cells bench-c bench-pages bench-fold \
-	bench-run bench-threads bench-large bench-explore bench-rounds library archive c-header library-test install-library \
-	install-program tools install clean
+	bench-run bench-threads bench-large bench-explore bench-rounds library archive c-header library-test rust-test \
+	bench-rust install-library install-program tools install clean
 
 all: kit
 	@echo "make: proving the program and what it stands on, over what earlier runs kept (the first time: 45 minutes)"
@@ -321,6 +321,31 @@ library-test: $(LIBRARY)
 	  PKG_CONFIG_PATH=$(abspath $(C_OUT)/root)$(PREFIX)/lib/pkgconfig pkg-config --cflags --libs pukzarn)
 	@$(PYTHON) tools/c_library.py page $(C_OUT)/installed
 	@echo "library-test: every program passed"
+
+# The crate for Rust, its example, and the program that times it. LIBRARY=FILE is the archive, which is called
+# libpukzarn.a, and is made where it is not there. No crate needs a registry.
+CARGO ?= cargo
+CARGO_TARGET_DIR ?= $(abspath $(OUT))/rust
+IN_RUST = PUKZARN_LIB_DIR=$(abspath $(dir $(LIBRARY))) CARGO_TARGET_DIR=$(CARGO_TARGET_DIR) CARGO_NET_OFFLINE=true
+RUST_MANIFESTS = bindings/Cargo.toml examples/rust/counter/Cargo.toml bench/schedules/Cargo.toml
+
+rust-test: $(LIBRARY)
+	@echo "rust-test: layout, lints, tests and pages of the crate for Rust, and its example (three minutes)"
+	@for manifest in $(RUST_MANIFESTS) examples/rust/counter/linux/Cargo.toml; do \
+		$(CARGO) fmt --all --check --manifest-path $$manifest || exit 1; done
+	@for manifest in $(RUST_MANIFESTS); do \
+		$(IN_RUST) $(CARGO) clippy --quiet --tests --manifest-path $$manifest -- -D warnings || exit 1; done
+	@$(IN_RUST) $(CARGO) clippy --quiet --features pukzarn/nix-0-26 --manifest-path bindings/Cargo.toml -- -D warnings
+	@$(IN_RUST) $(CARGO) test --quiet --workspace --manifest-path bindings/Cargo.toml
+	@$(IN_RUST) $(CARGO) test --quiet --manifest-path examples/rust/counter/Cargo.toml
+	@$(IN_RUST) RUSTDOCFLAGS="-D warnings" $(CARGO) doc --quiet --no-deps --manifest-path bindings/Cargo.toml
+	@echo "rust-test: every test passed"
+
+bench-rust: $(LIBRARY)
+	@echo "bench-rust: timing schedules of a model and the hand-overs of a plain baton in turn (a minute)"
+	@$(IN_RUST) $(CARGO) run --quiet --release --manifest-path bench/schedules/Cargo.toml
+
+include tools/c_model.mk
 
 install: install-program install-library
 

@@ -11,6 +11,7 @@
 | the loop of a small tracer | crates/thread_tests/src/waits/small_tracer.rt | docs/calls.md, its first block of Rust |
 | a debugger that changes a call | crates/thread_tests/src/waits/small_debugger.rt | docs/calls.md, its second one |
 | a small tracer in C | tests/c/small_tracer.c | docs/C.md, its block of C |
+| a tracer in C and its test | tests/c_model/early_child.c | docs/C_MODEL.md, its block of C |
 | the version | crates/tracer_cli/src/arguments.rt | man/tracer.1 |
 | the system calls, with their arguments | crates/trace_options/src/syscall.rt | docs/formats/tables.md, man/tracer.1 |
 | the options of ptrace(2) | crates/trace_options/specs/Options.antt | options.rt, docs/formats/tables.md |
@@ -33,7 +34,8 @@ TABLES, FORMATS, PAGE = "docs/formats/tables.md", "docs/FORMATS.md", "man/tracer
 EXAMPLE, LOOP = "crates/system_tests/src/readme.rt", "crates/thread_tests/src/waits/small_tracer.rt"
 THREADS = "crates/thread_tests/src/waits/two_tracers.rt"
 CHANGE = "crates/thread_tests/src/waits/small_debugger.rt"
-C_PAGE, C_TRACER = "docs/C.md", "tests/c/small_tracer.c"
+C_PAGE, MODEL_PAGE = "docs/C.md", "docs/C_MODEL.md"
+C_BLOCKS = ((C_PAGE, "tests/c/small_tracer.c"), (MODEL_PAGE, "tests/c_model/early_child.c"))
 ARGUMENTS, SYSCALLS = "crates/tracer_cli/src/arguments.rt", "crates/trace_options/src/syscall.rt"
 OPTIONS, OPTION_BITS = "crates/trace_options/specs/Options.antt", "crates/trace_options/src/options.rt"
 MESSAGES, FAILURE = "crates/tracer_cli/specs/Failure.antt", "crates/tracer_cli/src/failure.rt"
@@ -129,8 +131,9 @@ def code_faults(read):
         for number, (block, source) in enumerate(zip(blocks, sources), 1):
             if not is_within(block, lines_of(read(source))):
                 yield f"{page}: its block of Rust number {number} is not in {source}"
-    if blocks_of("c", read(C_PAGE)) != [lines_of(read(C_TRACER))]:
-        yield f"{C_PAGE}: its block of C is not {C_TRACER}"
+    for page, source in C_BLOCKS:
+        if blocks_of("c", read(page)) != [lines_of(read(source))]:
+            yield f"{page}: its block of C is not {source}"
 
 
 def version_faults(read):
@@ -259,6 +262,7 @@ CHANGES = [
     (CALLS, "calls.syscall(pid, signal)", "calls.cont(pid, signal)"),
     (CALLS, "regs.rdx = len", "regs.rsi = len"),
     (C_PAGE, "while ((pid = pukzarn_tracer_waitpid", "if ((pid = pukzarn_tracer_waitpid"),
+    (MODEL_PAGE, "return pid;", "return 0;"),
     (PAGE, '"tracer 0', '"tracer 9'),
     (TABLES, "| 80 | chdir |", "| 81 | chdir |"),
     (TABLES, "| 83 | mkdir | `CString`, `Mode` |", "| 83 | mkdir | `CString` |"),

@@ -1,0 +1,145 @@
+//! What a search found.
+
+use super::builder::Shares;
+use std::fmt;
+use std::time::Duration;
+
+/// How far a search came.
+///
+/// ```
+/// use pukzarn::Coverage;
+///
+/// assert_eq!(Coverage::All.to_string(), "all interleavings");
+/// assert_eq!(Coverage::Deviations(3).to_string(), "all with at most 3 deviations");
+/// ```
+#[derive(Clone, Copy, Debug, PartialEq, Eq)]
+pub enum Coverage {
+    /// All interleavings.
+    All,
+    /// All with at most this many deviations: decisions that are not the first one, which is that the thread that made
+    /// the last call goes on, and that a wait is answered the first tracee.
+    Deviations(u32),
+    /// Less than that: one schedule was asked for, or `max_schedules` were tried.
+    Part,
+}
+
+impl fmt::Display for Coverage {
+    fn fmt(&self, f: &mut fmt::Formatter<'_>) -> fmt::Result {
+        match self {
+            Coverage::All => f.write_str("all interleavings"),
+            Coverage::Deviations(0) => f.write_str("the one without deviations"),
+            Coverage::Deviations(1) => f.write_str("all with at most 1 deviation"),
+            Coverage::Deviations(most) => write!(f, "all with at most {most} deviations"),
+            Coverage::Part => f.write_str("not all"),
+        }
+    }
+}
+
+/// What a search has done.
+///
+/// ```
+/// let report = pukzarn::model(|sim| drop(sim.run()));
+/// assert_eq!(report.schedules, 1);
+/// assert!(report.to_string().contains("all interleavings"));
+/// ```
+#[derive(Clone, Copy, Debug, PartialEq, Eq)]
+pub struct Report {
+    /// How far it came.
+    pub coverage: Coverage,
+    /// What the threads were taken to share.
+    pub shares: Shares,
+    /// How often `forget` was called: the coverage holds as far as what was said there does.
+    pub forgets: u64,
+    /// The schedules that were run.
+    pub schedules: u64,
+    /// Those that were left early, at a situation that another had been in.
+    pub left_early: u64,
+    /// The most situations that were remembered at once: each number of deviations begins anew.
+    pub situations: u64,
+    /// The most bytes that they took.
+    pub situation_bytes: u64,
+    /// The steps of all schedules.
+    pub steps: u64,
+    /// The steps of the longest.
+    pub longest: u64,
+    /// How long it took.
+    pub time: Duration,
+}
+
+impl fmt::Display for Report {
+    fn fmt(&self, f: &mut fmt::Formatter<'_>) -> fmt::Result {
+        write!(f, "{}", self.coverage)?;
+        if self.forgets > 0 {
+            f.write_str(", as far as `forget` holds")?;
+        }
+        if self.shares == Shares::Sync {
+            f.write_str(", if threads share only what is of pukzarn::sync")?;
+        }
+        write!(f, ": {} schedules, {} steps, {:.2?}", self.schedules, self.steps, self.time)
+    }
+}
+
+/// A schedule that fails.
+///
+/// ```
+/// let failure = pukzarn::Builder::new()
+///     .explore(|sim| {
+///         sim.tracer("main", || panic!("a bug"));
+///         sim.run();
+///     })
+///     .unwrap_err();
+/// assert_eq!(failure.cause, "thread `main` panicked: a bug");
+/// ```
+#[derive(Clone, Debug)]
+pub struct Failure {
+    /// What failed.
+    pub cause: String,
+    /// The calls, in the words of `tracer explore`.
+    pub steps: Vec<String>,
+    /// What PUKZARN_SCHEDULE has to be to run it again: the test's name, which of its models, and the decisions. Empty
+    /// where no schedule failed, but not all were tried.
+    pub schedule: String,
+    /// The decisions that were not the first one.
+    pub deviations: u32,
+    /// What was searched until then.
+    pub report: Box<Report>,
+}
+
+impl Failure {
+    /// The line that runs this schedule again.
+    ///
+    /// ```
+    /// let failing = |sim: &pukzarn::Sim| {
+    ///     sim.run();
+    ///     panic!("a bug");
+    /// };
+    /// let failure = pukzarn::Builder::new().explore(failing).unwrap_err();
+    /// assert!(failure.command().starts_with("PUKZARN_SCHEDULE='"));
+    /// ```
+    pub fn command(&self) -> String {
+        let test = self.schedule.rsplit_once('#').map_or("", |(test, _)| test);
+        format!("PUKZARN_SCHEDULE='{}' cargo test {test} -- --exact", self.schedule)
+    }
+}
+
+impl fmt::Display for Failure {
+    fn fmt(&self, f: &mut fmt::Formatter<'_>) -> fmt::Result {
+        write!(f, "{}", self.cause)?;
+        if self.schedule.is_empty() {
+            return Ok(());
+        }
+        writeln!(f)?;
+        for step in &self.steps {
+            writeln!(f, "  {step}")?;
+        }
+        let (number, steps) = (self.report.schedules, self.steps.len());
+        writeln!(
+            f,
+            "schedule {number} of the search: {steps} steps, {} deviations; to run it again:",
+            self.deviations
+        )?;
+        write!(f, "  {}", self.command())
+    }
+}
+
+impl std::error::Error for Failure {}

@@ -1,0 +1,122 @@
+//! What is above the board: kills, interrupts, EINTR, and the one thread that traces.
+
+use super::{ONE_CALL, builder};
+use crate::sys::ptrace;
+use crate::sys::wait::{WaitStatus, wait};
+use crate::unistd::Pid;
+use crate::{Builder, Deadlocks, Death, Row, Stop};
+use std::sync::Arc;
+use std::sync::atomic::{AtomicU64, Ordering};
+
+#[test]
+fn a_kill_between_a_wait_and_the_restart_is_esrch() {
+    let killed = AtomicU64::new(0);
+    let refused = Arc::new(AtomicU64::new(0));
+    builder().exhaustive().check(|sim| {
+        sim.kills();
+        sim.case(ONE_CALL).unwrap();
+        sim.tracer("killer", || {
+            let _ = ptrace::kill(Pid::from_raw(100));
+        });
+        let of_tracer = refused.clone();
+        sim.tracer("main", move || {
+            while let Ok(status) = wait() {
+                let stopped = !matches!(status, WaitStatus::Exited(..) | WaitStatus::Signaled(..));
+                if stopped && ptrace::cont(status.pid().unwrap(), None).is_err() {
+                    of_tracer.fetch_add(1, Ordering::SeqCst);
+                }
+            }
+        });
+        sim.run().assert_all_reaped();
+        killed.fetch_add(1, Ordering::SeqCst);
+    });
+    assert!(refused.load(Ordering::SeqCst) > 0);
+    assert!(killed.load(Ordering::SeqCst) > 0);
+}
+
+#[test]
+fn a_group_that_exits_takes_its_stopped_threads_along() {
+    builder().exhaustive().check(|sim| {
+        sim.kills();
+        sim.tracee(Row::root(100), |tracee| {
+            tracee.stop(Stop::Clone(101))?;
+            tracee.exit_group(3);
+            Ok(())
+        });
+        sim.tracee(Row::thread(101, 100, 100), |tracee| {
+            tracee.stop(Stop::Start)?;
+            tracee.exit(Death::Exited(0));
+            Ok(())
+        });
+        sim.tracer("main", || {
+            while let Ok(status) = wait() {
+                let _ = ptrace::cont(status.pid().unwrap(), None);
+            }
+        });
+        sim.run().assert_all_reaped();
+    });
+}
+
+#[test]
+fn an_interrupt_stops_a_tracee_whose_thread_has_ended() {
+    builder().exhaustive().check(|sim| {
+        sim.tracee(Row::root(100), |tracee| tracee.stop(Stop::Start).map(drop));
+        sim.tracer("main", || {
+            let pid = wait().unwrap().pid().unwrap();
+            ptrace::cont(pid, None).unwrap();
+            ptrace::interrupt(pid).unwrap();
+            while let Ok(status) = wait() {
+                if !matches!(status, WaitStatus::Exited(..)) {
+                    ptrace::cont(pid, None).unwrap();
+                }
+            }
+        });
+        sim.run().assert_all_reaped();
+    });
+}
+
+#[test]
+fn a_wait_is_interrupted_so_often_as_is_said() {
+    let interrupted = Arc::new(AtomicU64::new(0));
+    let of_tracer = interrupted.clone();
+    builder().exhaustive().check(|sim| {
+        sim.eintrs(2);
+        sim.case(ONE_CALL).unwrap();
+        let of_tracer = of_tracer.clone();
+        sim.tracer("main", move || {
+            let mut times = 0;
+            loop {
+                match wait() {
+                    Ok(WaitStatus::Exited(..)) => {}
+                    Ok(status) => ptrace::cont(status.pid().unwrap(), None).unwrap(),
+                    Err(crate::Errno::EINTR) => times += 1,
+                    Err(_) => break,
+                }
+            }
+            of_tracer.fetch_max(times, Ordering::SeqCst);
+        });
+        sim.run().assert_all_reaped();
+    });
+    assert_eq!(interrupted.load(Ordering::SeqCst), 2);
+}
+
+#[test]
+fn only_the_thread_that_traces_restarts() {
+    let builder = Builder { deadlocks: Deadlocks::End, ..builder() };
+    builder.check(|sim| {
+        sim.only_tracer("main");
+        sim.tracee(Row::root(100), |tracee| tracee.stop(Stop::Start).map(drop));
+        sim.tracer("main", || {
+            // Also a stop that another thread was answered.
+            while ptrace::cont(Pid::from_raw(100), None).is_err() {
+                crate::thread::yield_now();
+            }
+        });
+        sim.tracer("other", || {
+            if let Ok(WaitStatus::PtraceEvent(pid, ..)) = wait() {
+                assert_eq!(ptrace::cont(pid, None), Err(crate::Errno::ESRCH));
+            }
+        });
+        sim.run();
+    });
+}

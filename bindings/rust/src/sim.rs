@@ -1,0 +1,377 @@
+//! What a test declares: tracees, the tracer's threads, and a run of them.
+
+use crate::context::{Body, World};
+use crate::library::{Case, CaseRefused, Machine, RowNumbers};
+use crate::row::Row;
+use crate::sys::ptrace::Options;
+use crate::tracee::{Play, Tracee};
+use crate::{Errno, Result};
+use std::cell::RefCell;
+use std::fmt;
+
+/// One simulation: what a test declares before it runs.
+///
+/// ```
+/// use pukzarn::sys::{ptrace, wait};
+///
+/// let case = "tracee 100 100 100 0\ncall getpid = 100\nexit 0\nend\n";
+/// pukzarn::model(|sim| {
+///     sim.case(case).unwrap();
+///     sim.tracer("main", || {
+///         while let Ok(status) = wait::wait() {
+///             let _ = ptrace::cont(status.pid().unwrap(), None);
+///         }
+///     });
+///     sim.run().assert_all_reaped();
+/// });
+/// ```
+pub struct Sim {
+    declared: RefCell<Declared>,
+    world: Box<dyn World>,
+}
+
+/// What a tracee follows.
+pub(crate) enum Follows {
+    Closure(Play),
+    Script(Machine),
+}
+
+/// Whether a tracee may be killed: then each ptrace call is a step, since the stop may be gone.
+#[derive(Clone, Copy, Debug, PartialEq, Eq)]
+pub(crate) enum Kills {
+    Never,
+    MayHappen,
+}
+
+/// All that a test has declared.
+pub(crate) struct Declared {
+    pub(crate) rows: Vec<RowNumbers>,
+    pub(crate) tracees: Vec<Follows>,
+    pub(crate) tracers: Vec<(String, Body)>,
+    /// The options of each tracee at first.
+    pub(crate) options: u32,
+    pub(crate) kills: Kills,
+    /// How many waits may be interrupted.
+    pub(crate) eintrs: u32,
+    /// The one tracer that restarts, where there is one.
+    pub(crate) only_tracer: Option<String>,
+}
+
+/// PTRACE_O_TRACESYSGOOD, TRACEFORK, TRACECLONE and TRACEEXEC.
+const FIRST_OPTIONS: u32 = 0x1b;
+
+impl Declared {
+    fn nothing() -> Declared {
+        Declared {
+            rows: Vec::new(),
+            tracees: Vec::new(),
+            tracers: Vec::new(),
+            options: FIRST_OPTIONS,
+            kills: Kills::Never,
+            eintrs: 0,
+            only_tracer: None,
+        }
+    }
+}
+
+impl Sim {
+    pub(crate) fn new(world: Box<dyn World>) -> Sim {
+        Sim { declared: RefCell::new(Declared::nothing()), world }
+    }
+
+    /// What was declared, which is then no more there.
+    pub(crate) fn take_declared(&self) -> Declared {
+        self.declared.replace(Declared::nothing())
+    }
+
+    /// The tracees of a case file, each of which follows its script.
+    ///
+    /// # Errors
+    /// The first faulty line.
+    ///
+    /// ```
+    /// pukzarn::model(|sim| {
+    ///     let fault = sim.case("tracee 100 100 100 0\ncall nothing\n").unwrap_err();
+    ///     assert_eq!(fault.line, 2);
+    /// });
+    /// ```
+    pub fn case(&self, text: &str) -> std::result::Result<(), CaseFault> {
+        with_case(text, |case| {
+            let rows = case.rows();
+            let machines: Result<Vec<Machine>> = (0..rows.len()).map(|row| case.machine(row)).collect();
+            let machines = machines.unwrap_or_else(|errno| panic!("pukzarn: a machine cannot be opened: {errno}"));
+            let mut declared = self.declared.borrow_mut();
+            declared.rows.extend(rows);
+            declared.tracees.extend(machines.into_iter().map(Follows::Script));
+        })
+    }
+
+    /// A tracee that a closure plays. It exits with 0 where the closure returns without an exit.
+    ///
+    /// A parent is declared before its children, and siblings in the order of their creation.
+    ///
+    /// ```
+    /// use pukzarn::Row;
+    ///
+    /// pukzarn::model(|sim| {
+    ///     sim.tracee(Row::root(100), |_| Ok(()));
+    ///     sim.tracer("main", || drop(pukzarn::sys::wait::wait()));
+    ///     sim.run().assert_all_reaped();
+    /// });
+    /// ```
+    pub fn tracee(&self, row: Row, body: impl FnOnce(&mut Tracee) -> Result<()> + Send + 'static) {
+        let mut declared = self.declared.borrow_mut();
+        declared.rows.push(row.numbers());
+        declared.tracees.push(Follows::Closure(Box::new(body)));
+    }
+
+    /// A thread of the tracer, and the name that reports have for it.
+    ///
+    /// ```
+    /// pukzarn::model(|sim| {
+    ///     sim.tracer("main", || assert!(pukzarn::sys::wait::wait().is_err()));
+    ///     sim.run();
+    /// });
+    /// ```
+    pub fn tracer(&self, name: &str, body: impl FnOnce() + Send + 'static) {
+        self.declared.borrow_mut().tracers.push((name.to_string(), Box::new(body)));
+    }
+
+    /// The options that each tracee has at first, until a tracer sets others; without it, TRACESYSGOOD, TRACEFORK,
+    /// TRACECLONE and TRACEEXEC. A child has those of its parent.
+    ///
+    /// ```
+    /// use pukzarn::sys::ptrace::Options;
+    ///
+    /// pukzarn::model(|sim| {
+    ///     sim.options(Options::PTRACE_O_TRACESYSGOOD | Options::PTRACE_O_TRACEEXIT);
+    ///     sim.run();
+    /// });
+    /// ```
+    pub fn options(&self, options: Options) {
+        self.declared.borrow_mut().options = options.bits() as u32;
+    }
+
+    /// Some thread may kill a tracee, or a tracee ends its thread group: each ptrace call is then a step of its own,
+    /// since the stop may be gone. In a model alone.
+    ///
+    /// ```
+    /// use pukzarn::sys::{ptrace, wait};
+    /// use pukzarn::unistd::Pid;
+    ///
+    /// pukzarn::model(|sim| {
+    ///     sim.kills();
+    ///     sim.case("tracee 100 100 100 0\nexit 0\nend\n").unwrap();
+    ///     sim.tracer("killer", || drop(ptrace::kill(Pid::from_raw(100))));
+    ///     sim.tracer("main", || {
+    ///         while let Ok(status) = wait::wait() {
+    ///             let _ = ptrace::cont(status.pid().unwrap(), None);
+    ///         }
+    ///     });
+    ///     sim.run().assert_all_reaped();
+    /// });
+    /// ```
+    pub fn kills(&self) {
+        self.declared.borrow_mut().kills = Kills::MayHappen;
+    }
+
+    /// At most so many waits that block may be answered EINTR, as by a signal that the tracer handles. In a model
+    /// alone.
+    ///
+    /// ```
+    /// use pukzarn::Errno;
+    /// use pukzarn::sys::wait::wait;
+    ///
+    /// pukzarn::model(|sim| {
+    ///     sim.eintrs(1);
+    ///     sim.case("tracee 100 100 100 0\nexit 0\nend\n").unwrap();
+    ///     sim.tracer("main", || {
+    ///         while !matches!(wait(), Err(Errno::ECHILD)) {
+    ///             let _ = pukzarn::sys::ptrace::cont(pukzarn::unistd::Pid::from_raw(100), None);
+    ///         }
+    ///     });
+    ///     sim.run().assert_all_reaped();
+    /// });
+    /// ```
+    pub fn eintrs(&self, most: u32) {
+        self.declared.borrow_mut().eintrs = most;
+    }
+
+    /// As on Linux: the tracer's thread of this name traces all tracees. The waits of every thread may be answered, but
+    /// this one alone restarts a tracee or sees its registers; for all others that is ESRCH. Without it, the thread
+    /// that was answered a stop does.
+    ///
+    /// ```
+    /// use pukzarn::sys::{ptrace, wait};
+    ///
+    /// pukzarn::model(|sim| {
+    ///     sim.only_tracer("main");
+    ///     sim.case("tracee 100 100 100 0\nexit 0\nend\n").unwrap();
+    ///     sim.tracer("main", || {
+    ///         while let Ok(status) = wait::wait() {
+    ///             let _ = ptrace::cont(status.pid().unwrap(), None);
+    ///         }
+    ///     });
+    ///     sim.run().assert_all_reaped();
+    /// });
+    /// ```
+    pub fn only_tracer(&self, name: &str) {
+        self.declared.borrow_mut().only_tracer = Some(name.to_string());
+    }
+
+    /// Runs all of them to their ends, once.
+    ///
+    /// ```
+    /// use pukzarn::{Phase, Row};
+    ///
+    /// pukzarn::model(|sim| {
+    ///     sim.tracee(Row::root(100), |_| Ok(()));
+    ///     let end = sim.run();
+    ///     assert_eq!(end.phase(100), Some(Phase::Dead));
+    /// });
+    /// ```
+    pub fn run(&self) -> End {
+        self.world.run(self)
+    }
+}
+
+/// Why a case file is refused.
+///
+/// ```
+/// pukzarn::model(|sim| {
+///     let fault = sim.case("tracee 0 0 0 0\n").unwrap_err();
+///     assert!(fault.to_string().starts_with("line 1: "));
+/// });
+/// ```
+#[derive(Clone, Debug, PartialEq, Eq)]
+pub struct CaseFault {
+    /// Its first faulty line, from 1.
+    pub line: u32,
+    /// The cause, as the library names it.
+    pub cause: String,
+}
+
+impl fmt::Display for CaseFault {
+    fn fmt(&self, f: &mut fmt::Formatter<'_>) -> fmt::Result {
+        write!(f, "line {}: {}", self.line, self.cause)
+    }
+}
+
+impl std::error::Error for CaseFault {}
+
+thread_local! {
+    /// The cases that this thread has read last: a model declares the same in each schedule.
+    static CASES: RefCell<Vec<(String, Case)>> = const { RefCell::new(Vec::new()) };
+}
+
+const CASES_KEPT: usize = 8;
+
+fn with_case<T>(text: &str, call: impl FnOnce(&mut Case) -> T) -> std::result::Result<T, CaseFault> {
+    CASES.with_borrow_mut(|cases| {
+        let at = match cases.iter().position(|(known, _)| known == text) {
+            Some(at) => at,
+            None => {
+                let case = Case::open(text.as_bytes()).map_err(fault_of)?;
+                cases.truncate(CASES_KEPT - 1);
+                cases.insert(0, (text.to_string(), case));
+                0
+            }
+        };
+        Ok(call(&mut cases[at].1))
+    })
+}
+
+fn fault_of(refused: CaseRefused) -> CaseFault {
+    match refused {
+        CaseRefused::Faulty(line, cause) => CaseFault { line, cause },
+        CaseRefused::Other(errno) => panic!("pukzarn: a case cannot be read: {errno}"),
+    }
+}
+
+/// What a tracee is doing in the end.
+///
+/// ```
+/// assert_ne!(pukzarn::Phase::Dead, pukzarn::Phase::Reaped);
+/// ```
+#[derive(Clone, Copy, Debug, PartialEq, Eq, Hash, PartialOrd, Ord)]
+pub enum Phase {
+    /// Its parent has not created it.
+    Unborn,
+    /// It runs.
+    Running,
+    /// It is at a stop that nobody has waited for.
+    Stopped,
+    /// It is at a stop that this tracer was answered, by the number of the thread, from 0.
+    Claimed {
+        /// The number of the thread.
+        tracer: u32,
+    },
+    /// It has ended, and nobody has waited for it: a zombie.
+    Dead,
+    /// Its death was waited for.
+    Reaped,
+}
+
+/// How a run ended.
+///
+/// ```
+/// use pukzarn::{Phase, Row};
+///
+/// pukzarn::model(|sim| {
+///     sim.tracee(Row::root(100), |_| Ok(()));
+///     let end = sim.run();
+///     assert_eq!(end.tracees, [(100, Phase::Dead)]);
+///     assert!(end.waiting.is_empty());
+/// });
+/// ```
+#[derive(Clone, Debug, PartialEq, Eq, Hash, PartialOrd, Ord)]
+pub struct End {
+    /// The tids in the order of the rows, and what each is doing.
+    pub tracees: Vec<(u32, Phase)>,
+    /// The tracer's threads that wait for ever, where `Builder::deadlocks` lets them.
+    pub waiting: Vec<String>,
+}
+
+impl End {
+    /// What a tracee is doing; None where there is none of this tid.
+    ///
+    /// ```
+    /// pukzarn::model(|sim| assert_eq!(sim.run().phase(100), None));
+    /// ```
+    pub fn phase(&self, tid: u32) -> Option<Phase> {
+        self.tracees.iter().find(|tracee| tracee.0 == tid).map(|tracee| tracee.1)
+    }
+
+    /// Panics unless each tracee that was created has been reaped.
+    ///
+    /// ```
+    /// use pukzarn::sys::wait::wait;
+    ///
+    /// pukzarn::model(|sim| {
+    ///     sim.tracee(pukzarn::Row::root(100), |_| Ok(()));
+    ///     sim.tracer("main", || drop(wait()));
+    ///     sim.run().assert_all_reaped();
+    /// });
+    /// ```
+    #[track_caller]
+    pub fn assert_all_reaped(&self) {
+        for (tid, phase) in &self.tracees {
+            assert!(matches!(phase, Phase::Unborn | Phase::Reaped), "tracee {tid} is left {phase:?}");
+        }
+    }
+}
+
+/// The options that a machine takes of those that a tracer sets: without those that change nothing here (EXITKILL, and
+/// the two of vfork).
+pub(crate) fn machine_options(options: u32) -> u32 {
+    const WITHOUT_EFFECT: u32 = 0x0010_0000 | 0x4 | 0x20;
+    options & !WITHOUT_EFFECT
+}
+
+/// What a test is told whose tracer sets options that a scripted tracee does not take.
+pub(crate) fn options_refused(options: u32, errno: Errno) -> String {
+    format!(
+        "pukzarn: options {options:#x} of a scripted tracee are not simulated ({errno}): they need TRACESYSGOOD, and \
+         TRACEFORK and TRACECLONE together; a tracee that a closure plays takes any"
+    )
+}

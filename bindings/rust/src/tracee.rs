@@ -1,0 +1,354 @@
+//! The tracee that a test's closure plays.
+
+use crate::Result;
+use crate::context::{self, Published};
+use crate::library::{StopNumbers, TraceeRecord, kind, user_regs_struct};
+use crate::stop::{Death, Restart, Stop};
+use crate::sys::signal::Signal;
+
+const TRACESYSGOOD: u32 = 0x1;
+const TRACEEXIT: u32 = 0x40;
+const PAGE: u64 = 4096;
+/// exit(2), as x86-64 numbers it.
+const EXIT: u64 = 60;
+/// What rax has at a syscall-enter-stop: -ENOSYS.
+const NO_RESULT: u64 = -38i64 as u64;
+
+/// The tracee that a test's closure plays: its next stops, calls and death, as its restarts and options ask for them.
+///
+/// ```
+/// use pukzarn::sys::{ptrace, wait};
+/// use pukzarn::{Death, Row, Stop};
+///
+/// pukzarn::model(|sim| {
+///     sim.tracee(Row::root(100), |tracee| {
+///         tracee.stop(Stop::Start)?;
+///         tracee.exit(Death::Exited(3));
+///         Ok(())
+///     });
+///     sim.tracer("main", || {
+///         let status = wait::wait().unwrap();
+///         ptrace::cont(status.pid().unwrap(), None).unwrap();
+///         assert!(matches!(wait::wait(), Ok(wait::WaitStatus::Exited(_, 3))));
+///     });
+///     sim.run().assert_all_reaped();
+/// });
+/// ```
+pub struct Tracee {
+    row: usize,
+    restart: Restart,
+    life: Life,
+}
+
+#[derive(Clone, Copy, PartialEq)]
+enum Life {
+    Alive,
+    Ended,
+}
+
+/// What plays a tracee.
+pub(crate) type Play = Box<dyn FnOnce(&mut Tracee) -> Result<()> + Send>;
+
+/// Plays a tracee on its thread, once it is born.
+pub(crate) fn play(row: usize, body: Play) {
+    let mut tracee = Tracee { row, restart: Restart::Cont(None), life: Life::Alive };
+    if let Err(errno) = body(&mut tracee) {
+        panic!("the tracee's closure ends with an error: {errno}");
+    }
+    if tracee.life == Life::Alive {
+        let death = Death::Exited(0);
+        tracee.announce(death);
+        context::calls().exit_at_last(row, death.status());
+    }
+}
+
+impl Tracee {
+    /// Stops, and waits for the restart. It stops as PTRACE_EVENT_STOP first where it was interrupted.
+    ///
+    /// # Errors
+    /// EINVAL: a fork or clone that does not name the tracee's next child, in the order of the rows.
+    ///
+    /// ```
+    /// use pukzarn::sys::{ptrace, signal::Signal, wait};
+    /// use pukzarn::{Restart, Row, Stop};
+    ///
+    /// pukzarn::model(|sim| {
+    ///     sim.tracee(Row::root(100), |tracee| {
+    ///         let how = tracee.stop(Stop::Signal(Signal::SIGUSR1))?;
+    ///         assert_eq!(how, Restart::Syscall(None));
+    ///         Ok(())
+    ///     });
+    ///     sim.tracer("main", || {
+    ///         let status = wait::wait().unwrap();
+    ///         ptrace::syscall(status.pid().unwrap(), None).unwrap();
+    ///         wait::wait().unwrap();
+    ///     });
+    ///     sim.run().assert_all_reaped();
+    /// });
+    /// ```
+    pub fn stop(&mut self, stop: Stop) -> Result<Restart> {
+        let calls = context::calls();
+        let mut numbers = stop.numbers();
+        let of_call = matches!(stop, Stop::Enter | Stop::Exit);
+        if of_call && calls.options(self.row) & TRACESYSGOOD == 0 {
+            numbers = StopNumbers { kind: kind::SIGNAL, value: Signal::SIGTRAP as u32 };
+        }
+        while calls.publish(self.row, numbers)? == Published::Interrupted {
+            calls.take_up(self.row);
+        }
+        self.restart = Restart::from_numbers(calls.take_up(self.row));
+        Ok(self.restart)
+    }
+
+    /// How the last restart lets it run on.
+    ///
+    /// ```
+    /// use pukzarn::{Restart, Row};
+    ///
+    /// pukzarn::model(|sim| {
+    ///     sim.tracee(Row::root(100), |tracee| {
+    ///         assert_eq!(tracee.restart(), Restart::Cont(None));
+    ///         Ok(())
+    ///     });
+    ///     sim.run();
+    /// });
+    /// ```
+    pub fn restart(&self) -> Restart {
+        self.restart
+    }
+
+    /// A system call: it stops at its entry and its exit as the restarts ask for.
+    ///
+    /// ```
+    /// use pukzarn::sys::{ptrace, wait};
+    /// use pukzarn::{Row, Stop};
+    ///
+    /// pukzarn::model(|sim| {
+    ///     sim.tracee(Row::root(100), |tracee| {
+    ///         tracee.stop(Stop::Start)?;
+    ///         tracee.call(39, [0; 6], 100)
+    ///     });
+    ///     sim.tracer("main", || {
+    ///         for _ in 0..3 {
+    ///             let pid = wait::wait().unwrap().pid().unwrap();
+    ///             ptrace::syscall(pid, None).unwrap();
+    ///         }
+    ///         wait::wait().unwrap();
+    ///     });
+    ///     sim.run().assert_all_reaped();
+    /// });
+    /// ```
+    pub fn call(&mut self, number: u64, arguments: [u64; 6], result: i64) -> Result<()> {
+        self.enter(number, arguments)?;
+        self.change_registers(|registers| registers.rax = result as u64);
+        if self.restart.stops_at_calls() {
+            self.stop(Stop::Exit)?;
+        }
+        Ok(())
+    }
+
+    /// A call of exit(2), which stops at its entry as the restart asks for, and then ends the tracee.
+    ///
+    /// ```
+    /// use pukzarn::Row;
+    /// use pukzarn::sys::wait::{WaitStatus, wait};
+    ///
+    /// pukzarn::model(|sim| {
+    ///     sim.tracee(Row::root(100), |tracee| tracee.exit_call(7));
+    ///     sim.tracer("main", || assert!(matches!(wait(), Ok(WaitStatus::Exited(_, 7)))));
+    ///     sim.run().assert_all_reaped();
+    /// });
+    /// ```
+    pub fn exit_call(&mut self, code: u8) -> Result<()> {
+        self.enter(EXIT, [u64::from(code), 0, 0, 0, 0, 0])?;
+        self.exit(Death::Exited(code));
+        Ok(())
+    }
+
+    /// Ends it, after PTRACE_EVENT_EXIT where PTRACE_O_TRACEEXIT is set. A leader ends once its threads have.
+    ///
+    /// ```
+    /// use pukzarn::sys::signal::Signal;
+    /// use pukzarn::sys::wait::{WaitStatus, wait};
+    /// use pukzarn::{Death, Row};
+    ///
+    /// pukzarn::model(|sim| {
+    ///     sim.tracee(Row::root(100), |tracee| {
+    ///         tracee.exit(Death::Signaled(Signal::SIGTERM, false));
+    ///         Ok(())
+    ///     });
+    ///     sim.tracer("main", || assert!(matches!(wait(), Ok(WaitStatus::Signaled(..)))));
+    ///     sim.run().assert_all_reaped();
+    /// });
+    /// ```
+    pub fn exit(&mut self, death: Death) {
+        self.announce(death);
+        self.life = Life::Ended;
+        context::calls().exit(self.row, death.status());
+    }
+
+    /// Ends its whole thread group (exit_group(2)): the others die where they are, stopped or not, so that their
+    /// tracers' restarts are ESRCH. In a model alone, and where `Sim::kills` is set.
+    ///
+    /// ```
+    /// use pukzarn::sys::wait::wait;
+    /// use pukzarn::{Row, Stop};
+    ///
+    /// pukzarn::model(|sim| {
+    ///     sim.kills();
+    ///     sim.tracee(Row::root(100), |tracee| {
+    ///         tracee.stop(Stop::Clone(101))?;
+    ///         tracee.exit_group(2);
+    ///         Ok(())
+    ///     });
+    ///     sim.tracee(Row::thread(101, 100, 100), |tracee| tracee.stop(Stop::Start).map(drop));
+    ///     sim.tracer("main", || {
+    ///         while let Ok(status) = wait() {
+    ///             let _ = pukzarn::sys::ptrace::cont(status.pid().unwrap(), None);
+    ///         }
+    ///     });
+    ///     sim.run().assert_all_reaped();
+    /// });
+    /// ```
+    pub fn exit_group(&mut self, code: u8) {
+        self.announce(Death::Exited(code));
+        self.life = Life::Ended;
+        let status = Death::Exited(code).status();
+        context::calls().exit_group(self.row, status);
+        context::calls().exit(self.row, status);
+    }
+
+    /// The registers, as the tracer left them at the last stop.
+    ///
+    /// ```
+    /// pukzarn::model(|sim| {
+    ///     sim.tracee(pukzarn::Row::root(100), |tracee| {
+    ///         assert_eq!(tracee.registers().rax, 0);
+    ///         Ok(())
+    ///     });
+    ///     sim.run();
+    /// });
+    /// ```
+    pub fn registers(&self) -> user_regs_struct {
+        let mut registers = user_regs_struct::default();
+        self.with_record(|record| record.getregs().map(|at| registers = at)).expect("registers can be read");
+        registers
+    }
+
+    /// Sets the registers, which the tracer sees at the next stop.
+    ///
+    /// ```
+    /// pukzarn::model(|sim| {
+    ///     sim.tracee(pukzarn::Row::root(100), |tracee| {
+    ///         let mut registers = tracee.registers();
+    ///         registers.rip = 0x401000;
+    ///         tracee.set_registers(&registers);
+    ///         assert_eq!(tracee.registers().rip, 0x401000);
+    ///         Ok(())
+    ///     });
+    ///     sim.run();
+    /// });
+    /// ```
+    pub fn set_registers(&mut self, registers: &user_regs_struct) {
+        self.with_record(|record| record.setregs(registers)).expect("registers take any values");
+    }
+
+    /// Maps the pages that these bytes lie in, where they are not mapped, as zeros.
+    ///
+    /// # Errors
+    /// ENOSPC: 256 pages are mapped. ENOMEM.
+    ///
+    /// ```
+    /// pukzarn::model(|sim| {
+    ///     sim.tracee(pukzarn::Row::root(100), |tracee| {
+    ///         tracee.map_memory(0x10ff8, 16)?;
+    ///         let mut bytes = [1; 16];
+    ///         assert_eq!(tracee.read_memory(0x10ff8, &mut bytes), 16);
+    ///         assert_eq!(bytes, [0; 16]);
+    ///         Ok(())
+    ///     });
+    ///     sim.run();
+    /// });
+    /// ```
+    pub fn map_memory(&mut self, address: u64, length: u64) -> Result<()> {
+        let first = address / PAGE;
+        let last = address.saturating_add(length.max(1) - 1) / PAGE;
+        for page in first..=last {
+            match self.with_record(|record| record.map(page * PAGE)) {
+                Ok(()) | Err(crate::Errno::EEXIST) => {}
+                Err(errno) => return Err(errno),
+            }
+        }
+        Ok(())
+    }
+
+    /// Writes bytes, which have to be mapped: all of them or none.
+    ///
+    /// # Errors
+    /// EIO: some of them are not mapped.
+    ///
+    /// ```
+    /// pukzarn::model(|sim| {
+    ///     sim.tracee(pukzarn::Row::root(100), |tracee| {
+    ///         tracee.map_memory(0x10000, 4)?;
+    ///         tracee.write_memory(0x10000, b"/tmp")
+    ///     });
+    ///     sim.run();
+    /// });
+    /// ```
+    pub fn write_memory(&mut self, address: u64, bytes: &[u8]) -> Result<()> {
+        self.with_record(|record| record.write(address, bytes))
+    }
+
+    /// Copies bytes up to the first that is not mapped, and answers how many they are.
+    ///
+    /// ```
+    /// pukzarn::model(|sim| {
+    ///     sim.tracee(pukzarn::Row::root(100), |tracee| {
+    ///         assert_eq!(tracee.read_memory(0x10000, &mut [0; 4]), 0);
+    ///         Ok(())
+    ///     });
+    ///     sim.run();
+    /// });
+    /// ```
+    pub fn read_memory(&self, address: u64, to: &mut [u8]) -> usize {
+        let mut length = 0;
+        self.with_record(|record| record.read(address, to).map(|many| length = many)).expect("memory can be read");
+        length
+    }
+
+    /// Enters a system call.
+    fn enter(&mut self, number: u64, arguments: [u64; 6]) -> Result<()> {
+        self.change_registers(|at| {
+            (at.orig_rax, at.rax) = (number, NO_RESULT);
+            [at.rdi, at.rsi, at.rdx, at.r10, at.r8, at.r9] = arguments;
+        });
+        if self.restart.stops_at_calls() {
+            self.stop(Stop::Enter)?;
+        }
+        Ok(())
+    }
+
+    /// Stops at PTRACE_EVENT_EXIT where that is asked for.
+    fn announce(&mut self, death: Death) {
+        if context::calls().options(self.row) & TRACEEXIT != 0 {
+            self.stop(Stop::Ending(death)).expect("an exit event is never refused");
+        }
+    }
+
+    fn change_registers(&mut self, change: impl FnOnce(&mut user_regs_struct)) {
+        let mut registers = self.registers();
+        change(&mut registers);
+        self.set_registers(&registers);
+    }
+
+    fn with_record<T>(&self, call: impl FnOnce(&mut dyn TraceeRecord) -> Result<T>) -> Result<T> {
+        let (mut call, mut answer) = (Some(call), None);
+        context::calls().with_record(self.row, &mut |record| {
+            if let Some(call) = call.take() {
+                answer = Some(call(record));
+            }
+        });
+        answer.expect("a tracee's thread has its record")
+    }
+}

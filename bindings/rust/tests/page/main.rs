@@ -1,0 +1,67 @@
+//! What docs/RUST.md shows is what is printed: the first tracer of the page, its test, and the fault that it finds; then
+//! the tracer without the fault. README.md shows the same report.
+
+extern crate pukzarn as nix;
+
+mod mended;
+mod tracer;
+
+use std::process::Command;
+
+const PAGE: &str = "docs/RUST.md";
+
+mod tests {
+    use crate::tracer::trace;
+    use nix::unistd::Pid;
+
+    #[test]
+    #[should_panic(expected = "a stop of 101, which nobody has announced")]
+    fn a_fork_is_traced() {
+        pukzarn::model(|sim| {
+            sim.case("tracee 100 100 100 0\nfork 101\nexit 0\nend\ntracee 101 101 100 100\nexit 0\nend\n").unwrap();
+            sim.tracer("main", || trace(Pid::from_raw(100)));
+            sim.run().assert_all_reaped();
+        });
+    }
+
+    #[test]
+    fn an_early_child_is_kept() {
+        let report = pukzarn::Builder::new().exhaustive().check(|sim| {
+            sim.case("tracee 100 100 100 0\nfork 101\nexit 0\nend\ntracee 101 101 100 100\nexit 0\nend\n").unwrap();
+            sim.tracer("main", || crate::mended::trace(Pid::from_raw(100)));
+            sim.run().assert_all_reaped();
+        });
+        crate::page_has(&format!("pukzarn: {}: {} schedules", report.coverage, report.schedules));
+    }
+}
+
+fn page(name: &str) -> String {
+    let path = format!("{}/../../{name}", env!("CARGO_MANIFEST_DIR"));
+    std::fs::read_to_string(&path).unwrap_or_else(|error| panic!("{path}: {error}"))
+}
+
+#[track_caller]
+fn page_has(text: &str) {
+    assert!(page(PAGE).contains(text), "{PAGE} has not:\n{text}");
+}
+
+#[test]
+fn the_page_has_the_tracer_and_what_is_printed() {
+    let source = include_str!("tracer.rs");
+    let (_, tracer) = source.split_once("\n\n").expect("a line says what it is");
+    page_has(tracer);
+
+    let mut command = Command::new(std::env::current_exe().expect("this program has a name"));
+    command.args(["tests::a_fork_is_traced", "--exact", "--nocapture"]).env("RUST_BACKTRACE", "0");
+    for variable in ["PUKZARN_SCHEDULE", "PUKZARN_SCHEDULES", "PUKZARN_DEVIATIONS"] {
+        command.env_remove(variable);
+    }
+    let printed = String::from_utf8(command.output().expect("this program runs again").stderr).expect("text");
+    let report = printed.lines().skip_while(|line| !line.starts_with("pukzarn: "));
+    let report: Vec<&str> = report.take_while(|line| !line.starts_with("note: ")).collect();
+    assert!(report.len() > 3, "it prints a report:\n{printed}");
+    let report = report.join("\n");
+    page_has(&report);
+    let readme = page("README.md");
+    assert!(readme.contains(&report) || !readme.contains("PUKZARN_SCHEDULE"), "README.md has another report");
+}

@@ -1,0 +1,191 @@
+//! What a model says of a test that it cannot run to its end, and of how far it came.
+
+use pukzarn::sync::Mutex;
+use pukzarn::sync::atomic::{AtomicU32, Ordering};
+use pukzarn::sys::ptrace;
+use pukzarn::sys::wait::{WaitPidFlag, WaitStatus, waitpid};
+use pukzarn::unistd::Pid;
+use pukzarn::{Builder, Coverage, Failure, Report, Row, Shares, Sim, Stop};
+use std::sync::Arc;
+use std::time::Duration;
+
+fn short_process(sim: &Sim, tid: u32) {
+    sim.tracee(Row::root(tid), |tracee| tracee.stop(Stop::Start).map(drop));
+}
+
+/// Restarts whatever stops, until there is no child.
+fn main_loop() {
+    while let Ok(status) = waitpid(None, None) {
+        if !matches!(status, WaitStatus::Exited(..)) {
+            ptrace::cont(status.pid().expect("a stop is of a tracee"), None).expect("it was claimed");
+        }
+    }
+}
+
+fn two_processes(sim: &Sim) {
+    short_process(sim, 100);
+    short_process(sim, 200);
+    sim.tracer("main", main_loop);
+    sim.run().assert_all_reaped();
+}
+
+#[track_caller]
+fn failure_of(test: impl Fn(&Sim)) -> Failure {
+    Builder::new().explore(test).expect_err("the test has a fault")
+}
+
+#[track_caller]
+fn assert_says(failure: &Failure, words: &[&str]) {
+    let text = failure.to_string();
+    for word in words {
+        assert!(text.contains(word), "no {word:?} in:\n{text}");
+    }
+}
+
+#[test]
+fn a_deadlock_says_who_waits_for_what() {
+    let failure = failure_of(|sim| {
+        short_process(sim, 100);
+        // Nobody restarts the tracee after the first wait.
+        sim.tracer("main", || {
+            waitpid(Pid::from_raw(100), None).expect("it stops");
+            waitpid(Pid::from_raw(100), None).expect("it is never answered");
+        });
+        sim.run();
+    });
+    assert_says(&failure, &["deadlock", "main", "wait 100", "tracee 100"]);
+}
+
+#[test]
+fn two_locks_in_turn_are_a_deadlock() {
+    let failure = failure_of(|sim| {
+        let locks = Arc::new((Mutex::new(()), Mutex::new(())));
+        let other = locks.clone();
+        sim.tracer("one", move || {
+            let _first = locks.0.lock().unwrap();
+            let _second = locks.1.lock().unwrap();
+        });
+        sim.tracer("two", move || {
+            let _second = other.1.lock().unwrap();
+            let _first = other.0.lock().unwrap();
+        });
+        sim.run();
+    });
+    assert_says(&failure, &["deadlock", "one", "two", "lock"]);
+}
+
+#[test]
+fn a_test_whose_calls_differ_is_not_deterministic() {
+    let round = std::sync::atomic::AtomicU32::new(0);
+    let failure = failure_of(|sim| {
+        let odd = round.fetch_add(1, Ordering::SeqCst) % 2 == 1;
+        short_process(sim, 100);
+        short_process(sim, 200);
+        sim.tracer("main", move || {
+            if odd {
+                waitpid(Pid::from_raw(999), None).expect_err("there is no such tracee");
+            }
+            main_loop();
+        });
+        sim.run();
+    });
+    assert_says(&failure, &["not deterministic"]);
+}
+
+#[test]
+fn a_lock_of_std_that_is_held_over_a_call_is_reported() {
+    let builder = Builder { patience: Duration::from_millis(500), ..Builder::new() };
+    let held = |sim: &Sim| {
+        let lock = Arc::new(std::sync::Mutex::new(()));
+        short_process(sim, 100);
+        short_process(sim, 200);
+        for name in ["one", "two"] {
+            let lock = lock.clone();
+            sim.tracer(name, move || {
+                let _held = lock.lock().unwrap_or_else(|poisoned| poisoned.into_inner());
+                main_loop();
+            });
+        }
+        sim.run();
+    };
+    let failure = builder.explore(held).expect_err("the test has a fault");
+    assert_says(&failure, &["makes no call", "a lock of std", "`two`"]);
+}
+
+#[test]
+fn a_loop_that_never_waits_is_reported() {
+    let failure = failure_of(|sim| {
+        short_process(sim, 100);
+        let turns = AtomicU32::new(0);
+        sim.tracer("main", move || while turns.fetch_add(1, Ordering::SeqCst) < u32::MAX {});
+        sim.run();
+    });
+    assert_says(&failure, &["10000 steps", "main"]);
+}
+
+#[test]
+fn a_call_that_is_not_simulated_says_why() {
+    let failure = failure_of(|sim| {
+        short_process(sim, 100);
+        sim.tracer("main", || {
+            let status = waitpid(None, None).expect("it stops");
+            ptrace::detach(status.pid().expect("a stop is of a tracee"), None).expect("never");
+        });
+        sim.run();
+    });
+    assert_says(&failure, &["detach", "not simulated"]);
+}
+
+#[test]
+fn two_runs_of_a_model_report_the_same() {
+    let report = || Builder::new().explore(two_processes).expect("the tracer has no fault");
+    let (one, other) = (report(), report());
+    let untimed = |report: Report| Report { time: Duration::ZERO, ..report };
+    assert_eq!(untimed(one), untimed(other));
+
+    let failure = || {
+        failure_of(|sim| {
+            short_process(sim, 100);
+            sim.tracer("main", || assert!(waitpid(None, Some(WaitPidFlag::WNOHANG)).is_ok()));
+            sim.run().assert_all_reaped();
+        })
+    };
+    let (one, other) = (failure(), failure());
+    assert_eq!((&one.cause, &one.steps), (&other.cause, &other.steps));
+    // They are two models of this test.
+    let decisions = |failure: &Failure| failure.schedule.rsplit_once(':').map(|(_, decisions)| decisions.to_string());
+    assert_eq!(decisions(&one), decisions(&other));
+    assert_ne!(one.schedule, other.schedule);
+}
+
+#[test]
+fn exhaustive_fails_where_schedules_are_left() {
+    let builder = Builder { max_schedules: 3, ..Builder::new() };
+    let report = builder.explore(two_processes).expect("there is no fault in three schedules");
+    assert_ne!(report.coverage, Coverage::All);
+    builder.exhaustive().explore(two_processes).expect_err("not all were tried");
+    let report = Builder::new().exhaustive().explore(two_processes).expect("all were tried");
+    assert_eq!(report.coverage, Coverage::All);
+}
+
+#[test]
+fn what_the_test_promises_is_named_in_the_report() {
+    let builder = Builder { shares: Shares::Sync, ..Builder::new() };
+    let report = builder.explore(|sim| {
+        short_process(sim, 100);
+        sim.tracer("main", || {
+            loop {
+                pukzarn::forget(&());
+                match waitpid(None, None) {
+                    Ok(WaitStatus::Exited(..)) => {}
+                    Ok(status) => ptrace::cont(status.pid().expect("a stop"), None).expect("it was claimed"),
+                    Err(_) => return,
+                }
+            }
+        });
+        sim.run().assert_all_reaped();
+    });
+    let text = report.expect("the tracer has no fault").to_string();
+    assert!(text.contains("as far as `forget` holds"), "{text}");
+    assert!(text.contains("pukzarn::sync"), "{text}");
+}

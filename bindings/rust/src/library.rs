@@ -5,6 +5,13 @@
 #![allow(unsafe_code)]
 
 use crate::errno::Errno;
+use crate::sys::not_simulated;
+#[cfg(feature = "nix-0-26")]
+use crate::sys::ptrace::{self, AddressType};
+use crate::sys::signal::{NO_SIGNALS, SigAction, SigHandler, Signal};
+#[cfg(feature = "nix-0-26")]
+use crate::unistd::Pid;
+use crate::unistd::{BEGINS_AT_THE_LOOP, ForkResult};
 use std::ffi::{c_char, c_int, c_long, c_void};
 
 // ---- What crosses in numbers ----
@@ -749,5 +756,79 @@ impl Processors {
     pub(crate) fn set_for_thread(&self) {
         // SAFETY: the mask has the size that is said.
         unsafe { sched_setaffinity(0, size_of_val(&self.0), self.0.as_ptr()) };
+    }
+}
+
+// ---- What is unsafe in nix ----
+
+/// Writes the word that the pointer is: nix 0.26's form of `PTRACE_POKEDATA`.
+///
+/// # Safety
+/// Nothing is asked for: the pointer is a number here.
+#[cfg(feature = "nix-0-26")]
+pub unsafe fn write(pid: Pid, addr: AddressType, data: *mut c_void) -> Result<(), Errno> {
+    ptrace::write_word(pid, addr, data.addr().cast_signed() as c_long)
+}
+
+/// Writes the word that the pointer is: nix 0.26's form of `PTRACE_POKEUSER`.
+///
+/// # Safety
+/// Nothing is asked for: the pointer is a number here.
+#[cfg(feature = "nix-0-26")]
+pub unsafe fn write_user(pid: Pid, offset: AddressType, data: *mut c_void) -> Result<(), Errno> {
+    ptrace::write_register(pid, offset, data.addr().cast_signed() as c_long)
+}
+
+/// Ends the test: the tracer gets no signals.
+///
+/// # Safety
+/// Nothing is asked for: no handler is set.
+pub unsafe fn sigaction(_signal: Signal, _sigaction: &SigAction) -> Result<SigAction, Errno> {
+    not_simulated("sigaction", NO_SIGNALS)
+}
+
+/// Ends the test: the tracer gets no signals.
+///
+/// # Safety
+/// Nothing is asked for: no handler is set.
+pub unsafe fn signal(_signal: Signal, _handler: SigHandler) -> Result<SigHandler, Errno> {
+    not_simulated("signal", NO_SIGNALS)
+}
+
+/// Ends the test: the tracees are those of the Sim.
+///
+/// # Safety
+/// Nothing is asked for: no process is made.
+pub unsafe fn fork() -> Result<ForkResult, Errno> {
+    not_simulated("fork", BEGINS_AT_THE_LOOP)
+}
+
+// ---- A scope of threads ----
+
+/// A scope, which ends once its threads have.
+///
+/// ```
+/// use pukzarn::thread::{Scope, scope};
+///
+/// fn start<'scope>(scope: &'scope Scope<'scope, '_>) {
+///     scope.spawn(|| ());
+/// }
+/// scope(|s| start(s));
+/// ```
+#[derive(Debug)]
+#[repr(transparent)]
+pub struct Scope<'scope, 'env: 'scope> {
+    inner: std::thread::Scope<'scope, 'env>,
+}
+
+impl<'scope, 'env> Scope<'scope, 'env> {
+    /// The scope of std, with the methods of this crate.
+    pub(crate) fn of(inner: &'scope std::thread::Scope<'scope, 'env>) -> &'scope Scope<'scope, 'env> {
+        // SAFETY: the type is transparent over what the reference is to, which lives for the same time.
+        unsafe { &*std::ptr::from_ref(inner).cast() }
+    }
+
+    pub(crate) fn inner(&'scope self) -> &'scope std::thread::Scope<'scope, 'env> {
+        &self.inner
     }
 }

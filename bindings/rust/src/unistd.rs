@@ -7,6 +7,8 @@ use std::convert::Infallible;
 use std::ffi::CStr;
 use std::{fmt, fs, os, process};
 
+pub use crate::library::fork;
+
 /// The id of a process or a thread.
 #[derive(Debug, Copy, Clone, Eq, PartialEq, Ord, PartialOrd, Hash)]
 pub struct Pid(pid_t);
@@ -86,12 +88,8 @@ impl ForkResult {
     }
 }
 
-const BEGINS_AT_THE_LOOP: &str = "the tracees are those of the Sim, so a test begins at the tracer's loop";
-
-/// Ends the test: the tracees are those of the Sim. Nothing here is unsafe, as it is in nix.
-pub fn fork() -> Result<ForkResult, Errno> {
-    not_simulated("fork", BEGINS_AT_THE_LOOP)
-}
+/// Why what starts a tracee ends the test.
+pub(crate) const BEGINS_AT_THE_LOOP: &str = "the tracees are those of the Sim, so a test begins at the tracer's loop";
 
 /// Ends the test: the tracees are those of the Sim.
 pub fn execv<S: AsRef<CStr>>(_path: &CStr, _argv: &[S]) -> Result<Infallible, Errno> {
@@ -152,8 +150,8 @@ mod tests {
     }
 
     #[test]
-    #[should_panic(expected = "fork is not simulated: the tracees are those of the Sim")]
-    fn nothing_is_forked() {
-        let _ = fork();
+    #[should_panic(expected = "execv is not simulated: the tracees are those of the Sim")]
+    fn nothing_is_started() {
+        let _ = execv::<&CStr>(c"/bin/true", &[]);
     }
 }

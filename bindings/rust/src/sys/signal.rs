@@ -154,7 +154,7 @@ pub fn raise(_signal: Signal) -> Result<(), Errno> {
 }
 
 /// Why what handles or blocks the tracer's own signals ends the test.
-const NO_SIGNALS: &str = "a simulated tracer gets no signals; Sim::eintrs lets its waits be interrupted";
+pub(crate) const NO_SIGNALS: &str = "a simulated tracer gets no signals; Sim::eintrs lets its waits be interrupted";
 
 #[cfg(test)]
 mod tests {

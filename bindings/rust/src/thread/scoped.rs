@@ -4,25 +4,15 @@ use super::handle::{Answer, answering, join_simulated};
 use super::{Builder, Result, Thread};
 use crate::context;
 use std::any::Any;
+use std::collections::BTreeMap;
 use std::panic::{AssertUnwindSafe, catch_unwind, resume_unwind};
-use std::sync::{Mutex, PoisonError};
-use std::{fmt, io, mem, thread};
+use std::sync::{Mutex, MutexGuard, PoisonError};
+use std::{fmt, io, thread};
 
-/// A scope, which ends once its threads have.
-///
-/// ```
-/// use pukzarn::thread::{Scope, scope};
-///
-/// fn start<'scope>(scope: &'scope Scope<'scope, '_>) {
-///     scope.spawn(|| ());
-/// }
-/// scope(|s| start(s));
-/// ```
-pub struct Scope<'scope, 'env: 'scope> {
-    inner: &'scope thread::Scope<'scope, 'env>,
-    /// The threads of a simulation that nobody has joined.
-    left: Mutex<Vec<usize>>,
-}
+pub use crate::library::Scope;
+
+/// The threads of a simulation that nobody has joined, by the address of their scope.
+static LEFT: Mutex<BTreeMap<usize, Vec<usize>>> = Mutex::new(BTreeMap::new());
 
 /// Starts threads that borrow, and ends once they have; in a simulation they are threads of it.
 ///
@@ -45,8 +35,8 @@ where
     F: for<'scope> FnOnce(&'scope Scope<'scope, 'env>) -> T,
 {
     thread::scope(|inner| {
-        // std lends its own scope alone for the whole of 'scope, so ours is never given back: some 50 bytes.
-        let scope: &Scope<'_, 'env> = Box::leak(Box::new(Scope { inner, left: Mutex::default() }));
+        let scope = Scope::of(inner);
+        let _listed = Listed { scope: scope.address() };
         // The threads that are left have to end by calls of the simulation before std waits for them.
         match catch_unwind(AssertUnwindSafe(|| body(scope))) {
             Ok(answer) => {
@@ -74,18 +64,23 @@ impl<'scope, 'env> Scope<'scope, 'env> {
         Builder::new().spawn_scoped(self, body).expect("a thread can be started")
     }
 
+    fn address(&self) -> usize {
+        std::ptr::from_ref(self).addr()
+    }
+
     fn join_left(&self) {
-        while let Some(number) = lock(&self.left).pop() {
+        while let Some(number) = next_left(self.address()) {
             context::calls().join(number);
         }
-        // What is never given back keeps no numbers.
-        drop(mem::take(&mut *lock(&self.left)));
     }
 
     /// Ends with a panic of the scope's body. The threads that are left may wait for what never comes, so another one
     /// reports the panic, which ends the simulation.
     fn end_by(&self, payload: Box<dyn Any + Send>) -> ! {
-        let Some(calls) = context::get().filter(|_| !lock(&self.left).is_empty()) else { resume_unwind(payload) };
+        let Some(calls) = context::get().filter(|_| left().get(&self.address()).is_some_and(|left| !left.is_empty()))
+        else {
+            resume_unwind(payload)
+        };
         let Some(message) = context::message(payload) else { context::leave() };
         calls.spawn(Some("a scope".into()), Box::new(move || resume_unwind(Box::new(message))));
         self.join_left();
@@ -93,8 +88,24 @@ impl<'scope, 'env> Scope<'scope, 'env> {
     }
 }
 
-fn lock(left: &Mutex<Vec<usize>>) -> std::sync::MutexGuard<'_, Vec<usize>> {
-    left.lock().unwrap_or_else(PoisonError::into_inner)
+fn left() -> MutexGuard<'static, BTreeMap<usize, Vec<usize>>> {
+    LEFT.lock().unwrap_or_else(PoisonError::into_inner)
+}
+
+/// Takes the number of a thread that nobody has joined.
+fn next_left(scope: usize) -> Option<usize> {
+    left().get_mut(&scope)?.pop()
+}
+
+/// Takes a scope from the list where it ends, also by unwinding.
+struct Listed {
+    scope: usize,
+}
+
+impl Drop for Listed {
+    fn drop(&mut self) {
+        left().remove(&self.scope);
+    }
 }
 
 impl Builder {
@@ -119,16 +130,16 @@ impl Builder {
         T: Send + 'scope,
     {
         let Some(calls) = context::get() else {
-            let real = self.of_std().spawn_scoped(scope.inner, body)?;
+            let real = self.of_std().spawn_scoped(scope.inner(), body)?;
             return Ok(ScopedJoinHandle { thread: Thread::real(real.thread()), end: End::Real(real) });
         };
         let thread = Thread::simulated(self.name.clone());
         let (answer, body) = answering(thread.clone(), body);
         let builder = self.of_std();
         let (number, place) = calls.enroll(self.name);
-        lock(&scope.left).push(number);
-        builder.spawn_scoped(scope.inner, move || place.run(Box::new(body)))?;
-        Ok(ScopedJoinHandle { thread, end: End::Simulated { number, answer, left: &scope.left } })
+        left().entry(scope.address()).or_default().push(number);
+        builder.spawn_scoped(scope.inner(), move || place.run(Box::new(body)))?;
+        Ok(ScopedJoinHandle { thread, end: End::Simulated { number, answer, scope: scope.address() } })
     }
 }
 
@@ -148,7 +159,7 @@ pub struct ScopedJoinHandle<'scope, T> {
 }
 
 enum End<'scope, T> {
-    Simulated { number: usize, answer: Answer<T>, left: &'scope Mutex<Vec<usize>> },
+    Simulated { number: usize, answer: Answer<T>, scope: usize },
     Real(thread::ScopedJoinHandle<'scope, T>),
 }
 
@@ -169,9 +180,9 @@ impl<T> ScopedJoinHandle<'_, T> {
     /// ```
     pub fn join(self) -> Result<T> {
         match self.end {
-            End::Simulated { number, answer, left } => {
+            End::Simulated { number, answer, scope } => {
                 let value = join_simulated(number, &answer);
-                lock(left).retain(|other| *other != number);
+                left().entry(scope).or_default().retain(|other| *other != number);
                 value
             }
             End::Real(real) => real.join(),

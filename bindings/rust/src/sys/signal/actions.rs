@@ -1,10 +1,12 @@
 //! What a signal does to the tracer itself. The types are there; what would use them ends the test.
 
-use super::{NO_SIGNALS, SigSet, Signal};
+use super::{NO_SIGNALS, SigSet};
 use crate::bits::flag_set;
 use crate::errno::Errno;
 use crate::libc::{c_int, c_void, siginfo_t};
 use crate::sys::not_simulated;
+
+pub use crate::library::{sigaction, signal};
 
 flag_set! {
     /// How a signal is handled.
@@ -84,16 +86,6 @@ impl SigAction {
     pub fn handler(&self) -> SigHandler {
         self.handler
     }
-}
-
-/// Ends the test: the tracer gets no signals. Nothing here is unsafe, as it is in nix.
-pub fn sigaction(_signal: Signal, _sigaction: &SigAction) -> Result<SigAction, Errno> {
-    not_simulated("sigaction", NO_SIGNALS)
-}
-
-/// Ends the test: the tracer gets no signals. Nothing here is unsafe, as it is in nix.
-pub fn signal(_signal: Signal, _handler: SigHandler) -> Result<SigHandler, Errno> {
-    not_simulated("signal", NO_SIGNALS)
 }
 
 /// Ends the test: the tracer gets no signals.

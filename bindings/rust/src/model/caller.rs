@@ -6,6 +6,7 @@ use super::objects::ObjectNumber;
 use super::run::Model;
 use super::state::{State, Turn};
 use super::threads::{Baton, Seat};
+use super::watched::Watched;
 use crate::context::{
     self, Body, Calls, Enrolled, Identity, ModelCalls, Notify, Noun, Patience, Permits, Published, Request, Wakeup,
 };
@@ -129,7 +130,11 @@ impl Calls for Caller {
 
     fn with_claimed(&self, pid: i32, call: &mut dyn FnMut(&mut dyn RecordCalls)) -> Result<(), Errno> {
         let row = self.claimed(pid)?;
-        call(self.model.lock().tracees.record(row));
+        let mut state = self.model.lock();
+        let mut watched = Watched::new(state.tracees.record(row));
+        call(&mut watched);
+        let written = watched.written();
+        state.tracees.was_written(row, written);
         Ok(())
     }
 

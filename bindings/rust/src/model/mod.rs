@@ -25,6 +25,7 @@ mod state;
 mod tests;
 mod threads;
 mod tracees;
+mod watched;
 mod words;
 
 pub use builder::{Builder, Deadlocks, Effort, Shares, Threads};
@@ -57,7 +58,8 @@ pub fn model(test: impl Fn(&Sim)) -> Report {
 }
 
 /// For the head of a loop: what the calling thread does next depends on this value alone, and not on what it was
-/// answered before. A model then goes on once from each value. The report says that it holds as far as this does.
+/// answered before. A model then goes on once from each value. The tracees, their options and what was written to them
+/// count by themselves, and so does each access of what is in `sync`. The report says that it holds as far as this does.
 /// Outside of a model it does nothing.
 ///
 /// ```

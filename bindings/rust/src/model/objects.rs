@@ -90,9 +90,11 @@ impl Objects {
         object.history
     }
 
-    /// A hash of the permits and of who waits.
+    /// A hash of the permits, of who waits, and of all accesses: what an object holds depends on them, also where
+    /// those who made them have forgotten what they did.
     pub(super) fn hash(&self) -> u64 {
-        let states = self.all.iter().enumerate().map(|(at, object)| hash_of(&(at, object.free, &object.waiters)));
+        let state = |(at, object): (usize, &Object)| hash_of(&(at, object.free, &object.waiters, object.history));
+        let states = self.all.iter().enumerate().map(state);
         states.fold(0, u64::wrapping_add)
     }
 }

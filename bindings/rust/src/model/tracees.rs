@@ -19,15 +19,19 @@ struct Above {
     interrupted: bool,
     /// The death that it dies next.
     killed: Option<u32>,
+    /// A hash of all that tracers have written to its registers and memory.
+    written: u64,
 }
 
 impl Above {
-    /// A hash of a tracee's state on the board, and of what changes its next act.
+    /// A hash of a tracee's state on the board, and of what changes its next acts.
     fn hash(&self, state: State) -> u64 {
         let State { phase, number, tracer, status } = state;
         let killed = self.killed.map_or(0, |death| u64::from(death) << 1 | 1);
         let stop = u64::from(phase) << 32 | u64::from(number);
-        mix(mix(stop, u64::from(tracer) << 32 | u64::from(status)), killed << 1 | u64::from(self.interrupted))
+        let on_board = mix(stop, u64::from(tracer) << 32 | u64::from(status));
+        let above = mix(killed << 1 | u64::from(self.interrupted), u64::from(self.options));
+        mix(mix(on_board, above), self.written)
     }
 }
 
@@ -59,7 +63,8 @@ impl Tracees {
         let board = Board::open(&rows).unwrap_or_else(|refused| panic!("{}", words_of(&rows, refused)));
         let records = rows.iter().map(|row| Record::open(row.tid).expect("a record can be opened")).collect();
         let restart = RestartNumbers::default();
-        let above = |_: &RowNumbers| Above { options: declared.options, restart, interrupted: false, killed: None };
+        let above =
+            |_: &RowNumbers| Above { options: declared.options, restart, interrupted: false, killed: None, written: 0 };
         let mut tracees = Tracees {
             board,
             records,
@@ -95,6 +100,16 @@ impl Tracees {
 
     pub(super) fn set_options(&mut self, row: usize, options: u32) {
         self.above[row].options = options;
+        self.hash_again(row);
+    }
+
+    /// A tracer has written to the record of a row's stop; the hash of what, which is 0 of nothing.
+    pub(super) fn was_written(&mut self, row: usize, what: u64) {
+        if what != 0 {
+            let at = u64::from(self.states[row].number);
+            self.above[row].written = mix(self.above[row].written, mix(at, what));
+            self.hash_again(row);
+        }
     }
 
     pub(super) fn last_restart(&self, row: usize) -> RestartNumbers {
@@ -247,12 +262,15 @@ impl Tracees {
 
     /// Takes over what the board says of a row.
     fn refresh(&mut self, row: usize) {
-        let state = self.board.state(row);
-        let hash = mix(row as u64, self.above[row].hash(state));
+        self.states[row] = self.board.state(row);
+        self.hash_again(row);
+        self.version += 1;
+    }
+
+    fn hash_again(&mut self, row: usize) {
+        let hash = mix(row as u64, self.above[row].hash(self.states[row]));
         self.hash = self.hash.wrapping_sub(self.hashes[row]).wrapping_add(hash);
         self.hashes[row] = hash;
-        self.states[row] = state;
-        self.version += 1;
     }
 
     /// The tids and what each is doing.

@@ -108,6 +108,9 @@ check: kit
 	@RT=$(RT) RT_JOBS=$${RT_JOBS:-$(CHECKS)} $(PYTHON) tools/proved_archive.py pukzarn $(OUT)/proved_pukzarn.a
 	@$(MAKE) --no-print-directory archive ARCHIVE=$(OUT)/proved_pukzarn.a
 	@$(MAKE) --no-print-directory --jobs=$(CHECKS) library-test
+	$(call part,the crate for Rust$(COMMA) and tracers in C by it)
+	@$(MAKE) --no-print-directory rust-test
+	@$(MAKE) --no-print-directory c-model-test
 	$(call part,wrong bodies)
 	@$(MAKE) --no-print-directory wrong-bodies-changed
 	$(call part,the tool for wrong bodies$(COMMA) examples$(COMMA) the pages$(COMMA) refused programs: side by side)

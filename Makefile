@@ -338,7 +338,7 @@ rust-test: $(LIBRARY)
 		$(CARGO) fmt --all --check --manifest-path $$manifest || exit 1; done
 	@for manifest in $(RUST_MANIFESTS); do \
 		$(IN_RUST) $(CARGO) clippy --quiet --tests --manifest-path $$manifest -- -D warnings || exit 1; done
-	@$(IN_RUST) $(CARGO) clippy --quiet --features pukzarn/nix-0-26 --manifest-path bindings/Cargo.toml -- -D warnings
+	@$(IN_RUST) $(CARGO) clippy --quiet --package pukzarn --features nix-0-26 --manifest-path bindings/Cargo.toml -- -D warnings
 	@$(IN_RUST) $(CARGO) test --quiet --workspace --manifest-path bindings/Cargo.toml
 	@$(IN_RUST) $(CARGO) test --quiet --manifest-path examples/rust/counter/Cargo.toml
 	@$(IN_RUST) RUSTDOCFLAGS="-D warnings" $(CARGO) doc --quiet --no-deps --manifest-path bindings/Cargo.toml

@@ -166,10 +166,8 @@ fn of_failure(failure: &Failure) -> String {
         return text;
     }
     text += &format!(
-        "\nschedule {} of the search: {} steps, {} deviations; to run it again:\n  PUKZARN_SCHEDULE='{}'{}",
-        failure.report.schedules,
-        failure.steps.len(),
-        failure.deviations,
+        "\n{}; to run it again:\n  PUKZARN_SCHEDULE='{}'{}",
+        failure.summary(),
         failure.schedule,
         command_line()
     );

@@ -29,5 +29,8 @@ pub use stop::{Death, Restart, Stop};
 pub use stress::{Stress, stress};
 pub use tracee::Tracee;
 
+/// nix's Error.
+pub type Error = Errno;
+
 /// nix's Result: the error is an `Errno`.
 pub type Result<T> = std::result::Result<T, Errno>;

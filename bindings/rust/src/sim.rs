@@ -175,8 +175,7 @@ impl Sim {
         self.declared.borrow_mut().kills = Kills::MayHappen;
     }
 
-    /// At most so many waits that block may be answered EINTR, as by a signal that the tracer handles. In a model
-    /// alone.
+    /// At most so many waits that block may be answered EINTR, as by a signal that the tracer handles.
     ///
     /// ```
     /// use pukzarn::Errno;

@@ -28,11 +28,15 @@ impl fmt::Display for Coverage {
         match self {
             Coverage::All => f.write_str("all interleavings"),
             Coverage::Deviations(0) => f.write_str("the one without deviations"),
-            Coverage::Deviations(1) => f.write_str("all with at most 1 deviation"),
-            Coverage::Deviations(most) => write!(f, "all with at most {most} deviations"),
+            Coverage::Deviations(most) => write!(f, "all with at most {}", counted(u64::from(*most), "deviation")),
             Coverage::Part => f.write_str("not all"),
         }
     }
+}
+
+/// A number of things, as words.
+fn counted(number: u64, thing: &str) -> String {
+    format!("{number} {thing}{}", if number == 1 { "" } else { "s" })
 }
 
 /// What a search has done.
@@ -75,7 +79,8 @@ impl fmt::Display for Report {
         if self.shares == Shares::Sync {
             f.write_str(", if threads share only what is of pukzarn::sync")?;
         }
-        write!(f, ": {} schedules, {} steps, {:.2?}", self.schedules, self.steps, self.time)
+        let (schedules, steps) = (counted(self.schedules, "schedule"), counted(self.steps, "step"));
+        write!(f, ": {schedules}, {steps}, {:.2?}", self.time)
     }
 }
 
@@ -106,6 +111,23 @@ pub struct Failure {
 }
 
 impl Failure {
+    /// Which schedule of the search it is, and how long.
+    ///
+    /// ```
+    /// let failure = pukzarn::Builder::new()
+    ///     .explore(|sim| {
+    ///         sim.tracer("main", || panic!("a bug"));
+    ///         sim.run();
+    ///     })
+    ///     .unwrap_err();
+    /// assert_eq!(failure.summary(), "schedule 1 of the search: 0 steps, 0 deviations");
+    /// ```
+    pub fn summary(&self) -> String {
+        let steps = counted(self.steps.len() as u64, "step");
+        let deviations = counted(u64::from(self.deviations), "deviation");
+        format!("schedule {} of the search: {steps}, {deviations}", self.report.schedules)
+    }
+
     /// The line that runs this schedule again.
     ///
     /// ```
@@ -132,12 +154,7 @@ impl fmt::Display for Failure {
         for step in &self.steps {
             writeln!(f, "  {step}")?;
         }
-        let (number, steps) = (self.report.schedules, self.steps.len());
-        writeln!(
-            f,
-            "schedule {number} of the search: {steps} steps, {} deviations; to run it again:",
-            self.deviations
-        )?;
+        writeln!(f, "{}; to run it again:", self.summary())?;
         write!(f, "  {}", self.command())
     }
 }

@@ -6,8 +6,9 @@
 
 | What | Decides | Compared |
 |---|---|---|
-| the library example | crates/system_tests/src/readme.rt | README.md, its first block of Rust |
-| the same on two threads | crates/thread_tests/src/waits/two_tracers.rt | README.md, its second block of Rust |
+| a user's first test | bindings/rust/tests/page/tests.rs | README.md, its first block of Rust |
+| the library example | crates/system_tests/src/readme.rt | README.md, its second block of Rust |
+| the same on two threads | crates/thread_tests/src/waits/two_tracers.rt | README.md, its third block of Rust |
 | the loop of a small tracer | crates/thread_tests/src/waits/small_tracer.rt | docs/calls.md, its first block of Rust |
 | a debugger that changes a call | crates/thread_tests/src/waits/small_debugger.rt | docs/calls.md, its second one |
 | a small tracer in C | tests/c/small_tracer.c | docs/C.md, its block of C |
@@ -32,6 +33,7 @@ ROOT = pathlib.Path(__file__).resolve().parent.parent
 README, CALLS = "README.md", "docs/calls.md"
 TABLES, FORMATS, PAGE = "docs/formats/tables.md", "docs/FORMATS.md", "man/tracer.1"
 EXAMPLE, LOOP = "crates/system_tests/src/readme.rt", "crates/thread_tests/src/waits/small_tracer.rt"
+FIRST_TEST = "bindings/rust/tests/page/tests.rs"
 THREADS = "crates/thread_tests/src/waits/two_tracers.rt"
 CHANGE = "crates/thread_tests/src/waits/small_debugger.rt"
 C_PAGE, MODEL_PAGE = "docs/C.md", "docs/C_MODEL.md"
@@ -124,7 +126,7 @@ def is_within(part, whole):
 
 
 def code_faults(read):
-    for page, sources in [(README, [EXAMPLE, THREADS]), (CALLS, [LOOP, CHANGE])]:
+    for page, sources in [(README, [FIRST_TEST, EXAMPLE, THREADS]), (CALLS, [LOOP, CHANGE])]:
         blocks = blocks_of("rust", read(page))
         if len(blocks) != len(sources):
             yield f"{page}: it has {len(blocks)} blocks of Rust, and {len(sources)} are known"

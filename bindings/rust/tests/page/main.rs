@@ -4,36 +4,12 @@
 extern crate pukzarn as nix;
 
 mod mended;
+mod tests;
 mod tracer;
 
 use std::process::Command;
 
 const PAGE: &str = "docs/RUST.md";
-
-mod tests {
-    use crate::tracer::trace;
-    use nix::unistd::Pid;
-
-    #[test]
-    #[should_panic(expected = "a stop of 101, which nobody has announced")]
-    fn a_fork_is_traced() {
-        pukzarn::model(|sim| {
-            sim.case("tracee 100 100 100 0\nfork 101\nexit 0\nend\ntracee 101 101 100 100\nexit 0\nend\n").unwrap();
-            sim.tracer("main", || trace(Pid::from_raw(100)));
-            sim.run().assert_all_reaped();
-        });
-    }
-
-    #[test]
-    fn an_early_child_is_kept() {
-        let report = pukzarn::Builder::new().exhaustive().check(|sim| {
-            sim.case("tracee 100 100 100 0\nfork 101\nexit 0\nend\ntracee 101 101 100 100\nexit 0\nend\n").unwrap();
-            sim.tracer("main", || crate::mended::trace(Pid::from_raw(100)));
-            sim.run().assert_all_reaped();
-        });
-        crate::page_has(&format!("pukzarn: {}: {} schedules", report.coverage, report.schedules));
-    }
-}
 
 fn page(name: &str) -> String {
     let path = format!("{}/../../{name}", env!("CARGO_MANIFEST_DIR"));

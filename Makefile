@@ -346,7 +346,8 @@ rust-test: $(LIBRARY)
 
 bench-rust: $(LIBRARY)
 	@echo "bench-rust: timing schedules of a model and the hand-overs of a plain baton in turn (a minute)"
-	@$(IN_RUST) $(CARGO) run --quiet --release --manifest-path bench/schedules/Cargo.toml
+	@$(IN_RUST) $(CARGO) build --quiet --release --manifest-path bench/schedules/Cargo.toml
+	@taskset -c 0 $(CARGO_TARGET_DIR)/release/schedules
 
 include tools/c_model.mk
 

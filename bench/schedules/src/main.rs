@@ -1,5 +1,6 @@
 //! What a schedule of a model costs: the time that it takes, beside that of the same number of hand-overs of a plain
-//! baton between threads of std alone. Both are measured in turn, in one run, on one processor.
+//! baton between threads of std alone. Both are measured in turn, in one run, on one processor: `make bench-rust` gives
+//! the program one.
 
 use pukzarn::sys::ptrace;
 use pukzarn::sys::wait::{WaitStatus, waitpid};
@@ -101,12 +102,14 @@ fn measure(builder: &Builder, test: impl Fn(&Sim)) -> Measured {
     Measured { schedules: report.schedules, steps: report.steps, hand_overs, time }
 }
 
-/// The time of the baton, on one processor as a model is: in a model of no threads.
+/// The time of the baton, on one processor as a model is: by the usual policy of the scheduler, and by that of a model's
+/// threads, in a model of no threads. The faster one counts.
 fn time_of_baton(hand_overs: u64) -> Duration {
+    let usual = hand_baton(hand_overs);
     let time = Cell::new(Duration::ZERO);
     let alone = Builder { schedule: None, ..Builder::new() };
     alone.explore(|_| time.set(hand_baton(hand_overs))).expect("nothing can fail");
-    time.get()
+    usual.min(time.get())
 }
 
 /// A baton that two threads hand to each other by parking and unparking, and nothing else.

@@ -137,6 +137,20 @@ fn a_look_leaves_the_stop_to_a_later_wait() {
 }
 
 #[test]
+fn a_wait_for_stops_is_answered_no_death() {
+    traced(
+        |_| Ok(()),
+        || {
+            let exited = Ok(WaitStatus::Exited(ROOT, 0));
+            assert_eq!(waitid(Id::Pid(ROOT), WaitPidFlag::WEXITED | WaitPidFlag::WNOWAIT), exited);
+            // Nothing happens between these two.
+            assert_eq!(waitid(Id::All, WaitPidFlag::WSTOPPED), Err(Errno::ECHILD));
+            assert_eq!(waitid(Id::All, WaitPidFlag::WEXITED), exited);
+        },
+    );
+}
+
+#[test]
 fn nothing_is_answered_of_who_was_not_waited_for() {
     let tracee = |tracee: &mut Tracee| tracee.stop(Stop::Start).map(drop);
     traced(tracee, || {

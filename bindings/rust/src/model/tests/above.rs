@@ -197,6 +197,22 @@ fn a_wait_is_interrupted_so_often_as_is_said() {
 }
 
 #[test]
+fn a_script_takes_options_that_change_nothing() {
+    builder().exhaustive().check(|sim| {
+        sim.case(ONE_CALL).unwrap();
+        sim.tracer("main", || {
+            let pid = wait().unwrap().pid().unwrap();
+            let without_effect = Options::PTRACE_O_EXITKILL | Options::PTRACE_O_TRACEVFORK;
+            let options = Options::PTRACE_O_TRACESYSGOOD | Options::PTRACE_O_TRACEVFORKDONE | without_effect;
+            ptrace::setoptions(pid, options).unwrap();
+            ptrace::syscall(pid, None).unwrap();
+            assert_eq!(wait(), Ok(WaitStatus::PtraceSyscall(pid)));
+        });
+        sim.run();
+    });
+}
+
+#[test]
 fn only_the_thread_that_traces_restarts() {
     let builder = Builder { deadlocks: Deadlocks::End, ..builder() };
     builder.check(|sim| {

@@ -9,6 +9,7 @@ use crate::{Builder, Failure, Row, Shares, Sim, Stop};
 use std::sync::Arc;
 
 const LAST: i32 = 200;
+const TEXT: u64 = 0x1_0000;
 
 /// Two processes of two stops. The tracer does something where the second process stops first, and forgets it.
 fn second_first(sim: &Sim, does: impl Fn(Pid) + Send + 'static) {
@@ -17,9 +18,13 @@ fn second_first(sim: &Sim, does: impl Fn(Pid) + Send + 'static) {
         tracee.stop(Stop::Signal(crate::sys::signal::Signal::SIGUSR1)).map(drop)
     });
     sim.tracee(Row::root(LAST as u32), |tracee| {
+        tracee.map_memory(TEXT, 8)?;
         tracee.stop(Stop::Start)?;
         tracee.stop(Stop::Signal(crate::sys::signal::Signal::SIGUSR1))?;
+        let mut text = [0; 1];
+        tracee.read_memory(TEXT, &mut text);
         assert_ne!(tracee.registers().rax, 7, "the second process was first");
+        assert_ne!(text, [7], "the second process was first");
         Ok(())
     });
     sim.tracer("main", move || {
@@ -52,6 +57,18 @@ fn registers_that_were_set_count() {
                 let mut registers = ptrace::getregs(pid).unwrap();
                 registers.rax = 7;
                 ptrace::setregs(pid, registers).unwrap();
+            });
+        });
+        assert!(failure.cause.contains("the second process was first"), "{failure}");
+    }
+}
+
+#[test]
+fn memory_that_was_written_counts() {
+    for shares in [Shares::Memory, Shares::Sync] {
+        let failure = fault(Builder { shares, ..builder() }, |sim| {
+            second_first(sim, |pid| {
+                ptrace::write_word(pid, std::ptr::without_provenance_mut(TEXT as usize), 7).unwrap();
             });
         });
         assert!(failure.cause.contains("the second process was first"), "{failure}");

@@ -172,6 +172,35 @@ fn an_interrupt_stops_a_tracee_whose_thread_has_ended() {
 }
 
 #[test]
+fn an_interrupt_takes_no_stop_of_a_script_away() {
+    let interrupted = Arc::new(AtomicU64::new(0));
+    builder().exhaustive().check(|sim| {
+        sim.case(ONE_CALL).unwrap();
+        let of_tracer = interrupted.clone();
+        sim.tracer("main", move || {
+            let pid = wait().unwrap().pid().unwrap();
+            ptrace::syscall(pid, None).unwrap();
+            ptrace::interrupt(pid).unwrap();
+            let mut calls = 0;
+            while let Ok(status) = wait() {
+                match status {
+                    WaitStatus::Exited(..) => continue,
+                    WaitStatus::PtraceSyscall(_) => calls += 1,
+                    _ => {
+                        of_tracer.fetch_add(1, Ordering::SeqCst);
+                    }
+                }
+                ptrace::syscall(pid, None).unwrap();
+            }
+            // The entry and the exit of one, and the entry of exit.
+            assert_eq!(calls, 3);
+        });
+        sim.run().assert_all_reaped();
+    });
+    assert!(interrupted.load(Ordering::SeqCst) > 0);
+}
+
+#[test]
 fn a_wait_is_interrupted_so_often_as_is_said() {
     let interrupted = Arc::new(AtomicU64::new(0));
     let of_tracer = interrupted.clone();

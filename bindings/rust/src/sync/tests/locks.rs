@@ -113,6 +113,22 @@ fn a_wait_with_a_limit_ends_both_ways() {
 }
 
 #[test]
+fn a_wait_with_a_limit_that_finds_its_condition_at_last_has_not_timed_out() {
+    let ended = outcomes(|sim, outcome| {
+        let shared = Arc::new((Mutex::new(false), Condvar::new()));
+        let (other, outcome) = (Arc::clone(&shared), outcome.clone());
+        sim.tracer("waits", move || {
+            let limit = Duration::from_secs(1);
+            let waited = shared.1.wait_timeout_while(shared.0.lock().unwrap(), limit, |ready| !*ready);
+            let (ready, ended) = waited.unwrap();
+            outcome.put((*ready, ended.timed_out()));
+        });
+        sim.tracer("tells nobody", move || *other.0.lock().unwrap() = true);
+    });
+    assert_eq!(ended, BTreeSet::from([(false, true), (true, false)]));
+}
+
+#[test]
 fn two_locks_in_opposite_orders_are_a_deadlock() {
     let cause = cause(|sim| {
         let locks = Arc::new((Mutex::new(0), Mutex::new(0)));

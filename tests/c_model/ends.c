@@ -66,6 +66,39 @@ static void claimed(pukzarn_sim *sim, void *unused)
     CHECK(pukzarn_sim_phase(sim, 100), PUKZARN_CLAIMED);
 }
 
+/* Restarts a process that creates a thread and exits: it cannot end before the thread, which nobody restarts. */
+static void restart_the_leader(void *unused)
+{
+    (void)unused;
+    for (int i = 0; i < 2; i++) {
+        CHECK(waitpid(100, NULL, 0), 100);
+        CHECK(ptrace(PTRACE_CONT, 100, 0, 0), 0);
+    }
+}
+
+static void running(pukzarn_sim *sim, void *unused)
+{
+    pukzarn_sim_case(sim, "tracee 100 100 77 0\nthread 101\nexit 3\nend\ntracee 101 100 77 100\nexit 0\nend\n");
+    pukzarn_sim_tracer(sim, "main", restart_the_leader, unused);
+    CHECK(pukzarn_sim_run(sim), 2);
+    CHECK(pukzarn_sim_phase(sim, 100), PUKZARN_RUNNING);
+    CHECK(pukzarn_sim_phase(sim, 101), PUKZARN_STOPPED);
+}
+
+static void restart_once(void *unused)
+{
+    wait_once(unused);
+    CHECK(ptrace(PTRACE_CONT, 100, 0, 0), 0);
+}
+
+static void dead(pukzarn_sim *sim, void *unused)
+{
+    pukzarn_sim_case(sim, ONE_PROCESS);
+    pukzarn_sim_tracer(sim, "main", restart_once, unused);
+    CHECK(pukzarn_sim_run(sim), 1);
+    CHECK(pukzarn_sim_phase(sim, 100), PUKZARN_DEAD);
+}
+
 static void two_tracers(pukzarn_sim *sim, void *unused)
 {
     pukzarn_sim_case(sim, ONE_PROCESS);
@@ -177,6 +210,8 @@ int main(void)
     deadlocks();
     CHECK(pukzarn_model("phases", phases, NULL), 0);
     CHECK(pukzarn_model("claimed", claimed, NULL), 0);
+    CHECK(pukzarn_model("running", running, NULL), 0);
+    CHECK(pukzarn_model("dead", dead, NULL), 0);
     bounds_end_a_search();
     CHECK(pukzarn_model("one_traces", one_traces, NULL), 1);
     CHECK(has_printed("ptrace(PTRACE_CONT, pid, 0, 0) == 0"), 1);

@@ -46,9 +46,11 @@ static void supervisor(void *supervised)
     int how = ((struct supervised *)supervised)->kills, answer = 0;
     if (how == BY_KILL)
         answer = kill(100, SIGKILL);
-    else if (how == BY_TGKILL)
+    else if (how == BY_TGKILL) {
+        CHECK_ERRNO(tgkill(0, 100, SIGKILL), EINVAL);
+        CHECK_ERRNO(tgkill(100, 0, SIGKILL), EINVAL);
         answer = tgkill(100, 100, SIGKILL);
-    else if (how == BY_NUMBER)
+    } else if (how == BY_NUMBER)
         answer = (int)syscall(SYS_tkill, 100, SIGKILL);
     else
         answer = (int)ptrace(PTRACE_KILL, 100, 0, 0);

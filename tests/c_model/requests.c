@@ -128,6 +128,14 @@ static void refusals(void)
     CHECK_ERRNO(ptrace(PTRACE_SYSCALL, -100, 0, 0), ESRCH);
     CHECK_ERRNO(ptrace(PTRACE_CONT, 100, 0, 65), EIO);
     CHECK_ERRNO(ptrace(PTRACE_SETOPTIONS, 100, 0, 0x40000000), EINVAL);
+    CHECK_ERRNO(ptrace(PTRACE_GETREGS, 100, 0, NULL), EFAULT);
+    CHECK_ERRNO(ptrace(PTRACE_SETREGS, 100, 0, NULL), EFAULT);
+    CHECK_ERRNO(ptrace(PTRACE_GETEVENTMSG, 100, 0, NULL), EFAULT);
+    CHECK_ERRNO(ptrace(PTRACE_GETREGSET, 100, NT_PRSTATUS, NULL), EFAULT);
+    /* Who is not stopped is refused before an argument is. */
+    CHECK_ERRNO(ptrace(PTRACE_CONT, 999, 0, 65), ESRCH);
+    CHECK_ERRNO(ptrace(PTRACE_SETOPTIONS, 999, 0, 0x40000000), ESRCH);
+    CHECK_ERRNO(ptrace(PTRACE_SETREGS, 999, 0, NULL), ESRCH);
     CHECK(regs.rip, 0xabababababababab);
 }
 

@@ -40,6 +40,29 @@ static void workers(pukzarn_sim *sim, void *forgets)
     PUKZARN_CHECK(pukzarn_sim_run(sim) == 0);
 }
 
+/* The bytes that are not forgotten count: in which order two stops were answered. */
+static int order[2];
+
+static void forgets_all_but_the_order(void *unused)
+{
+    (void)unused;
+    for (int i = 0; i < 2; i++)
+        order[i] = waitpid(-1, NULL, __WALL);
+    pukzarn_forget(order, sizeof order);
+    for (int pid = 100; pid <= 101; pid++)
+        PUKZARN_CHECK(ptrace(PTRACE_CONT, pid, 0, 0) == 0);
+    while (waitpid(-1, NULL, __WALL) > 0)
+        ;
+    PUKZARN_CHECK(order[0] == 100 && order[1] == 101);
+}
+
+static void ordered(pukzarn_sim *sim, void *unused)
+{
+    pukzarn_sim_case(sim, "tracee 100 100 77 0\nexit 3\nend\ntracee 101 101 77 0\nexit 0\nend\n");
+    pukzarn_sim_tracer(sim, "main", forgets_all_but_the_order, unused);
+    pukzarn_sim_run(sim);
+}
+
 /* Two reapers of one zombie: each looks at the death, and expects to reap it. */
 static void reap(void *mended)
 {
@@ -141,6 +164,8 @@ int main(void)
     forgets = 1;
     CHECK(pukzarn_model("workers_forget", workers, &forgets), 0);
     CHECK(has_printed("as far as `pukzarn_forget` holds"), 1);
+    CHECK(pukzarn_model("ordered", ordered, NULL), 1);
+    CHECK(has_printed("order[0] == 100 && order[1] == 101"), 1);
     CHECK(pukzarn_model("reapers", reapers, NULL), 1);
     CHECK(pukzarn_model("reapers_mended", reapers, "mended"), 0);
     CHECK(has_printed("all interleavings"), 1);

@@ -116,6 +116,31 @@ fn an_interrupt_stops_a_tracee_before_its_next_stop_or_comes_too_late() {
 }
 
 #[test]
+fn a_wait_is_interrupted_so_often_as_is_said_at_most() {
+    let most = Arc::new(AtomicU32::new(0));
+    let count = most.clone();
+    stress(ROUNDS, move |sim| {
+        let count = count.clone();
+        sim.eintrs(2);
+        sim.tracee(Row::root(100), |tracee| tracee.stop(Stop::Start).map(drop));
+        sim.tracer("main", move || {
+            let mut interrupted = 0;
+            loop {
+                match wait() {
+                    Ok(WaitStatus::Exited(..)) => {}
+                    Ok(status) => ptrace::cont(status.pid().expect("a stop"), None).expect("it was claimed"),
+                    Err(Errno::EINTR) => interrupted += 1,
+                    Err(_) => break,
+                }
+            }
+            count.fetch_max(interrupted, SeqCst);
+        });
+        sim.run().assert_all_reaped();
+    });
+    assert_eq!(most.load(SeqCst), 2);
+}
+
+#[test]
 fn the_only_tracer_restarts_a_stop_that_another_thread_was_answered() {
     stress(ROUNDS, |sim| {
         sim.only_tracer("main");
@@ -124,6 +149,7 @@ fn the_only_tracer_restarts_a_stop_that_another_thread_was_answered() {
         sim.tracer("waiter", move || {
             let pid = Pid::from_raw(100);
             assert!(matches!(waitpid(pid, None), Ok(WaitStatus::PtraceEvent(..))));
+            assert_eq!(ptrace::getregs(pid), Err(Errno::ESRCH));
             assert_eq!(ptrace::cont(pid, None), Err(Errno::ESRCH));
             to_main.send(pid).expect("the other lives");
             assert_eq!(waitpid(pid, None), Ok(WaitStatus::Exited(pid, 0)));
@@ -143,6 +169,23 @@ fn the_only_tracer_restarts_a_stop_that_nobody_was_answered() {
             while ptrace::cont(pid, None) == Err(Errno::ESRCH) {
                 thread::yield_now();
             }
+            assert_eq!(wait(), Ok(WaitStatus::Exited(pid, 0)));
+        });
+        sim.run().assert_all_reaped();
+    });
+}
+
+#[test]
+fn the_only_tracer_looks_at_a_stop_that_nobody_was_answered() {
+    stress(ROUNDS, |sim| {
+        sim.only_tracer("main");
+        sim.tracee(Row::root(100), |tracee| tracee.stop(Stop::Start).map(drop));
+        sim.tracer("main", || {
+            let pid = Pid::from_raw(100);
+            while ptrace::getevent(pid) == Err(Errno::ESRCH) {
+                thread::yield_now();
+            }
+            ptrace::cont(pid, None).expect("it is stopped");
             assert_eq!(wait(), Ok(WaitStatus::Exited(pid, 0)));
         });
         sim.run().assert_all_reaped();

@@ -93,6 +93,15 @@ mod tests {
     }
 
     #[test]
+    fn the_name_of_a_test_may_have_the_signs_of_a_schedule() {
+        for name in ["a#1", "a#b", "#", "case 1,2.1"] {
+            let place = Place { test: name.into(), number: 3 };
+            let text = spell(&place, &decisions(&[(1, 0)]));
+            assert_eq!(parse(&text), Some((place, decisions(&[(1, 0)]))), "{text}");
+        }
+    }
+
+    #[test]
     fn what_is_no_schedule_is_refused() {
         for text in
             ["", "1,2.1", "a#1", "a#x:1", "a#1:", "a#1:1,,2", "a#1:1.", "a#1:1x", "a#1:x2", "a#1:-1", "a#1:70000"]

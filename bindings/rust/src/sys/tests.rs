@@ -137,6 +137,40 @@ fn a_look_leaves_the_stop_to_a_later_wait() {
 }
 
 #[test]
+fn a_wait_for_stops_is_answered_no_death() {
+    traced(
+        |_| Ok(()),
+        || {
+            let exited = Ok(WaitStatus::Exited(ROOT, 0));
+            assert_eq!(waitid(Id::Pid(ROOT), WaitPidFlag::WEXITED | WaitPidFlag::WNOWAIT), exited);
+            // Nothing happens between these two.
+            assert_eq!(waitid(Id::All, WaitPidFlag::WSTOPPED), Err(Errno::ECHILD));
+            assert_eq!(waitid(Id::All, WaitPidFlag::WEXITED), exited);
+        },
+    );
+}
+
+#[test]
+fn a_poll_is_answered_any_tracee_that_is_stopped() {
+    let answered = std::sync::Mutex::new(std::collections::BTreeSet::new());
+    crate::Builder::new().exhaustive().check(|sim| {
+        for pid in [ROOT, CHILD] {
+            sim.tracee(Row::root(pid.as_raw() as u32), |tracee| tracee.stop(Stop::Start).map(drop));
+        }
+        let (put, got) = std::sync::mpsc::channel();
+        sim.tracer("main", move || {
+            for pid in [ROOT, CHILD] {
+                waitid(Id::Pid(pid), WaitPidFlag::WSTOPPED | WaitPidFlag::WNOWAIT).unwrap();
+            }
+            put.send(waitpid(None, Some(WaitPidFlag::WNOHANG)).unwrap().pid()).unwrap();
+        });
+        sim.run();
+        answered.lock().unwrap().extend(got.try_iter());
+    });
+    assert_eq!(answered.into_inner().unwrap(), std::collections::BTreeSet::from([Some(ROOT), Some(CHILD)]));
+}
+
+#[test]
 fn nothing_is_answered_of_who_was_not_waited_for() {
     let tracee = |tracee: &mut Tracee| tracee.stop(Stop::Start).map(drop);
     traced(tracee, || {

@@ -1,8 +1,9 @@
 //! What is above the board: kills, interrupts, EINTR, and the one thread that traces.
 
 use super::{ONE_CALL, builder};
-use crate::sys::ptrace;
-use crate::sys::wait::{WaitStatus, wait};
+use crate::sys::ptrace::{self, Event, Options};
+use crate::sys::signal::{SIGTRAP, SIGUSR1};
+use crate::sys::wait::{WaitStatus, wait, waitpid};
 use crate::unistd::Pid;
 use crate::{Builder, Deadlocks, Death, Row, Stop};
 use std::sync::Arc;
@@ -58,6 +59,101 @@ fn a_group_that_exits_takes_its_stopped_threads_along() {
 }
 
 #[test]
+fn who_dies_with_its_group_dies_so_though_it_is_killed_then() {
+    builder().exhaustive().check(|sim| {
+        sim.kills();
+        sim.tracee(Row::root(100), |tracee| {
+            tracee.stop(Stop::Clone(101))?;
+            tracee.exit_group(3);
+            Ok(())
+        });
+        sim.tracee(Row::thread(101, 100, 100), |tracee| tracee.stop(Stop::Start).map(drop));
+        sim.tracer("main", || {
+            let (leader, thread) = (Pid::from_raw(100), Pid::from_raw(101));
+            waitpid(leader, None).unwrap();
+            ptrace::cont(leader, None).unwrap();
+            // Its stop goes where its group exits.
+            let Ok(WaitStatus::PtraceEvent(..)) = waitpid(thread, None) else { return };
+            while ptrace::getregs(thread).is_ok() {
+                crate::thread::yield_now();
+            }
+            ptrace::kill(thread).unwrap();
+            assert_eq!(waitpid(thread, None), Ok(WaitStatus::Exited(thread, 3)));
+        });
+        sim.run();
+    });
+}
+
+#[test]
+fn who_is_killed_makes_no_stop_any_more() {
+    builder().exhaustive().check(|sim| {
+        sim.kills();
+        sim.tracee(Row::root(100), |tracee| tracee.stop(Stop::Start).map(drop));
+        sim.tracer("main", || {
+            let pid = wait().unwrap().pid().unwrap();
+            ptrace::cont(pid, None).unwrap();
+            ptrace::interrupt(pid).unwrap();
+            ptrace::kill(pid).unwrap();
+            let status = wait().unwrap();
+            assert!(matches!(status, WaitStatus::Exited(..) | WaitStatus::Signaled(..)), "{status:?}");
+        });
+        sim.run().assert_all_reaped();
+    });
+}
+
+#[test]
+fn a_child_has_the_options_of_its_parent() {
+    builder().exhaustive().check(|sim| {
+        sim.tracee(Row::root(100), |tracee| {
+            tracee.stop(Stop::Start)?;
+            tracee.stop(Stop::Fork(101)).map(drop)
+        });
+        sim.tracee(Row::child(101, 100), |tracee| tracee.stop(Stop::Start).map(drop));
+        sim.tracer("main", || {
+            let (parent, child) = (Pid::from_raw(100), Pid::from_raw(101));
+            waitpid(parent, None).unwrap();
+            ptrace::setoptions(parent, Options::PTRACE_O_TRACEFORK | Options::PTRACE_O_TRACEEXIT).unwrap();
+            ptrace::cont(parent, None).unwrap();
+            waitpid(parent, None).unwrap();
+            waitpid(child, None).unwrap();
+            ptrace::cont(child, None).unwrap();
+            let ends = Event::PTRACE_EVENT_EXIT as i32;
+            assert_eq!(waitpid(child, None), Ok(WaitStatus::PtraceEvent(child, SIGTRAP, ends)));
+        });
+        sim.run();
+    });
+}
+
+#[test]
+fn each_of_two_interrupts_stops_a_tracee_before_its_next_stop() {
+    let most = Arc::new(AtomicU64::new(0));
+    builder().exhaustive().check(|sim| {
+        sim.tracee(Row::root(100), |tracee| tracee.stop(Stop::Signal(SIGUSR1)).map(drop));
+        let of_tracer = most.clone();
+        sim.tracer("main", move || {
+            let pid = Pid::from_raw(100);
+            let (mut interrupts, mut signals) = (0, 0);
+            ptrace::interrupt(pid).unwrap();
+            loop {
+                match wait().unwrap() {
+                    WaitStatus::Exited(..) => break,
+                    WaitStatus::Stopped(..) => signals += 1,
+                    _ => interrupts += 1,
+                }
+                ptrace::cont(pid, None).unwrap();
+                if signals == 0 && interrupts == 1 {
+                    ptrace::interrupt(pid).unwrap();
+                }
+            }
+            assert_eq!(signals, 1);
+            of_tracer.fetch_max(interrupts, Ordering::SeqCst);
+        });
+        sim.run().assert_all_reaped();
+    });
+    assert_eq!(most.load(Ordering::SeqCst), 2);
+}
+
+#[test]
 fn an_interrupt_stops_a_tracee_whose_thread_has_ended() {
     builder().exhaustive().check(|sim| {
         sim.tracee(Row::root(100), |tracee| tracee.stop(Stop::Start).map(drop));
@@ -73,6 +169,35 @@ fn an_interrupt_stops_a_tracee_whose_thread_has_ended() {
         });
         sim.run().assert_all_reaped();
     });
+}
+
+#[test]
+fn an_interrupt_takes_no_stop_of_a_script_away() {
+    let interrupted = Arc::new(AtomicU64::new(0));
+    builder().exhaustive().check(|sim| {
+        sim.case(ONE_CALL).unwrap();
+        let of_tracer = interrupted.clone();
+        sim.tracer("main", move || {
+            let pid = wait().unwrap().pid().unwrap();
+            ptrace::syscall(pid, None).unwrap();
+            ptrace::interrupt(pid).unwrap();
+            let mut calls = 0;
+            while let Ok(status) = wait() {
+                match status {
+                    WaitStatus::Exited(..) => continue,
+                    WaitStatus::PtraceSyscall(_) => calls += 1,
+                    _ => {
+                        of_tracer.fetch_add(1, Ordering::SeqCst);
+                    }
+                }
+                ptrace::syscall(pid, None).unwrap();
+            }
+            // The entry and the exit of one, and the entry of exit.
+            assert_eq!(calls, 3);
+        });
+        sim.run().assert_all_reaped();
+    });
+    assert!(interrupted.load(Ordering::SeqCst) > 0);
 }
 
 #[test]
@@ -98,6 +223,22 @@ fn a_wait_is_interrupted_so_often_as_is_said() {
         sim.run().assert_all_reaped();
     });
     assert_eq!(interrupted.load(Ordering::SeqCst), 2);
+}
+
+#[test]
+fn a_script_takes_options_that_change_nothing() {
+    builder().exhaustive().check(|sim| {
+        sim.case(ONE_CALL).unwrap();
+        sim.tracer("main", || {
+            let pid = wait().unwrap().pid().unwrap();
+            let without_effect = Options::PTRACE_O_EXITKILL | Options::PTRACE_O_TRACEVFORK;
+            let options = Options::PTRACE_O_TRACESYSGOOD | Options::PTRACE_O_TRACEVFORKDONE | without_effect;
+            ptrace::setoptions(pid, options).unwrap();
+            ptrace::syscall(pid, None).unwrap();
+            assert_eq!(wait(), Ok(WaitStatus::PtraceSyscall(pid)));
+        });
+        sim.run();
+    });
 }
 
 #[test]

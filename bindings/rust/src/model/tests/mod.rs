@@ -120,6 +120,20 @@ fn a_deadlock_says_who_waits_for_what() {
 }
 
 #[test]
+fn a_deadlock_that_ends_the_run_says_who_waits() {
+    Builder { deadlocks: Deadlocks::End, ..builder() }.check(|sim| {
+        sim.case(ONE_CALL).unwrap();
+        sim.tracer("ends", || {
+            let _ = waitpid(None, Some(WaitPidFlag::WNOHANG));
+        });
+        sim.tracer("waits", || while wait().is_ok() {});
+        let end = sim.run();
+        assert_eq!(end.waiting, ["waits"]);
+        assert!(matches!(end.phase(100), Some(Phase::Claimed { .. })));
+    });
+}
+
+#[test]
 fn two_locks_in_two_orders_are_a_deadlock() {
     let failure = builder()
         .explore(|sim| {

@@ -77,6 +77,17 @@ fn a_receiver_that_goes_is_seen() {
 }
 
 #[test]
+fn a_receiver_that_goes_is_seen_by_who_waits_for_a_place() {
+    let sent = outcomes(|sim, outcome| {
+        let (sender, receiver) = sync_channel(1);
+        let outcome = outcome.clone();
+        sim.tracer("sends", move || outcome.put((sender.send(1).is_ok(), sender.send(2).is_ok())));
+        sim.tracer("goes", move || drop(receiver));
+    });
+    assert_eq!(sent, BTreeSet::from([(false, false), (true, false)]));
+}
+
+#[test]
 fn a_channel_without_places_hands_over() {
     let order = outcomes(|sim, outcome| {
         let (sender, receiver) = sync_channel(0);

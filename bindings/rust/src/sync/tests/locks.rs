@@ -2,7 +2,7 @@
 
 use super::{cause, outcomes};
 use crate::sync::atomic::{AtomicUsize, Ordering::SeqCst};
-use crate::sync::{Arc, Condvar, Mutex, RwLock};
+use crate::sync::{Arc, Condvar, Mutex, RwLock, RwLockWriteGuard};
 use crate::thread;
 use std::collections::BTreeSet;
 use std::time::Duration;
@@ -76,6 +76,29 @@ fn a_notification_may_wake_either_thread() {
 }
 
 #[test]
+fn a_notification_of_all_wakes_each_thread() {
+    let woken = outcomes(|sim, outcome| {
+        let shared = Arc::new((Mutex::new(0), Condvar::new()));
+        for name in ["first", "second"] {
+            let (shared, outcome) = (Arc::clone(&shared), outcome.clone());
+            sim.tracer(name, move || {
+                let mut guard = shared.0.lock().unwrap();
+                *guard += 1;
+                drop(shared.1.wait(guard).unwrap());
+                outcome.put(name);
+            });
+        }
+        sim.tracer("notifies", move || {
+            while *shared.0.lock().unwrap() < 2 {
+                thread::yield_now();
+            }
+            shared.1.notify_all();
+        });
+    });
+    assert_eq!(woken, BTreeSet::from(["first", "second"]));
+}
+
+#[test]
 fn a_wait_with_a_limit_ends_both_ways() {
     let ended = outcomes(|sim, outcome| {
         let shared = Arc::new((Mutex::new(()), Condvar::new()));
@@ -87,6 +110,22 @@ fn a_wait_with_a_limit_ends_both_ways() {
         sim.tracer("notifies", move || other.1.notify_one());
     });
     assert_eq!(ended, BTreeSet::from([false, true]));
+}
+
+#[test]
+fn a_wait_with_a_limit_that_finds_its_condition_at_last_has_not_timed_out() {
+    let ended = outcomes(|sim, outcome| {
+        let shared = Arc::new((Mutex::new(false), Condvar::new()));
+        let (other, outcome) = (Arc::clone(&shared), outcome.clone());
+        sim.tracer("waits", move || {
+            let limit = Duration::from_secs(1);
+            let waited = shared.1.wait_timeout_while(shared.0.lock().unwrap(), limit, |ready| !*ready);
+            let (ready, ended) = waited.unwrap();
+            outcome.put((*ready, ended.timed_out()));
+        });
+        sim.tracer("tells nobody", move || *other.0.lock().unwrap() = true);
+    });
+    assert_eq!(ended, BTreeSet::from([(false, true), (true, false)]));
 }
 
 #[test]
@@ -156,4 +195,27 @@ fn readers_go_together_and_a_writer_alone() {
         });
     });
     assert_eq!(together, BTreeSet::from([(0, 1), (0, 2), (2, 1), (2, 2)]));
+}
+
+#[test]
+fn a_writer_that_reads_on_lets_readers_in_and_no_writer() {
+    let seen = outcomes(|sim, outcome| {
+        let (lock, reads_on) = (Arc::new(RwLock::new(0)), Arc::new(AtomicUsize::new(0)));
+        let (read, other, reads) = (Arc::clone(&lock), Arc::clone(&lock), Arc::clone(&reads_on));
+        let outcome = outcome.clone();
+        sim.tracer("reads on", move || {
+            let mut guard = lock.write().unwrap();
+            *guard = 1;
+            let guard = RwLockWriteGuard::downgrade(guard);
+            reads_on.store(1, SeqCst);
+            assert_eq!(*guard, 1);
+            reads_on.store(0, SeqCst);
+        });
+        sim.tracer("reads", move || {
+            let guard = read.read().unwrap();
+            outcome.put((*guard, reads.load(SeqCst)));
+        });
+        sim.tracer("writes", move || *other.write().unwrap() *= 3);
+    });
+    assert_eq!(seen, BTreeSet::from([(0, 0), (1, 0), (1, 1), (3, 0)]));
 }

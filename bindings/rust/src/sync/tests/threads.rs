@@ -104,6 +104,20 @@ fn a_word_is_not_lost_before_its_park() {
 }
 
 #[test]
+fn a_thread_that_hands_itself_out_is_woken() {
+    let woken = outcomes(|sim, outcome| {
+        let outcome = outcome.clone();
+        sim.tracer("main", move || {
+            let this = thread::current();
+            let other = thread::spawn(move || this.unpark());
+            thread::park();
+            outcome.put(other.join().is_ok());
+        });
+    });
+    assert_eq!(woken, BTreeSet::from([true]));
+}
+
+#[test]
 fn a_thread_may_be_found_running_or_ended() {
     let ended = outcomes(|sim, outcome| {
         let outcome = outcome.clone();

@@ -67,7 +67,7 @@ impl Stress {
     /// assert_eq!(pukzarn::Stress::new().rounds, 1_000);
     /// ```
     pub fn new() -> Stress {
-        Stress { rounds: 1_000, yields: 4, patience: Duration::from_secs(2), seed: 1 }
+        Stress { rounds: 1_000, yields: 4, patience: Duration::from_secs(20), seed: 1 }
     }
 
     /// Runs the rounds, and panics at the first that fails.

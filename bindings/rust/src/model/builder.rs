@@ -113,7 +113,7 @@ impl Builder {
             max_steps: 10_000,
             idle_polls: 1,
             schedule: variable("PUKZARN_SCHEDULE"),
-            patience: Duration::from_secs(5),
+            patience: Duration::from_secs(30),
         }
     }
 

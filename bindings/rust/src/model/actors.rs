@@ -91,6 +91,7 @@ impl State {
             idled,
             chain: 0,
         });
+        self.preferences.add_actor(actor);
         self.announce(actor, op);
         actor
     }

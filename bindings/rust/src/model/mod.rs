@@ -14,6 +14,7 @@ mod decisions;
 mod hash;
 mod objects;
 mod pins;
+mod preferences;
 mod report;
 mod run;
 mod schedule;

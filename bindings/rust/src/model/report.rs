@@ -16,8 +16,9 @@ use std::time::Duration;
 pub enum Coverage {
     /// All interleavings.
     All,
-    /// All with at most this many deviations: decisions that are not the first one, which is that the thread that made
-    /// the last call goes on, and that a wait is answered the first tracee.
+    /// All with at most this many deviations: decisions that are not the first one: that a tracee acts before the tracer's
+    /// threads, the first of each before the others, and that a wait is answered the first tracee. Who was taken in
+    /// the place of another is preferred to it from then on.
     Deviations(u32),
     /// Less than that: one schedule was asked for, or `max_schedules` were tried.
     Part,

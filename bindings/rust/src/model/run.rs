@@ -37,6 +37,7 @@ const LOOK: Duration = Duration::from_millis(100);
 impl Model {
     pub(super) fn new(builder: &Arc<Builder>, crew: &Arc<Crew>, search: Search, declared: Declared) -> Arc<Model> {
         let mut state = State::new(builder.clone(), Tracees::open(&declared), search);
+        state.preferences.begin(state.tracees.rows.len());
         declare(&mut state, declared);
         let schedule = SCHEDULES.fetch_add(1, Ordering::Relaxed) + 1;
         let (crew, tester) = (crew.clone(), std::thread::current());

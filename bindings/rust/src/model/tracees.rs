@@ -148,6 +148,13 @@ impl Tracees {
         rows
     }
 
+    /// The first rows that a wait may be answered now, so many, in the order of the rows.
+    pub(super) fn rows_of_wait(&mut self, request: Request, count: usize) -> &[u32] {
+        let rows = self.board.waitable(request.idtype, request.id, request.options, &mut self.answered);
+        debug_assert!(rows.is_ok_and(|rows| rows >= count));
+        &self.answered[..count]
+    }
+
     /// Answers a wait by one of the rows that it may be answered. Without WNOWAIT the tracer claims its stop or death.
     pub(super) fn answer(&mut self, request: Request, which: usize, tracer: u32) -> Result<Waited, Errno> {
         self.board.waitable(request.idtype, request.id, request.options, &mut self.answered)?;

@@ -61,7 +61,7 @@ pub struct Stress {
 }
 
 impl Stress {
-    /// 1,000 rounds, in which one call in 4 yields, with a patience of 2 seconds.
+    /// 1,000 rounds, in which one call in 4 yields, with a patience of 20 seconds.
     ///
     /// ```
     /// assert_eq!(pukzarn::Stress::new().rounds, 1_000);

@@ -40,7 +40,7 @@ pub fn two_processes(sim: &Sim, tracer: fn()) {
 }
 
 #[test]
-#[should_panic(expected = "its stop was claimed: ESRCH")]
+#[should_panic(expected = "nobody restarts it")]
 fn the_stop_that_was_seen_is_served_and_not_the_one_that_was_claimed() {
     model(|sim| two_processes(sim, serves_what_it_saw));
 }

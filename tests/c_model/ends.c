@@ -80,6 +80,7 @@ static void bounds_end_a_search(void)
     bounds.schedules = 3;
     CHECK(pukzarn_model_within(&bounds, "few", two_tracers, NULL), 0);
     CHECK(has_printed("3 schedules"), 1);
+    CHECK(has_printed("or raise the number of schedules (PUKZARN_SCHEDULES)"), 1);
     CHECK(strstr(printed(), "all interleavings") == NULL, 1);
     bounds.reach = PUKZARN_ALL;
     CHECK(pukzarn_model_within(&bounds, "few", two_tracers, NULL), 1);
@@ -89,6 +90,7 @@ static void bounds_end_a_search(void)
     bounds.deviations = 1;
     CHECK(pukzarn_model_within(&bounds, "one_deviation", two_tracers, NULL), 0);
     CHECK(has_printed("all with at most 1 deviation"), 1);
+    CHECK(has_printed("PUKZARN_DEVIATIONS"), 1);
     bounds.deviations = PUKZARN_WIDENING;
     bounds.shares = PUKZARN_SHARE_NOTHING;
     bounds.schedules = 1000000;

@@ -181,6 +181,9 @@ fn of_failure(failure: &Failure) -> String {
         failure.schedule,
         command_line()
     );
+    if let Some(cause) = failure.cause_again() {
+        text += &format!("\n{}", in_c(&cause));
+    }
     text
 }
 

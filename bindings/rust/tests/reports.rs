@@ -170,6 +170,25 @@ fn exhaustive_fails_where_schedules_are_left() {
 }
 
 #[test]
+fn a_long_text_ends_with_its_cause() {
+    let of_steps = |most: u32| {
+        failure_of(move |sim| {
+            short_process(sim, 100);
+            let turns = AtomicU32::new(0);
+            sim.tracer("main", move || {
+                while turns.fetch_add(1, Ordering::SeqCst) < most {}
+                panic!("it is lost");
+            });
+            sim.run();
+        })
+    };
+    let long = of_steps(30).to_string();
+    assert!(long.starts_with("thread `main` panicked: it is lost\n"), "{long}");
+    assert!(long.ends_with(" -- --exact\nthe cause, as above: thread `main` panicked: it is lost"), "{long}");
+    assert_eq!(of_steps(3).to_string().matches("it is lost").count(), 1);
+}
+
+#[test]
 fn three_schedules_of_many() {
     Builder { max_schedules: 3, deviations: None, schedule: None, ..Builder::new() }.check(two_processes);
 }

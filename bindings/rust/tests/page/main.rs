@@ -3,6 +3,8 @@
 
 extern crate pukzarn as nix;
 
+mod calls;
+mod forgets;
 mod mended;
 mod tests;
 mod tracer;

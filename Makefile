@@ -334,7 +334,7 @@ RUST_MANIFESTS = bindings/Cargo.toml examples/rust/counter/Cargo.toml bench/sche
 
 rust-test: $(LIBRARY)
 	@echo "rust-test: layout, lints, tests and pages of the crate for Rust, and its example (three minutes)"
-	@for manifest in $(RUST_MANIFESTS) examples/rust/counter/linux/Cargo.toml; do \
+	@for manifest in $(RUST_MANIFESTS) examples/rust/counter/linux/Cargo.toml bindings/nix_stub/Cargo.toml; do \
 		$(CARGO) fmt --all --check --manifest-path $$manifest || exit 1; done
 	@for manifest in $(RUST_MANIFESTS); do \
 		$(IN_RUST) $(CARGO) clippy --quiet --tests --manifest-path $$manifest -- -D warnings || exit 1; done

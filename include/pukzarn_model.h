@@ -98,7 +98,8 @@ void pukzarn_sim_tracer(pukzarn_sim *sim, const char *name, void (*body)(void *)
  * are PTRACE_O_TRACESYSGOOD, PTRACE_O_TRACEFORK, PTRACE_O_TRACECLONE and PTRACE_O_TRACEEXEC. */
 void pukzarn_sim_options(pukzarn_sim *sim, unsigned options);
 
-/* A tracer may kill tracees by SIGKILL, so that a stop may be gone at each ptrace call (ESRCH). */
+/* A tracer may kill tracees by SIGKILL, so that a stop may be gone at each ptrace call (ESRCH). It kills nobody by
+ * itself: a thread of the tracer calls kill(2). */
 void pukzarn_sim_kills(pukzarn_sim *sim);
 
 /* So many waits that would block may be answered EINTR in place of blocking, as by a signal that the tracer handles. */

@@ -11,7 +11,7 @@ MODEL_EXPORTS = $(MODEL_CALLS:%=__wrap_%) \
 
 # Nothing is global but what the header has and the calls' replacements. Its own calls of std are the real ones.
 c-model: $(LIBRARY)
-	@echo "c-model: building $(MODEL_LIBRARY), with $(LIBRARY) inside (some seconds; at first a minute)"
+	@echo "c-model: building $(MODEL_LIBRARY), with $(LIBRARY) inside (some seconds; at first up to two minutes)"
 	@$(IN_RUST) $(CARGO) build --quiet --release --package pukzarn_model --manifest-path bindings/Cargo.toml
 	@mkdir -p $(dir $(MODEL_LIBRARY)) && rm -f $(MODEL_LIBRARY)
 	@ld -r --gc-sections $(MODEL_EXPORTS:%=-u %) -T tools/c_model.ld -o $(MODEL_LIBRARY:.a=.o) \
@@ -46,7 +46,7 @@ $(MODEL_LIBRARY):
 	@$(MAKE) --no-print-directory c-model
 
 c-model-test: c-model
-	@echo "c-model-test: building and running the programs of tests/c_model (a minute)"
+	@echo "c-model-test: building and running the programs of tests/c_model (a minute or two)"
 	@mkdir -p $(MODEL_OUT)
 	@echo '#include <pukzarn_model.h>' | $(CXX) -std=c++17 -Wall -Wextra -Werror -Iinclude -fsyntax-only -x c++ -
 	@$(MAKE) --no-print-directory $(MODEL_TESTS)

@@ -113,6 +113,7 @@ static void bounds_end_a_search(void)
     bounds.schedules = 3;
     CHECK(pukzarn_model_within(&bounds, "few", two_tracers, NULL), 0);
     CHECK(has_printed("3 schedules"), 1);
+    CHECK(has_printed("or raise the number of schedules (PUKZARN_SCHEDULES)"), 1);
     CHECK(strstr(printed(), "all interleavings") == NULL, 1);
     bounds.reach = PUKZARN_ALL;
     CHECK(pukzarn_model_within(&bounds, "few", two_tracers, NULL), 1);
@@ -122,6 +123,7 @@ static void bounds_end_a_search(void)
     bounds.deviations = 1;
     CHECK(pukzarn_model_within(&bounds, "one_deviation", two_tracers, NULL), 0);
     CHECK(has_printed("all with at most 1 deviation"), 1);
+    CHECK(has_printed("PUKZARN_DEVIATIONS"), 1);
     bounds.deviations = PUKZARN_WIDENING;
     bounds.shares = PUKZARN_SHARE_NOTHING;
     bounds.schedules = 1000000;
@@ -178,6 +180,20 @@ static void with_other_bits(pukzarn_sim *sim, void *unused)
     pukzarn_sim_options(sim, 0x40000000);
 }
 
+/* A text of many steps ends with its cause once more. */
+static void trace_and_fail(void *unused)
+{
+    trace(unused);
+    pukzarn_fail("all was traced");
+}
+
+static void many_steps(pukzarn_sim *sim, void *unused)
+{
+    pukzarn_sim_case(sim, TWO_PROCESSES);
+    pukzarn_sim_tracer(sim, "main", trace_and_fail, unused);
+    pukzarn_sim_run(sim);
+}
+
 /* An exit within the C library ends the program, but is no success. */
 static void gives_up(void *unused)
 {
@@ -218,6 +234,8 @@ int main(void)
     CHECK(pukzarn_model("with_options", with_options, NULL), 0);
     CHECK(pukzarn_model("with_other_bits", with_other_bits, NULL), 1);
     CHECK(has_printed("0x40000000 has bits of no option"), 1);
+    CHECK(pukzarn_model("many_steps", many_steps, NULL), 1);
+    CHECK(has_printed("\nthe cause, as above: thread `main` failed: all was traced\n"), 1);
     CHECK(pukzarn_model_printed(cut, 0), (long)strlen(printed()));
     CHECK(cut[0], 'z');
     CHECK(pukzarn_model_printed(cut, 4), (long)strlen(printed()));

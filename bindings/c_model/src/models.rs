@@ -112,7 +112,7 @@ pub(crate) fn run(bounds: Bounds, name: &str, test: impl Fn(&Simulation<'_>) + S
         fail(format!("the model {name} is run within a test"));
     }
     let (code, found) = match search(bounds, name, test) {
-        Ok(report) => (0, in_c(&report.to_string())),
+        Ok(report) => (0, report),
         Err(failure) => (1, failure),
     };
     let text = format!("pukzarn: {name}: {found}\n");
@@ -121,11 +121,15 @@ pub(crate) fn run(bounds: Bounds, name: &str, test: impl Fn(&Simulation<'_>) + S
     code
 }
 
-/// Searches in a thread of the test's name, by which the crate knows the test.
-fn search(bounds: Bounds, name: &str, test: impl Fn(&Simulation<'_>) + Send) -> Result<Report, String> {
+/// Searches in a thread of the test's name, by which the crate knows the test. Answers what it reports.
+fn search(bounds: Bounds, name: &str, test: impl Fn(&Simulation<'_>) + Send) -> Result<String, String> {
     prepare();
     let of_schedule = move |sim: &Sim| place::at(Place::Test, || test(&Simulation::new(sim)));
-    let body = move || bounds.builder()?.explore(of_schedule).map_err(|failure| of_failure(&failure));
+    let body = move || {
+        let builder = bounds.builder()?;
+        let report = builder.explore(of_schedule).map_err(|failure| of_failure(&failure))?;
+        Ok(of_report(&builder, &report))
+    };
     let searched = thread::scope(|scope| {
         let started = thread::Builder::new().name(name.to_string()).spawn_scoped(scope, body);
         started.map(|thread| thread.join())
@@ -156,6 +160,12 @@ fn of_panic(panic: &(dyn Any + Send)) -> String {
     text.or_else(|| panic.downcast_ref::<String>().cloned()).unwrap_or_else(|| "a panic without a text".to_string())
 }
 
+/// How far a model came, and where it left something out, what would have more tried.
+fn of_report(builder: &Builder, report: &Report) -> String {
+    let advice = builder.advice(report).map_or(String::new(), |advice| format!(". {advice}"));
+    in_c(&format!("{report}{advice}"))
+}
+
 /// What failed, its steps, and the line that runs this program's schedule again, where it is one.
 fn of_failure(failure: &Failure) -> String {
     let mut text = in_c(&failure.cause);
@@ -171,6 +181,9 @@ fn of_failure(failure: &Failure) -> String {
         failure.schedule,
         command_line()
     );
+    if let Some(cause) = failure.cause_again() {
+        text += &format!("\n{}", in_c(&cause));
+    }
     text
 }
 

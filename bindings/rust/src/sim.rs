@@ -155,14 +155,20 @@ impl Sim {
     /// Some thread may kill a tracee, or a tracee ends its thread group: each ptrace call is then a step of its own,
     /// since the stop may be gone. In a model alone.
     ///
+    /// It kills nobody by itself. A further thread of the tracer does, as in the example, or the tracer's own code, or a
+    /// tracee's `exit_group`. `only_tracer` goes with it where threads of the tracer kill: they then restart nobody, as
+    /// on Linux.
+    ///
     /// ```
+    /// use pukzarn::sys::signal::{Signal, kill};
     /// use pukzarn::sys::{ptrace, wait};
     /// use pukzarn::unistd::Pid;
     ///
     /// pukzarn::model(|sim| {
     ///     sim.kills();
+    ///     sim.only_tracer("main");
     ///     sim.case("tracee 100 100 100 0\nexit 0\nend\n").unwrap();
-    ///     sim.tracer("killer", || drop(ptrace::kill(Pid::from_raw(100))));
+    ///     sim.tracer("killer", || { let _ = kill(Pid::from_raw(100), Signal::SIGKILL); });
     ///     sim.tracer("main", || {
     ///         while let Ok(status) = wait::wait() {
     ///             let _ = ptrace::cont(status.pid().unwrap(), None);

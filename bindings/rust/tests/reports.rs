@@ -6,6 +6,7 @@ use pukzarn::sys::ptrace;
 use pukzarn::sys::wait::{WaitPidFlag, WaitStatus, waitpid};
 use pukzarn::unistd::Pid;
 use pukzarn::{Builder, Coverage, Failure, Report, Row, Shares, Sim, Stop};
+use std::process::Command;
 use std::sync::Arc;
 use std::time::Duration;
 
@@ -166,6 +167,62 @@ fn exhaustive_fails_where_schedules_are_left() {
     builder.exhaustive().explore(two_processes).expect_err("not all were tried");
     let report = Builder::new().exhaustive().explore(two_processes).expect("all were tried");
     assert_eq!(report.coverage, Coverage::All);
+}
+
+#[test]
+fn a_long_text_ends_with_its_cause() {
+    let of_steps = |most: u32| {
+        failure_of(move |sim| {
+            short_process(sim, 100);
+            let turns = AtomicU32::new(0);
+            sim.tracer("main", move || {
+                while turns.fetch_add(1, Ordering::SeqCst) < most {}
+                panic!("it is lost");
+            });
+            sim.run();
+        })
+    };
+    let long = of_steps(30).to_string();
+    assert!(long.starts_with("thread `main` panicked: it is lost\n"), "{long}");
+    assert!(long.ends_with(" -- --exact\nthe cause, as above: thread `main` panicked: it is lost"), "{long}");
+    assert_eq!(of_steps(3).to_string().matches("it is lost").count(), 1);
+}
+
+#[test]
+fn three_schedules_of_many() {
+    Builder { max_schedules: 3, deviations: None, schedule: None, ..Builder::new() }.check(two_processes);
+}
+
+#[test]
+fn at_most_one_deviation() {
+    Builder { deviations: Some(1), schedule: None, ..Builder::new() }.check(two_processes);
+}
+
+#[test]
+fn all_of_them() {
+    Builder { deviations: None, schedule: None, ..Builder::new() }.check(two_processes);
+}
+
+/// What a test of this program prints on standard error where it passes and its output is not asked for.
+fn passes_and_prints(test: &str) -> String {
+    let mut command = Command::new(std::env::current_exe().expect("this program has a name"));
+    command.args([test, "--exact"]).env_remove("RUST_TEST_NOCAPTURE");
+    let output = command.output().expect("this program runs again");
+    assert!(output.status.success(), "{test} passes");
+    String::from_utf8(output.stderr).expect("text")
+}
+
+#[test]
+fn a_test_that_passes_says_so_where_not_all_was_tried() {
+    let bounded = passes_and_prints("three_schedules_of_many");
+    assert!(bounded.starts_with("pukzarn: three_schedules_of_many#1: "), "{bounded}");
+    for word in ["3 schedules", "smaller", "pukzarn::forget", "PUKZARN_SCHEDULES"] {
+        assert!(bounded.contains(word), "no {word:?} in:\n{bounded}");
+    }
+    let shallow = passes_and_prints("at_most_one_deviation");
+    assert!(shallow.contains("all with at most 1 deviation: "), "{shallow}");
+    assert!(shallow.contains("PUKZARN_DEVIATIONS"), "{shallow}");
+    assert_eq!(passes_and_prints("all_of_them"), "");
 }
 
 #[test]

@@ -1,8 +1,10 @@
 //! How a model is searched.
 
-use super::report::{Failure, Report};
+use super::report::{Coverage, Failure, Report};
+use super::schedule::Place;
 use super::search;
 use crate::sim::Sim;
+use std::io::Write;
 use std::str::FromStr;
 use std::time::Duration;
 
@@ -126,7 +128,8 @@ impl Builder {
         Builder { effort: Effort::All, ..self }
     }
 
-    /// Runs a simulation under every interleaving of its calls, and panics at the first that fails.
+    /// Runs a simulation under every interleaving of its calls, and panics at the first that fails. Where not all were
+    /// tried, it says so on standard error, past what a test's harness keeps back of a test that passes.
     ///
     /// ```
     /// pukzarn::Builder::new().check(|sim| {
@@ -136,13 +139,20 @@ impl Builder {
     /// ```
     #[track_caller]
     pub fn check(&self, test: impl Fn(&Sim)) -> Report {
-        match self.explore(test) {
-            Ok(report) => {
-                eprintln!("pukzarn: {report}");
-                report
-            }
+        let place = Place::ahead();
+        let report = match self.explore(test) {
+            Ok(report) => report,
             Err(failure) => panic!("pukzarn: {failure}"),
+        };
+        match self.advice(&report) {
+            None => eprintln!("pukzarn: {report}"),
+            // A harness keeps back what eprintln! writes.
+            Some(advice) => {
+                let line = format!("pukzarn: {place}: {report}. {advice}\n");
+                drop(std::io::stderr().write_all(line.as_bytes()));
+            }
         }
+        report
     }
 
     /// The same, and answers the first failure.
@@ -156,6 +166,32 @@ impl Builder {
     /// ```
     pub fn explore(&self, test: impl Fn(&Sim)) -> Result<Report, Failure> {
         search::explore(self, &test)
+    }
+
+    /// What a report has left out, and what would have more tried. None where all interleavings were tried.
+    ///
+    /// ```
+    /// use pukzarn::{Builder, Coverage};
+    ///
+    /// let builder = Builder::new();
+    /// let report = builder.check(|sim| drop(sim.run()));
+    /// assert_eq!(builder.advice(&report), None);
+    /// let bounded = pukzarn::Report { coverage: Coverage::Deviations(3), ..report };
+    /// assert!(builder.advice(&bounded).is_some());
+    /// ```
+    pub fn advice(&self, report: &Report) -> Option<&'static str> {
+        if report.coverage == Coverage::All {
+            None
+        } else if self.schedule.is_some() && report.schedules == 1 {
+            Some("PUKZARN_SCHEDULE asks for this schedule alone")
+        } else if self.deviations.is_some() && report.schedules < self.max_schedules {
+            Some("Schedules with more deviations were not tried: raise `deviations` (PUKZARN_DEVIATIONS)")
+        } else {
+            Some(
+                "Not all were tried: make the case smaller, say at the heads of loops what counts (pukzarn::forget), \
+                 or raise max_schedules (PUKZARN_SCHEDULES)",
+            )
+        }
     }
 }
 

@@ -143,7 +143,30 @@ impl Failure {
         let test = self.schedule.rsplit_once('#').map_or("", |(test, _)| test);
         format!("PUKZARN_SCHEDULE='{}' cargo test {test} -- --exact", self.schedule)
     }
+
+    /// The cause in short, for the end of a text that is longer than a screen, above which the cause stands. None where
+    /// the steps are few.
+    ///
+    /// ```
+    /// let mut failure = pukzarn::Builder::new().explore(|_| panic!("a bug\nand more")).unwrap_err();
+    /// assert_eq!(failure.cause_again(), None);
+    /// failure.steps = vec!["main       wait any 0: 100 stop 1 0x80057f".to_string(); 40];
+    /// assert_eq!(failure.cause_again().unwrap(), "the cause, as above: the test panicked: a bug ..");
+    /// ```
+    pub fn cause_again(&self) -> Option<String> {
+        if self.steps.len() < MANY_STEPS {
+            return None;
+        }
+        let short: String = self.cause.lines().next().unwrap_or_default().chars().take(SHORT_CAUSE).collect();
+        let more = if short.len() < self.cause.len() { " .." } else { "" };
+        Some(format!("the cause, as above: {short}{more}"))
+    }
 }
+
+/// A failure of so many steps may be longer than a screen.
+const MANY_STEPS: usize = 20;
+/// The characters of a cause in short.
+const SHORT_CAUSE: usize = 100;
 
 impl fmt::Display for Failure {
     fn fmt(&self, f: &mut fmt::Formatter<'_>) -> fmt::Result {
@@ -156,7 +179,8 @@ impl fmt::Display for Failure {
             writeln!(f, "  {step}")?;
         }
         writeln!(f, "{}; to run it again:", self.summary())?;
-        write!(f, "  {}", self.command())
+        write!(f, "  {}", self.command())?;
+        self.cause_again().map_or(Ok(()), |cause| write!(f, "\n{cause}"))
     }
 }
 

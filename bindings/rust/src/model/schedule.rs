@@ -22,15 +22,23 @@ pub(super) struct Place {
     pub(super) number: u32,
 }
 
+thread_local! {
+    /// How many models this thread has begun.
+    static MODELS: Cell<u32> = const { Cell::new(0) };
+}
+
 impl Place {
-    /// The next model of the calling thread.
-    pub(super) fn next() -> Place {
-        thread_local! {
-            static MODELS: Cell<u32> = const { Cell::new(0) };
-        }
-        MODELS.set(MODELS.get() + 1);
+    /// The model that the calling thread begins next.
+    pub(super) fn ahead() -> Place {
         let test = std::thread::current().name().unwrap_or("main").to_string();
-        Place { test, number: MODELS.get() }
+        Place { test, number: MODELS.get() + 1 }
+    }
+
+    /// The same, which begins now.
+    pub(super) fn next() -> Place {
+        let place = Place::ahead();
+        MODELS.set(place.number);
+        place
     }
 }
 

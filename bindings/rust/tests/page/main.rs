@@ -3,7 +3,10 @@
 
 extern crate pukzarn as nix;
 
+mod calls;
+mod forgets;
 mod mended;
+mod stub;
 mod tests;
 mod tracer;
 

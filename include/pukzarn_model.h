@@ -68,8 +68,8 @@ enum {
 /* How a model is searched. Begin with PUKZARN_BOUNDS, which pukzarn_model takes, and set what is to differ. */
 struct pukzarn_bounds {
     uint64_t schedules;  /* how many are run at most; 0: what PUKZARN_SCHEDULES says, or else 20,000 */
-    uint32_t deviations; /* the most decisions of a schedule that are not the first one, which is to go on with the
-                            thread that runs, and to be answered the first tracee; or PUKZARN_WIDENING */
+    uint32_t deviations; /* the most decisions of a schedule that are not the first one: tracees first, then threads,
+                            and a wait is answered the first tracee; each stays preferred; or PUKZARN_WIDENING */
     uint32_t reach;      /* PUKZARN_AS_BOUNDED, PUKZARN_ALL */
     uint32_t shares;     /* PUKZARN_SHARE_MEMORY, PUKZARN_SHARE_NOTHING */
     uint32_t deadlocks;  /* PUKZARN_DEADLOCK_FAILS, PUKZARN_DEADLOCK_ENDS */

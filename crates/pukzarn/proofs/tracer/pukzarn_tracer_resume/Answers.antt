@@ -11,8 +11,10 @@ pub returns : goal.returns
 returns c =
     elim c.match-deref_mut.branch [
       | in-Tracer w ↦
-          on_tracer _ _ _ _ w.in-Tracer.tracer (record { calls = w.tracer_resume.new.calls }) w.tracer_resume.result (search rules) (search rules)
-          (w.tracer_resume.ensures.table, subst (λ pid. IsRestartFor w.in-Tracer.tracer.calls w.tracer_resume.new.calls pid c.args.how.now w.tracer_resume.result)
-          (to_z-of_z w32 c.args.pid c.ranges.pid) w.tracer_resume.ensures.answer) (search rules)
+          on_tracer _ _ _ _ w.in-Tracer.tracer (record { calls = w.tracer_resume.new.calls }) w.tracer_resume.result (search rules) (search rules) (
+            w.tracer_resume.ensures.table,
+            subst (λ pid. IsRestartFor w.in-Tracer.tracer.calls w.tracer_resume.new.calls pid c.args.how.now w.tracer_resume.result)
+                (to_z-of_z w32 c.args.pid c.ranges.pid) w.tracer_resume.ensures.answer,
+          ) (search rules)
       | in_default-deref_mut w ↦ none_held ends.Tracer _ _ _ _ (search rules) (search rules) (search rules)
     ]

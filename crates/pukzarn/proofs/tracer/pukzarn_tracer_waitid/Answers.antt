@@ -11,8 +11,10 @@ pub returns : goal.returns
 returns c =
     elim c.match-deref_mut.branch [
       | in-Tracer w ↦
-          on_tracer _ _ _ _ w.in-Tracer.tracer (record { calls = w.tracer_waitid.new.calls }) w.tracer_waitid.result (search rules) (search rules)
-          (w.tracer_waitid.ensures.table, subst (λ id. IsWaitidFor c.args.idtype id c.args.options w.in-Tracer.tracer.calls w.tracer_waitid.new.calls
-          w.tracer_waitid.result) (to_z-of_z w32 c.args.id c.ranges.id) w.tracer_waitid.ensures.answer) (search rules)
+          on_tracer _ _ _ _ w.in-Tracer.tracer (record { calls = w.tracer_waitid.new.calls }) w.tracer_waitid.result (search rules) (search rules) (
+            w.tracer_waitid.ensures.table,
+            subst (λ id. IsWaitidFor c.args.idtype id c.args.options w.in-Tracer.tracer.calls w.tracer_waitid.new.calls
+                w.tracer_waitid.result) (to_z-of_z w32 c.args.id c.ranges.id) w.tracer_waitid.ensures.answer,
+          ) (search rules)
       | in_default-deref_mut w ↦ none_held ends.Tracer _ _ _ _ (search rules) (search rules) (search rules)
     ]

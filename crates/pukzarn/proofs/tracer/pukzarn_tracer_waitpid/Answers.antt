@@ -11,8 +11,10 @@ pub returns : goal.returns
 returns c =
     elim c.match-deref_mut.branch [
       | in-Tracer w ↦
-          on_tracer _ _ _ _ w.in-Tracer.tracer (record { calls = w.tracer_waitpid.new.calls }) w.tracer_waitpid.result (search rules) (search rules)
-          (w.tracer_waitpid.ensures.table, subst (λ pid. IsWaitpidFor pid c.args.options w.in-Tracer.tracer.calls w.tracer_waitpid.new.calls
-          w.tracer_waitpid.result) (to_z-of_z w32 c.args.pid c.ranges.pid) w.tracer_waitpid.ensures.answer) (search rules)
+          on_tracer _ _ _ _ w.in-Tracer.tracer (record { calls = w.tracer_waitpid.new.calls }) w.tracer_waitpid.result (search rules) (search rules) (
+            w.tracer_waitpid.ensures.table,
+            subst (λ pid. IsWaitpidFor pid c.args.options w.in-Tracer.tracer.calls w.tracer_waitpid.new.calls
+                w.tracer_waitpid.result) (to_z-of_z w32 c.args.pid c.ranges.pid) w.tracer_waitpid.ensures.answer,
+          ) (search rules)
       | in_default-deref_mut w ↦ none_held ends.Tracer _ _ _ _ (search rules) (search rules) (search rules)
     ]

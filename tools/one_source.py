@@ -7,10 +7,11 @@
 | What | Decides | Compared |
 |---|---|---|
 | the library example | crates/system_tests/src/readme.rt | README.md, its first block of Rust |
-| the same on two threads | crates/thread_tests/src/waits/two_tracers.rt | README.md, its second block of Rust |
-| the loop of a small tracer | crates/thread_tests/src/waits/small_tracer.rt | docs/calls.md, its first block of Rust |
-| a debugger that changes a call | crates/thread_tests/src/waits/small_debugger.rt | docs/calls.md, its second one |
+| the same on two threads | crates/call_tests/src/waits/two_tracers.rt | README.md, its second block of Rust |
+| the loop of a small tracer | crates/call_tests/src/waits/small_tracer.rt | docs/calls.md, its first block of Rust |
+| a debugger that changes a call | crates/call_tests/src/waits/small_debugger.rt | docs/calls.md, its second one |
 | a small tracer in C | tests/c/small_tracer.c | docs/C.md, its block of C |
+| how tests compare | crates/system_tests/src/compare.rt | the compare.rt of the other crates |
 | the version | crates/tracer_cli/src/arguments.rt | man/tracer.1 |
 | the system calls, with their arguments | crates/trace_options/src/syscall.rt | docs/formats/tables.md, man/tracer.1 |
 | the options of ptrace(2) | crates/trace_options/specs/Options.antt | options.rt, docs/formats/tables.md |
@@ -30,9 +31,11 @@ import sys
 ROOT = pathlib.Path(__file__).resolve().parent.parent
 README, CALLS = "README.md", "docs/calls.md"
 TABLES, FORMATS, PAGE = "docs/formats/tables.md", "docs/FORMATS.md", "man/tracer.1"
-EXAMPLE, LOOP = "crates/system_tests/src/readme.rt", "crates/thread_tests/src/waits/small_tracer.rt"
-THREADS = "crates/thread_tests/src/waits/two_tracers.rt"
-CHANGE = "crates/thread_tests/src/waits/small_debugger.rt"
+EXAMPLE, LOOP = "crates/system_tests/src/readme.rt", "crates/call_tests/src/waits/small_tracer.rt"
+THREADS = "crates/call_tests/src/waits/two_tracers.rt"
+CHANGE = "crates/call_tests/src/waits/small_debugger.rt"
+COMPARE = "crates/system_tests/src/compare.rt"
+COPIES = sorted(str(it.relative_to(ROOT)) for it in ROOT.glob("crates/*/src/**/compare.rt"))
 C_PAGE, C_TRACER = "docs/C.md", "tests/c/small_tracer.c"
 ARGUMENTS, SYSCALLS = "crates/tracer_cli/src/arguments.rt", "crates/trace_options/src/syscall.rt"
 OPTIONS, OPTION_BITS = "crates/trace_options/specs/Options.antt", "crates/trace_options/src/options.rt"
@@ -131,6 +134,12 @@ def code_faults(read):
                 yield f"{page}: its block of Rust number {number} is not in {source}"
     if blocks_of("c", read(C_PAGE)) != [lines_of(read(C_TRACER))]:
         yield f"{C_PAGE}: its block of C is not {C_TRACER}"
+
+
+def copy_faults(read):
+    for copy in COPIES:
+        if read(copy) != read(COMPARE):
+            yield f"{copy}: it is not {COMPARE}"
 
 
 def version_faults(read):
@@ -241,6 +250,7 @@ def bit_faults(read):
 
 PARTS = [
     code_faults,
+    copy_faults,
     version_faults,
     syscall_faults,
     option_faults,
@@ -259,6 +269,8 @@ CHANGES = [
     (CALLS, "calls.syscall(pid, signal)", "calls.cont(pid, signal)"),
     (CALLS, "regs.rdx = len", "regs.rsi = len"),
     (C_PAGE, "while ((pid = pukzarn_tracer_waitpid", "if ((pid = pukzarn_tracer_waitpid"),
+    (COPIES[0], "assert_eq!(rt; found, wanted);", "assert_eq!(rt; wanted, wanted);"),
+    (COPIES[-1], "assert!(rt; is_so, ", "assert!(rt; true, "),
     (PAGE, '"tracer 0', '"tracer 9'),
     (TABLES, "| 80 | chdir |", "| 81 | chdir |"),
     (TABLES, "| 83 | mkdir | `CString`, `Mode` |", "| 83 | mkdir | `CString` |"),

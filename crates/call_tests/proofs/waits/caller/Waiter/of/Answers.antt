@@ -15,7 +15,7 @@ nothing_held rows number (row ∷ numbers) = nothing_held rows number numbers
 
 pub invariant_of-result : goal.invariant_of-result
 invariant_of-result g c =
-    let s = c.args.self.now in
+    let s = c.args.cast.now in
     let k = length c.pop.new.self.items in
     let is : c.in-Some.tracer ≡ new_tracer s.unused.table_id s.roster k =
     s.tracers k c.in-Some.tracer

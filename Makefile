@@ -249,11 +249,11 @@ bench-explore: tools all
 	@$(PYTHON) bench/compare.py --runs 9 "bin/tracer explore" $(OUT)/plain_explore $(OUT)/commands.litmus
 
 # Which outcomes of a small program rounds of real threads had, and how often, in place of a time. Two tests of
-# thread_tests print it; each begins no round after 40 seconds.
+# outcome_tests print it; each begins no round after 40 seconds.
 bench-rounds: kit
 	@echo "bench-rounds: running 100,000 rounds of two threads, and as many of three (two to four minutes)"
 	@mkdir -p $(OUT)
-	@(cd crates/thread_tests && $(RT) try --test --seconds 300 -- explored::rounds) > $(OUT)/rounds.txt 2>&1 \
+	@(cd crates/outcome_tests && $(RT) try --test --seconds 300 -- explored::rounds) > $(OUT)/rounds.txt 2>&1 \
 	  || { cat $(OUT)/rounds.txt; echo "bench-rounds: FAILED: a test of the rounds did not pass" >&2; exit 1; }
 	@sed -n 's/^    \(.*rounds\|outcome\)/\1/p' $(OUT)/rounds.txt
 	@test "$$(grep -c '^    rounds of [23] threads: ' $(OUT)/rounds.txt)" -eq 2 \

@@ -7,7 +7,7 @@
 | What | Where | Not looked at |
 |---|---|---|
 | definitions | the modules of crates/*/specs/ | constructors and fields, which are known by their type |
-| types of Rust and traits | crates/*/src/ | tests, and crates of tests |
+| types of Rust and traits | crates/*/src/ | tests, and crates for tests |
 
 A type of Rust and a definition may share a name, as `Cut` and what contracts see of it. A name that has to stand for
 two things goes into `ALLOWED`, with the reason.
@@ -23,7 +23,7 @@ import rattle_source
 ROOT = pathlib.Path(__file__).resolve().parent.parent
 # Names that stand for two things, each with the reason.
 ALLOWED = {}
-TEST_CRATES = ("system_tests", "thread_tests")
+TEST_CRATES = ("system_tests", "test_support", "thread_tests", "outcome_tests", "call_tests", "script_tests")
 COMMENT = re.compile(r"(?m)(?:^|(?<=[\s(]))--(?=[\s-]|$)[^\n]*")
 # The head of a definition, or the signature of one that has no head.
 DEFINITION = re.compile(
@@ -49,7 +49,7 @@ def types_in(text):
 
 
 def is_for_tests(path, modules):
-    """Whether a source file is of a crate of tests, or is below a module that is compiled for tests alone."""
+    """Whether a source file is of a crate for tests, or is below a module that is compiled for tests alone."""
     _, crate, _, *rest = path.split("/")
     module = "/".join(rest).removesuffix(".rt")
     return crate in TEST_CRATES or any(module == it or module.startswith(f"{it}/") for it in modules[crate])

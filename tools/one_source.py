@@ -8,11 +8,12 @@
 |---|---|---|
 | a user's first test | bindings/rust/tests/page/tests.rs | README.md, its first block of Rust |
 | the library example | crates/system_tests/src/readme.rt | README.md, its second block of Rust |
-| the same on two threads | crates/thread_tests/src/waits/two_tracers.rt | README.md, its third block of Rust |
-| the loop of a small tracer | crates/thread_tests/src/waits/small_tracer.rt | docs/calls.md, its first block of Rust |
-| a debugger that changes a call | crates/thread_tests/src/waits/small_debugger.rt | docs/calls.md, its second one |
+| the same on two threads | crates/call_tests/src/waits/two_tracers.rt | README.md, its third block of Rust |
+| the loop of a small tracer | crates/call_tests/src/waits/small_tracer.rt | docs/calls.md, its first block of Rust |
+| a debugger that changes a call | crates/call_tests/src/waits/small_debugger.rt | docs/calls.md, its second one |
 | a small tracer in C | tests/c/small_tracer.c | docs/C.md, its block of C |
 | a tracer in C and its test | tests/c_model/early_child.c | docs/C_MODEL.md, its block of C |
+| how tests compare | crates/system_tests/src/compare.rt | the compare.rt of the other crates |
 | the version | crates/tracer_cli/src/arguments.rt | man/tracer.1 |
 | the system calls, with their arguments | crates/trace_options/src/syscall.rt | docs/formats/tables.md, man/tracer.1 |
 | the options of ptrace(2) | crates/trace_options/specs/Options.antt | options.rt, docs/formats/tables.md |
@@ -32,10 +33,12 @@ import sys
 ROOT = pathlib.Path(__file__).resolve().parent.parent
 README, CALLS = "README.md", "docs/calls.md"
 TABLES, FORMATS, PAGE = "docs/formats/tables.md", "docs/FORMATS.md", "man/tracer.1"
-EXAMPLE, LOOP = "crates/system_tests/src/readme.rt", "crates/thread_tests/src/waits/small_tracer.rt"
+EXAMPLE, LOOP = "crates/system_tests/src/readme.rt", "crates/call_tests/src/waits/small_tracer.rt"
 FIRST_TEST = "bindings/rust/tests/page/tests.rs"
-THREADS = "crates/thread_tests/src/waits/two_tracers.rt"
-CHANGE = "crates/thread_tests/src/waits/small_debugger.rt"
+THREADS = "crates/call_tests/src/waits/two_tracers.rt"
+CHANGE = "crates/call_tests/src/waits/small_debugger.rt"
+COMPARE = "crates/system_tests/src/compare.rt"
+COPIES = sorted(str(it.relative_to(ROOT)) for it in ROOT.glob("crates/*/src/**/compare.rt"))
 C_PAGE, MODEL_PAGE = "docs/C.md", "docs/C_MODEL.md"
 C_BLOCKS = ((C_PAGE, "tests/c/small_tracer.c"), (MODEL_PAGE, "tests/c_model/early_child.c"))
 ARGUMENTS, SYSCALLS = "crates/tracer_cli/src/arguments.rt", "crates/trace_options/src/syscall.rt"
@@ -136,6 +139,12 @@ def code_faults(read):
     for page, source in C_BLOCKS:
         if blocks_of("c", read(page)) != [lines_of(read(source))]:
             yield f"{page}: its block of C is not {source}"
+
+
+def copy_faults(read):
+    for copy in COPIES:
+        if read(copy) != read(COMPARE):
+            yield f"{copy}: it is not {COMPARE}"
 
 
 def version_faults(read):
@@ -246,6 +255,7 @@ def bit_faults(read):
 
 PARTS = [
     code_faults,
+    copy_faults,
     version_faults,
     syscall_faults,
     option_faults,
@@ -265,6 +275,7 @@ CHANGES = [
     (CALLS, "regs.rdx = len", "regs.rsi = len"),
     (C_PAGE, "while ((pid = pukzarn_tracer_waitpid", "if ((pid = pukzarn_tracer_waitpid"),
     (MODEL_PAGE, "return pid;", "return 0;"),
+| how tests compare | crates/system_tests/src/compare.rt | the compare.rt of the other crates |
     (PAGE, '"tracer 0', '"tracer 9'),
     (TABLES, "| 80 | chdir |", "| 81 | chdir |"),
     (TABLES, "| 83 | mkdir | `CString`, `Mode` |", "| 83 | mkdir | `CString` |"),

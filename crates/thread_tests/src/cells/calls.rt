@@ -1,14 +1,12 @@
 //! One thread that plays every actor.
 
-use crate::cells::cast::{Cast, Trio, open_for, open_trio, opened, stopped_trio};
-use crate::cells::desk::{Answer, CONT, Desk, START};
-use crate::cells::runner::AtRest;
+use crate::cells::trio::{Trio, open_trio, stopped_trio};
 use crate::compare::{holds, same};
-use crate::rows::{ROOT, THREAD, roots};
 use std::alloc::Allocator;
 use std::test::Fail;
 use stop_history::Roster;
-use stop_table::{OpenError, Shown, Start};
+use stop_table::{OpenError, Shown, Start, open};
+use test_support::{Answer, AtRest, CONT, Cast, Desk, ROOT, START, THREAD, open_for, roots};
 use trace_record::{Death, Kind, Resume, Stop};
 
 const SYSCALL: Resume = Resume {
@@ -155,6 +153,16 @@ fn a_death_is_left_by_claim_stop_and_claimed_by_claim(rt: HostRuntime) -> Result
     same(&rt, &first.look(0), &Shown::Reaped);
     same(&rt, &first.try_claim(0), &Answer::Nothing(Shown::Reaped));
     Ok(())
+}
+
+/// How many tracees and how many tracers an opening has.
+fn opened<A: Allocator + Copy, B: Allocator>(
+    alloc: A,
+    roster: &Roster<B>,
+    tracers: u32,
+) -> Result<(usize, usize), OpenError> {
+    let ends = open(alloc, roster, tracers)?;
+    Ok((ends.tracees.len(), ends.tracers.len()))
 }
 
 #[test]

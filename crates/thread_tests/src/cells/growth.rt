@@ -1,14 +1,12 @@
 //! Each growth of the opening refused in turn, until it is granted, and then the cells are used.
 
-use crate::cells::cast::{Cast, open_over};
-use crate::cells::desk::Answer;
 use crate::compare::same;
-use crate::rows::{ROOT, THREAD};
 use refusing_allocator::RefusingAllocator;
 use std::alloc::Allocator;
 use std::test::Fail;
 use stop_history::Roster;
 use stop_table::OpenError;
+use test_support::{Answer, Cast, ROOT, THREAD, open_over};
 use trace_record::Stop;
 
 /// More than the opening has growths.

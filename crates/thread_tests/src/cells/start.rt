@@ -1,13 +1,10 @@
 //! Whether a tracee may begin to run.
 
-use crate::cells::cast::open_for;
-use crate::cells::desk::{Answer, Desk};
-use crate::cells::runner::AtRest;
 use crate::compare::{holds, same};
-use crate::rows::{CHILD, ROOT, THREAD, family};
 use std::alloc::Allocator;
 use std::test::Fail;
 use stop_table::{Shown, Start};
+use test_support::{Answer, AtRest, CHILD, Desk, ROOT, THREAD, family, open_for};
 use trace_record::Stop;
 
 /// A parent, and its child, which is not born yet.

@@ -3,17 +3,14 @@
 
 ghost use Rattle.std.specs.Prelude.{◌≡◌};
 
-use crate::cells::cast::{Cast, open_for};
-use crate::cells::desk::{Answer, Desk};
-use crate::cells::runner::{AtRest, Running};
 use crate::compare::holds;
-use crate::rows::roots;
 use std::alloc::Global;
 use std::sync::Wait;
 use std::test::Fail;
 use std::thread;
 use std::thread::{JoinHandle, Threads};
 use stop_table::Shown;
+use test_support::{Answer, AtRest, Cast, Desk, have_lived, open_for, roots, runs_on};
 use trace_record::{Death, Stop};
 
 const TRACEES: u32 = 8;
@@ -95,18 +92,6 @@ fn trace<R: Wait>(rt: &R, mut desk: Desk, mut tally: Tally) -> (Desk, Tally)
         if claimed == 0 {
             thread::yield_now();
         }
-    }
-    unreachable!()
-}
-
-/// Waits until the row is to run.
-pub(crate) fn runs_on<R: Wait>(rt: &R, mut tracee: AtRest) -> Running {
-    for _ in rt.forever() {
-        match tracee.take_up() {
-            Ok(running) => return running,
-            Err(back) => tracee = back,
-        }
-        thread::yield_now();
     }
     unreachable!()
 }
@@ -205,15 +190,6 @@ fn start_all<R: Threads + Wait + AllocGlobal + Copy + Send + 'static>(
         tracees.push(thread)?;
     }
     Ok(tracees)
-}
-
-/// Whether the calls of each tracee did what they should.
-pub(crate) fn have_lived<R: Threads + Wait>(rt: &R, tracees: Vec<JoinHandle<bool>>) -> bool {
-    let mut lived = true;
-    for tracee in tracees {
-        lived = tracee.join(rt) && lived;
-    }
-    lived
 }
 
 /// Four tracers' threads, until all rows are reaped: one tracer for all, unless one of them has a claim left, and whether

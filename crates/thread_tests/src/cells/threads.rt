@@ -3,8 +3,7 @@
 ghost use Rattle.std.specs.Prelude.{◌≡◌, IfSome};
 ghost use Rattle.stop_table.specs.Handle.{IsHolding};
 
-use crate::cells::cast::{Trio, open_trio, stopped_trio};
-use crate::cells::desk::{CONT, Desk};
+use crate::cells::trio::{Trio, open_trio, stopped_trio};
 use crate::compare::same;
 use std::alloc::{Allocator, Global};
 use std::sync::Wait;
@@ -13,6 +12,7 @@ use std::test::Fail;
 use std::thread;
 use std::thread::Threads;
 use stop_table::{Claim, Shown, Taken};
+use test_support::{CONT, Desk};
 use trace_record::Stop;
 
 /// How many stops two threads claim at once.

@@ -275,7 +275,8 @@ CHANGES = [
     (CALLS, "regs.rdx = len", "regs.rsi = len"),
     (C_PAGE, "while ((pid = pukzarn_tracer_waitpid", "if ((pid = pukzarn_tracer_waitpid"),
     (MODEL_PAGE, "return pid;", "return 0;"),
-| how tests compare | crates/system_tests/src/compare.rt | the compare.rt of the other crates |
+    (COPIES[0], "assert_eq!(rt; found, wanted);", "assert_eq!(rt; wanted, wanted);"),
+    (COPIES[-1], "assert!(rt; is_so, ", "assert!(rt; true, "),
     (PAGE, '"tracer 0', '"tracer 9'),
     (TABLES, "| 80 | chdir |", "| 81 | chdir |"),
     (TABLES, "| 83 | mkdir | `CString`, `Mode` |", "| 83 | mkdir | `CString` |"),

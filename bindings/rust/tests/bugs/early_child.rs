@@ -8,7 +8,7 @@ use nix::{Row, Sim, Stop, model};
 use std::collections::{BTreeMap, BTreeSet};
 
 /// The child that a stop announces.
-fn announced(status: WaitStatus) -> Option<Pid> {
+pub fn announced(status: WaitStatus) -> Option<Pid> {
     match status {
         WaitStatus::PtraceEvent(pid, _, event) if event == Event::PTRACE_EVENT_FORK as i32 => {
             Some(Pid::from_raw(ptrace::getevent(pid).expect("the stop is claimed") as i32))

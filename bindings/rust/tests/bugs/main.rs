@@ -8,6 +8,7 @@ mod early_child;
 mod end_of_poll;
 mod interrupted;
 mod killed;
+mod late_event;
 mod looked_at;
 mod lost_wake_up;
 mod on_threads;

@@ -19,6 +19,10 @@ impl Baton {
     /// Hands the baton to the thread that waits here, or will.
     pub(super) fn pass(&self) {
         self.is_here.store(true, Ordering::Release);
+        if let Some(thread) = self.thread.get() {
+            thread.unpark();
+            return;
+        }
         // A thread that names itself here and finds no baton is seen below, or sees the baton.
         fence(Ordering::SeqCst);
         if let Some(thread) = self.thread.get() {
@@ -28,8 +32,11 @@ impl Baton {
 
     /// Waits for the baton. Always the same thread calls this.
     pub(super) fn wait(&self) {
-        self.thread.get_or_init(std::thread::current);
-        fence(Ordering::SeqCst);
+        // Later waits need no fence: who hands it here again has seen the name, since a lock was taken in between.
+        if self.thread.get().is_none() {
+            self.thread.get_or_init(std::thread::current);
+            fence(Ordering::SeqCst);
+        }
         while !self.is_here.swap(false, Ordering::Acquire) {
             std::thread::park();
         }

@@ -30,6 +30,13 @@ pub(crate) struct Request {
     pub(crate) blocks: bool,
 }
 
+impl Request {
+    /// Whether both are answered by the same rows.
+    pub(crate) fn asks_as(self, other: Request) -> bool {
+        (self.idtype, self.id, self.options) == (other.idtype, other.id, other.options)
+    }
+}
+
 /// Which stop a tracee has made.
 #[derive(Clone, Copy, Debug, PartialEq, Eq, Hash)]
 pub(crate) enum Published {

@@ -410,6 +410,11 @@ fn opened(answer: c_int, faulty: u32) -> Result<(), RowsRefused> {
 }
 
 impl Board {
+    /// One that is not open, and refuses each call.
+    pub(crate) fn closed() -> Board {
+        Board(CLOSED)
+    }
+
     pub(crate) fn open(rows: &[RowNumbers]) -> Result<Board, RowsRefused> {
         let (mut board, mut faulty) = (Board(CLOSED), NOT_FAULTY);
         // SAFETY: the handle is closed, and the slice has the length that is said; a slice's pointer is not null.

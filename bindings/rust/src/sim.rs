@@ -72,6 +72,15 @@ impl Declared {
             only_tracer: None,
         }
     }
+
+    /// Forgets all, and keeps the room of the lists.
+    pub(crate) fn clear(&mut self) {
+        let mut before = std::mem::replace(self, Declared::nothing());
+        before.rows.clear();
+        before.tracees.clear();
+        before.tracers.clear();
+        (self.rows, self.tracees, self.tracers) = (before.rows, before.tracees, before.tracers);
+    }
 }
 
 impl Sim {
@@ -82,6 +91,11 @@ impl Sim {
     /// What was declared, which is then no more there.
     pub(crate) fn take_declared(&self) -> Declared {
         self.declared.replace(Declared::nothing())
+    }
+
+    /// Calls with what is declared.
+    pub(crate) fn with_declared<T>(&self, call: impl FnOnce(&mut Declared) -> T) -> T {
+        call(&mut self.declared.borrow_mut())
     }
 
     /// The tracees of a case file, each of which follows its script.

@@ -44,11 +44,13 @@ pub(super) enum Life {
 }
 
 pub(super) struct Actor {
+    /// The name of a thread of the tracer.
     pub(super) name: String,
     pub(super) kind: Kind,
     /// The call that it is about to make; None while it runs.
     pub(super) op: Option<Op>,
-    pub(super) op_hash: u64,
+    /// A hash of that call, once it is asked for.
+    pub(super) op_hash: Option<u64>,
     pub(super) reply: Reply,
     /// Which stop it has made last, where it is a tracee that a closure plays.
     pub(super) published: Published,
@@ -62,6 +64,11 @@ pub(super) struct Actor {
 }
 
 impl Actor {
+    /// A hash of a call that it is about to make, or makes.
+    pub(super) fn hash_of_call(&mut self, op: &Op) -> u64 {
+        *self.op_hash.get_or_insert_with(|| hash_of(op))
+    }
+
     pub(super) fn is_done(&self) -> bool {
         self.life == Life::Done
     }
@@ -82,7 +89,7 @@ impl State {
             name,
             kind,
             op: None,
-            op_hash: 0,
+            op_hash: None,
             reply,
             published,
             last_act: None,
@@ -114,8 +121,9 @@ impl State {
 
     /// An actor is about to make a call.
     pub(super) fn announce(&mut self, actor: usize, op: Op) {
-        self.actors[actor].op = Some(op);
-        self.actors[actor].op_hash = hash_of(&op);
+        self.is_due |= matches!(op, Op::Start | Op::TakeUp(_));
+        let actor = &mut self.actors[actor];
+        (actor.op, actor.op_hash) = (Some(op), None);
     }
 
     /// An actor has come to its end.

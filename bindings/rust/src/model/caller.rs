@@ -5,7 +5,7 @@ use super::calls::{Op, Reply};
 use super::objects::ObjectNumber;
 use super::run::Model;
 use super::state::{State, Turn};
-use super::threads::{Baton, Seat};
+use super::threads::{Baton, Part, Seat};
 use super::watched::Watched;
 use crate::context::{
     self, Body, Calls, Enrolled, Identity, ModelCalls, Notify, Noun, Patience, Permits, Published, Request, Wakeup,
@@ -104,7 +104,7 @@ impl Caller {
 
     /// The number of an object, which has these permits where it is first used.
     fn object(&self, state: &mut State, identity: &Identity, permits: u32) -> ObjectNumber {
-        identity.number(self.model.schedule, || state.objects.add(permits))
+        identity.number(state.schedule, || state.objects.add(permits))
     }
 }
 
@@ -215,7 +215,7 @@ impl Calls for Caller {
     }
 
     fn spawn(&self, name: Option<String>, body: Body) -> usize {
-        self.model.lock().add_tracer(name, Seat::NotStarted(body))
+        self.model.lock().add_tracer(name, Seat::NotStarted(Part::Tracer(body)))
     }
 
     fn enroll(&self, name: Option<String>) -> (usize, Box<dyn Enrolled + Send>) {
@@ -306,6 +306,6 @@ struct OwnThread {
 impl Enrolled for OwnThread {
     fn run(self: Box<OwnThread>, body: Box<dyn FnOnce() + '_>) {
         self.baton.wait();
-        self.model.run_thread(self.actor, self.baton.clone(), body);
+        self.model.run_thread(self.actor, &self.baton, body);
     }
 }

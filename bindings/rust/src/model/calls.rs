@@ -7,7 +7,7 @@ use super::objects::ObjectNumber;
 use super::state::{CallsAre, State, Step};
 use crate::context::{Notify, Noun, Patience, Published, Request, Wakeup};
 use crate::errno::Errno;
-use crate::library::{RestartNumbers, StopNumbers, Waited, phase};
+use crate::library::{RestartNumbers, StopNumbers, Waited, kind, phase};
 
 /// A call that an actor is about to make. Rows and actors are their places.
 #[derive(Clone, Copy, Debug, PartialEq, Eq, Hash)]
@@ -85,7 +85,8 @@ impl State {
     pub(super) fn ways(&mut self, actor: usize, most_idle: u32) -> Ways {
         let Some(op) = self.actors[actor].op else { return Ways::default() };
         match op {
-            Op::TakeUp(row) => Ways::one_if(self.tracees.state(row).phase == phase::RUNNING),
+            // It has not begun to run: that is no decision.
+            Op::TakeUp(_) => Ways::default(),
             Op::Exit(row, _) => Ways::one_if(self.tracees.is_interrupted(row) || self.tracees.may_exit(row)),
             Op::Wait(request) => self.ways_of_wait(actor, request, most_idle),
             Op::Acquire(object, _, permits) => Ways::one_if(self.objects.has(object, permits)),
@@ -133,6 +134,7 @@ impl State {
     pub(super) fn make(&mut self, actor: usize, which: usize) {
         let op = self.actors[actor].op.take().expect("a call is announced");
         self.moves += 1;
+        self.is_due |= may_let_run(op);
         let reply = match op {
             Op::Start | Op::Access(..) | Op::Join(_) => Reply::Done,
             Op::TakeUp(row) => Reply::TakenUp(self.tracees.last_restart(row), self.actors[actor].published),
@@ -278,7 +280,7 @@ impl State {
         // What an access finds depends on who made those before it, not on what they were answered.
         let link = match accessed {
             Some(history) => mix(history, hash_of(&reply)),
-            None => mix(mix(actor as u64, self.actors[actor].op_hash), hash_of(&reply)),
+            None => mix(mix(actor as u64, self.actors[actor].hash_of_call(&op)), hash_of(&reply)),
         };
         self.chain(actor, link);
     }
@@ -286,6 +288,15 @@ impl State {
     /// A ptrace call that only this thread's own calls can change is no step.
     pub(super) fn is_immediate(&self) -> bool {
         self.calls_are == CallsAre::Immediate
+    }
+}
+
+/// Whether a call may let a tracee run that did not.
+fn may_let_run(op: Op) -> bool {
+    match op {
+        Op::Publish(_, stop) => matches!(stop.kind, kind::FORK | kind::CLONE),
+        Op::Restart(..) | Op::Kill(_) | Op::ExitGroup(..) => true,
+        _ => false,
     }
 }
 

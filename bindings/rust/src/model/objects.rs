@@ -23,6 +23,10 @@ pub(super) struct Objects {
 }
 
 impl Objects {
+    pub(super) fn clear(&mut self) {
+        self.all.clear();
+    }
+
     /// A new object with so many permits; its number.
     pub(super) fn add(&mut self, free: u32) -> ObjectNumber {
         self.all.push(Object { free, waiters: Vec::new(), holder: None, history: 0 });

@@ -6,60 +6,60 @@ use super::caller::Caller;
 use super::calls::Op;
 use super::decisions::Search;
 use super::scripts::Script;
-use super::state::{CallsAre, State, Turn};
-use super::threads::{Baton, Crew, Seat};
-use super::tracees::Tracees;
-use crate::context::{self, Body};
+use super::state::{CallsAre, Ending, State, Turn};
+use super::threads::{Baton, Part, Seat, Start};
+use crate::context;
 use crate::sim::{Declared, End, Follows, Kills};
-use crate::tracee::play;
 use std::cell::Cell;
 use std::panic::{AssertUnwindSafe, catch_unwind};
 use std::rc::Rc;
-use std::sync::atomic::{AtomicU64, Ordering};
 use std::sync::{Arc, Mutex, MutexGuard, PoisonError};
 use std::thread::Thread;
 use std::time::{Duration, Instant};
 
+/// The schedules of one search, one after another.
 pub(super) struct Model {
     state: Mutex<State>,
-    crew: Arc<Crew>,
     /// The thread of the test.
     tester: Thread,
-    /// The number of the schedule, from 1, over all models of the process.
-    pub(super) schedule: u64,
 }
-
-static SCHEDULES: AtomicU64 = AtomicU64::new(0);
 
 /// How often the test's thread looks whether anything goes on.
 const LOOK: Duration = Duration::from_millis(100);
 
 impl Model {
-    pub(super) fn new(builder: &Arc<Builder>, crew: &Arc<Crew>, search: Search, declared: Declared) -> Arc<Model> {
-        let mut state = State::new(builder.clone(), Tracees::open(&declared), search);
-        state.preferences.begin(state.tracees.rows.len());
-        declare(&mut state, declared);
-        let schedule = SCHEDULES.fetch_add(1, Ordering::Relaxed) + 1;
-        let (crew, tester) = (crew.clone(), std::thread::current());
-        Arc::new(Model { state: Mutex::new(state), crew, tester, schedule })
+    /// Before its first schedule. The calling thread is the test's.
+    pub(super) fn new(builder: &Arc<Builder>) -> Arc<Model> {
+        let state = Mutex::new(State::new(builder.clone()));
+        Arc::new(Model { state, tester: std::thread::current() })
     }
 
     pub(super) fn lock(&self) -> MutexGuard<'_, State> {
         self.state.lock().unwrap_or_else(PoisonError::into_inner)
     }
 
-    /// Runs the schedule to its end.
-    pub(super) fn run(self: &Arc<Model>) -> End {
+    /// Begins a schedule of what is declared.
+    pub(super) fn begin(&self, search: Search, declared: &mut Declared) {
+        let mut state = self.lock();
+        state.begin(search);
+        declare(&mut state, declared);
+    }
+
+    /// Runs the schedule to its end. None where it did not finish.
+    pub(super) fn run(self: &Arc<Model>) -> Option<End> {
         let mut state = self.lock();
         let turn = state.advance();
         self.hand_over(None, state, turn);
         self.watch();
         let mut state = self.lock();
-        let end = End { tracees: state.tracees.phases(), waiting: std::mem::take(&mut state.waiting) };
+        let is_finished = matches!(state.ending, Some(Ending::Finished));
+        let end =
+            is_finished.then(|| End { tracees: state.tracees.phases(), waiting: std::mem::take(&mut state.waiting) });
         // What was never started, as of a tracee that was not born, may own what the test looks at next.
-        let seats: Vec<Seat> = state.actors.iter_mut().map(|actor| std::mem::take(&mut actor.seat)).collect();
+        let left = state.actors.iter_mut().filter(|actor| matches!(actor.seat, Seat::NotStarted(_)));
+        let left: Vec<Seat> = left.map(|actor| std::mem::take(&mut actor.seat)).collect();
         drop(state);
-        drop(seats);
+        drop(left);
         end
     }
 
@@ -75,15 +75,14 @@ impl Model {
             baton.pass();
             return;
         }
-        let reserved = self.crew.reserve();
-        let baton = reserved.baton().clone();
-        let before = std::mem::replace(&mut state.actors[actor].seat, Seat::Started(baton.clone()));
-        let Seat::NotStarted(body) = before else { unreachable!("the turn of an actor without a thread") };
+        let threads = state.builder.threads;
+        let reserved = state.crew.reserve(threads);
+        let before = std::mem::replace(&mut state.actors[actor].seat, Seat::Started(reserved.baton().clone()));
+        let Seat::NotStarted(part) = before else { unreachable!("the turn of an actor without a thread") };
         state.live += 1;
-        let name = reserved.is_new().then(|| state.actors[actor].name.clone());
+        let name = reserved.is_new().then(|| state.name_of(actor).into_owned());
         drop(state);
-        let model = self.clone();
-        reserved.start(name, Box::new(move || model.run_thread(actor, baton, body)));
+        reserved.start(name, Start { model: self.clone(), actor, part });
     }
 
     /// Wakes all threads that wait for the baton, but `from`, so that they end. This happens once in a schedule.
@@ -100,14 +99,16 @@ impl Model {
     }
 
     /// Runs the body of an actor, whose thread has the baton, and hands the baton on.
-    pub(super) fn run_thread(self: &Arc<Model>, actor: usize, baton: Arc<Baton>, body: Box<dyn FnOnce() + '_>) {
+    pub(super) fn run_thread(self: &Arc<Model>, actor: usize, baton: &Arc<Baton>, body: impl FnOnce()) {
         let ended = if self.lock().is_over() {
             Ok(())
         } else {
-            let caller = Rc::new(Caller { model: self.clone(), actor, baton, restart: Cell::new(None) });
+            let (model, baton, restart) = (self.clone(), baton.clone(), Cell::new(None));
+            let caller = Rc::new(Caller { model, actor, baton, restart });
             catch_unwind(AssertUnwindSafe(|| context::enter(caller, body)))
         };
         let mut state = self.lock();
+        state.live -= 1;
         let was_over = state.is_over();
         if state.actors[actor].last_act.is_none() {
             state.end_actor(actor);
@@ -115,16 +116,13 @@ impl Model {
             state.actors[actor].seat = Seat::None;
         }
         if let Some(message) = ended.err().and_then(context::message) {
-            let cause = format!("thread `{}` panicked: {message}", state.actors[actor].name);
+            let cause = format!("thread `{}` panicked: {message}", state.name_of(actor));
             state.fail(cause);
         }
         if !was_over {
             let turn = state.advance();
             self.hand_over(Some(actor), state, turn);
-            state = self.lock();
-        }
-        state.live -= 1;
-        if state.live == 0 {
+        } else if state.live == 0 {
             drop(state);
             self.tester.unpark();
         }
@@ -132,24 +130,31 @@ impl Model {
 
     /// Waits until all threads have ended.
     fn watch(self: &Arc<Model>) {
-        let (mut moves, mut since) = (0, Instant::now());
-        while !self.look(&mut moves, &mut since) {
+        let mut last = None;
+        loop {
             std::thread::park_timeout(LOOK);
+            if self.look(&mut last) {
+                return;
+            }
         }
     }
 
-    /// Whether all threads have ended. `since` is when the last call was made, of which there have been so many.
-    fn look(&self, moves: &mut u64, since: &mut Instant) -> bool {
+    /// Whether all threads have ended. `last` is how many calls were made when it looked last, and since when it is so
+    /// many.
+    fn look(&self, last: &mut Option<(u64, Instant)>) -> bool {
         let mut state = self.lock();
         if state.live == 0 {
             return true;
         }
-        if state.moves != *moves {
-            (*moves, *since) = (state.moves, Instant::now());
-        } else if since.elapsed() > state.builder.patience {
-            *since = Instant::now();
-            self.end_stuck(&mut state);
-            self.end_all(None, state);
+        match *last {
+            Some((moves, since)) if moves == state.moves => {
+                if since.elapsed() > state.builder.patience {
+                    *last = None;
+                    self.end_stuck(&mut state);
+                    self.end_all(None, state);
+                }
+            }
+            _ => *last = Some((state.moves, Instant::now())),
         }
         false
     }
@@ -168,32 +173,31 @@ impl Model {
 }
 
 /// Makes the actors of all that a test has declared: the tracees, in the order of the rows, and the tracers.
-fn declare(state: &mut State, declared: Declared) {
+fn declare(state: &mut State, declared: &mut Declared) {
+    state.tracees.begin(declared);
+    state.preferences.begin(state.tracees.rows.len());
     state.eintrs = declared.eintrs;
     if declared.kills == Kills::MayHappen || declared.only_tracer.is_some() {
         state.calls_are = CallsAre::Steps;
     }
-    for (row, follows) in declared.tracees.into_iter().enumerate() {
-        let name = format!("tracee {}", state.tracees.rows[row].tid);
+    for (row, follows) in declared.tracees.drain(..).enumerate() {
         let (kind, seat) = match follows {
             Follows::Script(machine) => (Kind::Script(Box::new(Script::new(machine))), Seat::None),
-            Follows::Closure(closure) => {
-                let body: Body = Box::new(move || play(row, closure));
-                (Kind::Tracee, Seat::NotStarted(body))
-            }
+            Follows::Closure(closure) => (Kind::Tracee, Seat::NotStarted(Part::Tracee(closure))),
         };
-        state.add_actor(name, kind, Op::TakeUp(row), seat);
+        state.add_actor(String::new(), kind, Op::TakeUp(row), seat);
     }
     let mut only = None;
-    for (name, body) in declared.tracers {
+    for (name, body) in declared.tracers.drain(..) {
         let is_only = declared.only_tracer.as_ref() == Some(&name);
-        let actor = state.add_tracer(Some(name), Seat::NotStarted(body));
+        let actor = state.add_tracer(Some(name), Seat::NotStarted(Part::Tracer(body)));
         if is_only {
             only = Some(state.tracer_of(actor));
         }
     }
-    if let Some(name) = declared.only_tracer {
+    if let Some(name) = &declared.only_tracer {
         assert!(only.is_some(), "pukzarn: no thread of the tracer has the name `{name}`, which only_tracer asks for");
     }
     state.only_tracer = only;
+    declared.clear();
 }

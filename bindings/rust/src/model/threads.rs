@@ -1,7 +1,9 @@
 //! The threads of the system that run a model's threads. One of them runs at a time: it has the baton.
 
 use super::builder::Threads;
+use super::run::Model;
 use crate::context::Body;
+use crate::tracee::{Play, play};
 use std::sync::atomic::{AtomicBool, Ordering, fence};
 use std::sync::{Arc, Mutex, MutexGuard, OnceLock, PoisonError};
 use std::thread::Thread;
@@ -17,6 +19,10 @@ impl Baton {
     /// Hands the baton to the thread that waits here, or will.
     pub(super) fn pass(&self) {
         self.is_here.store(true, Ordering::Release);
+        if let Some(thread) = self.thread.get() {
+            thread.unpark();
+            return;
+        }
         // A thread that names itself here and finds no baton is seen below, or sees the baton.
         fence(Ordering::SeqCst);
         if let Some(thread) = self.thread.get() {
@@ -26,8 +32,11 @@ impl Baton {
 
     /// Waits for the baton. Always the same thread calls this.
     pub(super) fn wait(&self) {
-        self.thread.get_or_init(std::thread::current);
-        fence(Ordering::SeqCst);
+        // Later waits need no fence: who hands it here again has seen the name, since a lock was taken in between.
+        if self.thread.get().is_none() {
+            self.thread.get_or_init(std::thread::current);
+            fence(Ordering::SeqCst);
+        }
         while !self.is_here.swap(false, Ordering::Acquire) {
             std::thread::park();
         }
@@ -41,7 +50,7 @@ pub(super) enum Seat {
     #[default]
     None,
     /// Its thread is started at its first turn.
-    NotStarted(Body),
+    NotStarted(Part),
     /// Its thread waits here, or runs.
     Started(Arc<Baton>),
 }
@@ -52,6 +61,30 @@ impl Seat {
             Seat::Started(baton) => Some(baton.clone()),
             Seat::None | Seat::NotStarted(_) => None,
         }
+    }
+}
+
+/// What an actor's thread runs.
+pub(super) enum Part {
+    Tracee(Play),
+    Tracer(Body),
+}
+
+/// What begins to run an actor of a schedule, whose turn it is.
+pub(super) struct Start {
+    pub(super) model: Arc<Model>,
+    pub(super) actor: usize,
+    pub(super) part: Part,
+}
+
+impl Start {
+    fn run(self, baton: &Arc<Baton>) {
+        let Start { model, actor, part } = self;
+        model.run_thread(actor, baton, || match part {
+            // The actors of tracees come first, in the order of the rows.
+            Part::Tracee(closure) => play(actor, closure),
+            Part::Tracer(body) => body(),
+        });
     }
 }
 
@@ -66,7 +99,7 @@ pub(super) struct Worker {
 enum Job {
     #[default]
     None,
-    Run(Body),
+    Run(Start),
     End,
 }
 
@@ -76,7 +109,7 @@ impl Worker {
             self.baton.wait();
             match std::mem::take(&mut *self.job()) {
                 Job::None => {}
-                Job::Run(body) => body(),
+                Job::Run(start) => start.run(&self.baton),
                 Job::End => return,
             }
         }
@@ -93,58 +126,42 @@ impl Worker {
 }
 
 /// The threads of one search.
-pub(super) struct Crew {
-    threads: Threads,
-    workers: Mutex<Workers>,
-}
-
 #[derive(Default)]
-struct Workers {
-    all: Vec<Arc<Worker>>,
+pub(super) struct Crew {
+    workers: Vec<Arc<Worker>>,
     /// How many of them the schedule uses.
     used: usize,
 }
 
 impl Crew {
-    pub(super) fn new(threads: Threads) -> Crew {
-        Crew { threads, workers: Mutex::default() }
-    }
-
     /// Begins a schedule: no job of another is left.
-    pub(super) fn begin_schedule(&self) {
-        self.workers().used = 0;
+    pub(super) fn begin_schedule(&mut self) {
+        self.used = 0;
     }
 
     /// A thread for an actor, which is not started yet.
-    pub(super) fn reserve(&self) -> Reserved {
-        match self.threads {
+    pub(super) fn reserve(&mut self, threads: Threads) -> Reserved {
+        match threads {
             Threads::New => Reserved::New(Arc::default()),
             Threads::Reused => Reserved::Worker(self.next_worker()),
         }
     }
 
-    fn next_worker(&self) -> Arc<Worker> {
-        let mut workers = self.workers();
-        let number = workers.used;
-        workers.used += 1;
-        if let Some(worker) = workers.all.get(number) {
-            return worker.clone();
+    fn next_worker(&mut self) -> Arc<Worker> {
+        if self.used == self.workers.len() {
+            let worker = Arc::new(Worker { baton: Arc::default(), job: Mutex::default() });
+            let of_thread = worker.clone();
+            spawn("pukzarn".into(), move || of_thread.run());
+            self.workers.push(worker);
         }
-        let worker = Arc::new(Worker { baton: Arc::default(), job: Mutex::default() });
-        let of_thread = worker.clone();
-        spawn("pukzarn".into(), move || of_thread.run());
-        workers.all.push(worker.clone());
-        worker
-    }
-
-    fn workers(&self) -> MutexGuard<'_, Workers> {
-        self.workers.lock().unwrap_or_else(PoisonError::into_inner)
+        self.used += 1;
+        self.workers[self.used - 1].clone()
     }
 }
 
 impl Drop for Crew {
     fn drop(&mut self) {
-        self.workers().all.iter().for_each(|worker| worker.start(Job::End));
+        self.workers.iter().for_each(|worker| worker.start(Job::End));
     }
 }
 
@@ -167,13 +184,11 @@ impl Reserved {
         }
     }
 
-    /// Starts its job, with the baton. A new thread has the name that a panic is printed with.
-    pub(super) fn start(self, name: Option<String>, job: Body) {
+    /// Starts it, with the baton. A new thread has the name that a panic is printed with.
+    pub(super) fn start(self, name: Option<String>, start: Start) {
         match self {
-            Reserved::New(_) => spawn(name.unwrap_or_default(), job),
-            Reserved::Worker(worker) => {
-                worker.start(Job::Run(job));
-            }
+            Reserved::New(baton) => spawn(name.unwrap_or_default(), move || start.run(&baton)),
+            Reserved::Worker(worker) => worker.start(Job::Run(start)),
         }
     }
 }

@@ -21,11 +21,33 @@ struct Above {
     killed: Option<u32>,
     /// A hash of all that tracers have written to its registers and memory.
     written: u64,
+    /// Its registers and memory, once they are asked for.
+    record: Option<Record>,
+    /// The stop that the record is not told yet, with its number.
+    due: Option<(u32, StopNumbers)>,
+    /// A hash of the row, as it was last asked for.
+    hash: u64,
+    /// Whether the row was changed since.
+    is_stale: bool,
 }
 
 impl Above {
+    fn new(options: u32) -> Above {
+        Above {
+            options,
+            restart: RestartNumbers::default(),
+            interrupted: false,
+            killed: None,
+            written: 0,
+            record: None,
+            due: None,
+            hash: 0,
+            is_stale: false,
+        }
+    }
+
     /// A hash of a tracee's state on the board, and of what changes its next acts.
-    fn hash(&self, state: State) -> u64 {
+    fn hash_of(&self, state: State) -> u64 {
         let State { phase, number, tracer, status } = state;
         let killed = self.killed.map_or(0, |death| u64::from(death) << 1 | 1);
         let stop = u64::from(phase) << 32 | u64::from(number);
@@ -35,50 +57,51 @@ impl Above {
     }
 }
 
-/// In how many ways a wait may be answered at a version of the board.
+/// The rows that a wait may be answered at a version of the board: how many, or the error.
 struct Answered {
     request: Request,
     version: u64,
-    rows: Result<usize, Errno>,
+    many: Result<usize, Errno>,
+    rows: Vec<u32>,
 }
+
+/// So many waits are kept from one schedule to the next.
+const WAITS_KEPT: usize = 32;
 
 pub(super) struct Tracees {
     pub(super) rows: Vec<RowNumbers>,
     board: Board,
-    records: Vec<Record>,
     states: Vec<State>,
     above: Vec<Above>,
-    hashes: Vec<u64>,
+    /// The sum of the rows' hashes, but for the changes of those that are stale.
     hash: u64,
+    stale: Vec<usize>,
     version: u64,
     waits: Vec<Answered>,
-    /// Room for the rows that a wait may be answered.
-    answered: Vec<u32>,
 }
 
 impl Tracees {
-    /// All of them before their first stops. Panics where a row is refused.
-    pub(super) fn open(declared: &Declared) -> Tracees {
-        let rows = declared.rows.clone();
-        let board = Board::open(&rows).unwrap_or_else(|refused| panic!("{}", words_of(&rows, refused)));
-        let records = rows.iter().map(|row| Record::open(row.tid).expect("a record can be opened")).collect();
-        let restart = RestartNumbers::default();
-        let above =
-            |_: &RowNumbers| Above { options: declared.options, restart, interrupted: false, killed: None, written: 0 };
-        let mut tracees = Tracees {
-            board,
-            records,
-            states: vec![State::default(); rows.len()],
-            above: rows.iter().map(above).collect(),
-            hashes: vec![0; rows.len()],
-            hash: 0,
-            version: 0,
-            waits: Vec::new(),
-            answered: vec![0; rows.len()],
-            rows,
-        };
-        (0..tracees.rows.len()).for_each(|row| tracees.refresh(row));
-        tracees
+    pub(super) fn none() -> Tracees {
+        let (rows, states, above) = (Vec::new(), Vec::new(), Vec::new());
+        let (stale, waits) = (Vec::new(), Vec::new());
+        Tracees { rows, board: Board::closed(), states, above, hash: 0, stale, version: 0, waits }
+    }
+
+    /// Takes the rows of what is declared, all of them before their first stops. Panics where a row is refused.
+    pub(super) fn begin(&mut self, declared: &mut Declared) {
+        std::mem::swap(&mut self.rows, &mut declared.rows);
+        let rows = &self.rows;
+        self.board = Board::open(rows).unwrap_or_else(|refused| panic!("{}", words_of(rows, refused)));
+        self.states.clear();
+        self.states.resize(rows.len(), State::default());
+        self.above.clear();
+        self.above.extend(rows.iter().map(|_| Above::new(declared.options)));
+        self.stale.clear();
+        self.hash = 0;
+        // What is known of the waits of another schedule is so no more.
+        self.version += 1;
+        self.waits.truncate(WAITS_KEPT);
+        (0..self.rows.len()).for_each(|row| self.refresh(row));
     }
 
     pub(super) fn row_of(&self, pid: i32) -> Option<usize> {
@@ -90,8 +113,14 @@ impl Tracees {
         self.states[row]
     }
 
+    /// The record of a row's last stop.
     pub(super) fn record(&mut self, row: usize) -> &mut Record {
-        &mut self.records[row]
+        let (tid, above) = (self.rows[row].tid, &mut self.above[row]);
+        let record = above.record.get_or_insert_with(|| Record::open(tid).expect("a record can be opened"));
+        if let Some((number, stop)) = above.due.take() {
+            record.set_stop(number, stop).expect("the board has taken the stop");
+        }
+        record
     }
 
     pub(super) fn options(&self, row: usize) -> u32 {
@@ -100,7 +129,7 @@ impl Tracees {
 
     pub(super) fn set_options(&mut self, row: usize, options: u32) {
         self.above[row].options = options;
-        self.hash_again(row);
+        self.was_changed(row);
     }
 
     /// A tracer has written to the record of a row's stop; the hash of what, which is 0 of nothing.
@@ -108,7 +137,7 @@ impl Tracees {
         if what != 0 {
             let at = u64::from(self.states[row].number);
             self.above[row].written = mix(self.above[row].written, mix(at, what));
-            self.hash_again(row);
+            self.was_changed(row);
         }
     }
 
@@ -126,39 +155,46 @@ impl Tracees {
     }
 
     /// A hash of all states, and of what is above them and changes what a tracee does next.
-    pub(super) fn hash(&self) -> u64 {
+    pub(super) fn hash(&mut self) -> u64 {
+        while let Some(row) = self.stale.pop() {
+            let above = &mut self.above[row];
+            let hash = mix(row as u64, above.hash_of(self.states[row]));
+            self.hash = self.hash.wrapping_sub(above.hash).wrapping_add(hash);
+            (above.hash, above.is_stale) = (hash, false);
+        }
         self.hash
     }
 
     /// How many rows a wait may be answered now, or its error.
     pub(super) fn waitable(&mut self, request: Request) -> Result<usize, Errno> {
-        let request = Request { blocks: true, ..request };
-        let known = self.waits.iter_mut().find(|answered| answered.request == request);
-        if let Some(answered) = &known
-            && answered.version == self.version
-        {
-            return answered.rows;
+        self.answered(request).many
+    }
+
+    fn answered(&mut self, request: Request) -> &Answered {
+        let known = self.waits.iter().position(|answered| answered.request.asks_as(request));
+        let at = known.unwrap_or(self.waits.len());
+        if known.is_none() {
+            self.waits.push(Answered { request, version: 0, many: Ok(0), rows: Vec::new() });
         }
-        let rows = self.board.waitable(request.idtype, request.id, request.options, &mut []);
-        let answered = Answered { request, version: self.version, rows };
-        match known {
-            Some(before) => *before = answered,
-            None => self.waits.push(answered),
+        let answered = &mut self.waits[at];
+        if answered.version != self.version {
+            answered.rows.resize(self.rows.len(), 0);
+            answered.many = self.board.waitable(request.idtype, request.id, request.options, &mut answered.rows);
+            answered.version = self.version;
         }
-        rows
+        answered
     }
 
     /// The first rows that a wait may be answered now, so many, in the order of the rows.
     pub(super) fn rows_of_wait(&mut self, request: Request, count: usize) -> &[u32] {
-        let rows = self.board.waitable(request.idtype, request.id, request.options, &mut self.answered);
-        debug_assert!(rows.is_ok_and(|rows| rows >= count));
-        &self.answered[..count]
+        &self.answered(request).rows[..count]
     }
 
     /// Answers a wait by one of the rows that it may be answered. Without WNOWAIT the tracer claims its stop or death.
     pub(super) fn answer(&mut self, request: Request, which: usize, tracer: u32) -> Result<Waited, Errno> {
-        self.board.waitable(request.idtype, request.id, request.options, &mut self.answered)?;
-        let row = self.answered[which] as usize;
+        let answered = self.answered(request);
+        answered.many?;
+        let row = answered.rows[which] as usize;
         let state = self.states[row];
         if request.options & wait::WNOWAIT == 0 {
             self.claim(row, tracer);
@@ -173,7 +209,7 @@ impl Tracees {
         let published = if interrupted { Published::Interrupted } else { Published::Wanted };
         let number = self.board.publish(row, stop);
         if let Ok(number) = number {
-            self.records[row].set_stop(number, stop).expect("the board has taken the stop");
+            self.above[row].due = Some((number, stop));
             self.refresh(row);
             if matches!(stop.kind, kind::FORK | kind::CLONE) {
                 self.give_birth(row, stop.value);
@@ -270,14 +306,14 @@ impl Tracees {
     /// Takes over what the board says of a row.
     fn refresh(&mut self, row: usize) {
         self.states[row] = self.board.state(row);
-        self.hash_again(row);
+        self.was_changed(row);
         self.version += 1;
     }
 
-    fn hash_again(&mut self, row: usize) {
-        let hash = mix(row as u64, self.above[row].hash(self.states[row]));
-        self.hash = self.hash.wrapping_sub(self.hashes[row]).wrapping_add(hash);
-        self.hashes[row] = hash;
+    fn was_changed(&mut self, row: usize) {
+        if !std::mem::replace(&mut self.above[row].is_stale, true) {
+            self.stale.push(row);
+        }
     }
 
     /// The tids and what each is doing.

@@ -11,10 +11,10 @@ use crate::library::{RestartNumbers, StopNumbers, Waited, kind, phase, restart, 
 impl State {
     /// The steps of a schedule, one a line: who, the call, and its answer.
     pub(super) fn words(&self) -> Vec<String> {
-        let width = self.actors.iter().map(|actor| actor.name.len()).max().unwrap_or(0);
+        let width = (0..self.actors.len()).map(|actor| self.name_of(actor).len()).max().unwrap_or(0);
         let line = |step: &Step| {
             let actor = usize::from(step.actor);
-            let name = &self.actors[actor].name;
+            let name = self.name_of(actor);
             format!("{name:width$} {}: {}", self.call_words(actor, step.op), reply_words(step.op, step.reply))
         };
         self.trace.iter().map(line).collect()
@@ -25,7 +25,8 @@ impl State {
         let mut text = "deadlock: no thread can go on".to_string();
         for (number, actor) in self.actors.iter().enumerate() {
             if let (Some(op), false) = (actor.op, matches!(actor.op, Some(Op::TakeUp(_)))) {
-                text += &format!("\n  {} waits: {}{}", actor.name, self.call_words(number, op), self.why_words(op));
+                let name = self.name_of(number);
+                text += &format!("\n  {name} waits: {}{}", self.call_words(number, op), self.why_words(op));
             }
         }
         for row in 0..self.tracees.rows.len() {
@@ -38,23 +39,23 @@ impl State {
 
     pub(super) fn loop_words(&self) -> String {
         let most = self.builder.max_steps;
-        let last = self.trace.last().map(|step| self.actors[usize::from(step.actor)].name.as_str());
+        let last = self.trace.last().map(|step| self.name_of(usize::from(step.actor)));
         format!(
             "more than {most} steps, the last of them by `{}`: is there a loop that never waits? One that polls has to \
              call pukzarn::thread::yield_now or sleep",
-            last.unwrap_or("nobody")
+            last.as_deref().unwrap_or("nobody")
         )
     }
 
     pub(super) fn stuck_words(&self) -> String {
-        let name = self.running.map_or("a thread", |actor| self.actors[actor].name.as_str());
+        let name = self.running.map_or("a thread".into(), |actor| self.name_of(actor));
         let mut text = format!(
             "`{name}` makes no call: it waits for a lock of std that another thread holds over a call, or computes for \
              very long. Locks of pukzarn::sync may be held over calls"
         );
         for (number, actor) in self.actors.iter().enumerate() {
             if let (Some(op), Kind::Tracer(_) | Kind::Tracee) = (actor.op, &actor.kind) {
-                text += &format!("\n  {} is about to: {}", actor.name, self.call_words(number, op));
+                text += &format!("\n  {} is about to: {}", self.name_of(number), self.call_words(number, op));
             }
         }
         text
@@ -67,7 +68,7 @@ impl State {
             Op::EndWait { mutex, .. } => mutex,
             _ => return String::new(),
         };
-        let holder = self.objects.holder(object).map(|holder| format!(", which {} holds", self.actors[holder].name));
+        let holder = self.objects.holder(object).map(|holder| format!(", which {} holds", self.name_of(holder)));
         holder.unwrap_or_default()
     }
 
@@ -105,8 +106,8 @@ impl State {
             Op::Seize(row, options) => format!("seize {} {options:#x}", tid(row)),
             Op::Interrupt(row) => format!("interrupt {}", tid(row)),
             Op::Kill(row) => format!("kill {}", tid(row)),
-            Op::Join(thread) => format!("join {}", self.actors[thread].name),
-            Op::IsFinished(thread) => format!("is finished {}", self.actors[thread].name),
+            Op::Join(thread) => format!("join {}", self.name_of(thread)),
+            Op::IsFinished(thread) => format!("is finished {}", self.name_of(thread)),
             Op::Pause => "pause".into(),
             _ => object_words(op),
         }

@@ -52,8 +52,8 @@ c-model-test: c-model
 	@$(MAKE) --no-print-directory $(MODEL_TESTS)
 	@for program in $(MODEL_TESTS); do timeout 120 $$program > $(MODEL_OUT)/printed.txt 2>&1 || { \
 	  cat $(MODEL_OUT)/printed.txt; echo "c-model-test: FAILED: $$program, or it took more than 120 s" >&2; exit 1; }; done
-	@$(MAKE) --no-print-directory install-c-model PREFIX=$(abspath $(MODEL_OUT)/root)
-	@$(CC) -o $(MODEL_OUT)/early_child tests/c_model/early_child.c $$(PKG_CONFIG_PATH=$(MODEL_OUT)/root/lib/pkgconfig \
+	@$(MAKE) --no-print-directory install-c-model PREFIX=$(abspath $(MODEL_OUT)/installed)
+	@$(CC) -o $(MODEL_OUT)/early_child tests/c_model/early_child.c $$(PKG_CONFIG_PATH=$(MODEL_OUT)/installed/lib/pkgconfig \
 	  pkg-config --cflags --libs pukzarn_model)
 	@(cd $(MODEL_OUT) && ./early_child) 2>&1 \
 	  | sed '/^pukzarn: mended/,$$d' > $(MODEL_OUT)/printed.txt

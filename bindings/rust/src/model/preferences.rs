@@ -57,13 +57,16 @@ impl Preferences {
         self.rows_moved = true;
     }
 
+    /// Whether rows are preferred in another order than their own.
+    pub(super) fn has_moved_rows(&self) -> bool {
+        self.rows_moved
+    }
+
     /// The numbers of these rows in the list, those that are preferred first.
     pub(super) fn sorted(&self, rows: &[u32]) -> impl Iterator<Item = usize> + '_ {
         let mut numbers: Vec<usize> = (0..rows.len()).collect();
-        if self.rows_moved {
-            let rank = |row: u32| self.rows.0.iter().position(|other| u32::from(*other) == row);
-            numbers.sort_by_key(|number| rank(rows[*number]));
-        }
+        let rank = |row: u32| self.rows.0.iter().position(|other| u32::from(*other) == row);
+        numbers.sort_by_key(|number| rank(rows[*number]));
         numbers.into_iter()
     }
 }

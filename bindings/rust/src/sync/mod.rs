@@ -78,3 +78,32 @@ fn unpoisoned_try<T, U>(answer: TryLockResult<T>, wrap: impl FnOnce(T) -> U) -> 
 fn is_unwound() -> bool {
     std::thread::panicking() && context::get().is_some()
 }
+
+/// A guard is read as the value that its lock has, and shown as it.
+macro_rules! read_as_the_value {
+    ($($guard:ident)*) => {
+        $(
+            impl<T: ?Sized> Deref for $guard<'_, T> {
+                type Target = T;
+
+                fn deref(&self) -> &T {
+                    self.inner.as_deref().expect("a guard holds its lock")
+                }
+            }
+
+            impl<T: ?Sized + fmt::Debug> fmt::Debug for $guard<'_, T> {
+                fn fmt(&self, formatter: &mut fmt::Formatter<'_>) -> fmt::Result {
+                    (**self).fmt(formatter)
+                }
+            }
+
+            impl<T: ?Sized + fmt::Display> fmt::Display for $guard<'_, T> {
+                fn fmt(&self, formatter: &mut fmt::Formatter<'_>) -> fmt::Result {
+                    (**self).fmt(formatter)
+                }
+            }
+        )*
+    };
+}
+
+use read_as_the_value;

@@ -1,6 +1,9 @@
 //! A lock of one holder.
 
-use super::{LockResult, TryLockError, TryLockResult, in_model, is_unwound, release, unpoisoned, unpoisoned_try};
+use super::{
+    LockResult, TryLockError, TryLockResult, in_model, is_unwound, read_as_the_value, release, unpoisoned,
+    unpoisoned_try,
+};
 use crate::context::{Identity, Noun, Permits};
 use std::ops::{Deref, DerefMut};
 use std::{fmt, mem, sync};
@@ -165,28 +168,10 @@ impl<T: ?Sized> Drop for MutexGuard<'_, T> {
     }
 }
 
-impl<T: ?Sized> Deref for MutexGuard<'_, T> {
-    type Target = T;
-
-    fn deref(&self) -> &T {
-        self.inner.as_deref().expect("a guard holds its lock")
-    }
-}
-
 impl<T: ?Sized> DerefMut for MutexGuard<'_, T> {
     fn deref_mut(&mut self) -> &mut T {
         self.inner.as_deref_mut().expect("a guard holds its lock")
     }
 }
 
-impl<T: ?Sized + fmt::Debug> fmt::Debug for MutexGuard<'_, T> {
-    fn fmt(&self, formatter: &mut fmt::Formatter<'_>) -> fmt::Result {
-        (**self).fmt(formatter)
-    }
-}
-
-impl<T: ?Sized + fmt::Display> fmt::Display for MutexGuard<'_, T> {
-    fn fmt(&self, formatter: &mut fmt::Formatter<'_>) -> fmt::Result {
-        (**self).fmt(formatter)
-    }
-}
+read_as_the_value! { MutexGuard }

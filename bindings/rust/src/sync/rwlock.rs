@@ -1,6 +1,9 @@
 //! A lock of many readers or one writer.
 
-use super::{LockResult, TryLockError, TryLockResult, in_model, is_unwound, release, unpoisoned, unpoisoned_try};
+use super::{
+    LockResult, TryLockError, TryLockResult, in_model, is_unwound, read_as_the_value, release, unpoisoned,
+    unpoisoned_try,
+};
 use crate::context::{Identity, Noun, Permits};
 use std::ops::{Deref, DerefMut};
 use std::{fmt, mem, sync};
@@ -217,44 +220,10 @@ impl<T: ?Sized> Drop for RwLockWriteGuard<'_, T> {
     }
 }
 
-impl<T: ?Sized> Deref for RwLockReadGuard<'_, T> {
-    type Target = T;
-
-    fn deref(&self) -> &T {
-        self.inner.as_deref().expect("a guard holds its lock")
-    }
-}
-
-impl<T: ?Sized> Deref for RwLockWriteGuard<'_, T> {
-    type Target = T;
-
-    fn deref(&self) -> &T {
-        self.inner.as_deref().expect("a guard holds its lock")
-    }
-}
-
 impl<T: ?Sized> DerefMut for RwLockWriteGuard<'_, T> {
     fn deref_mut(&mut self) -> &mut T {
         self.inner.as_deref_mut().expect("a guard holds its lock")
     }
 }
 
-macro_rules! shown_as_the_value {
-    ($($guard:ident)*) => {
-        $(
-            impl<T: ?Sized + fmt::Debug> fmt::Debug for $guard<'_, T> {
-                fn fmt(&self, formatter: &mut fmt::Formatter<'_>) -> fmt::Result {
-                    (**self).fmt(formatter)
-                }
-            }
-
-            impl<T: ?Sized + fmt::Display> fmt::Display for $guard<'_, T> {
-                fn fmt(&self, formatter: &mut fmt::Formatter<'_>) -> fmt::Result {
-                    (**self).fmt(formatter)
-                }
-            }
-        )*
-    };
-}
-
-shown_as_the_value! { RwLockReadGuard RwLockWriteGuard }
+read_as_the_value! { RwLockReadGuard RwLockWriteGuard }

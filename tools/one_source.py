@@ -23,7 +23,7 @@
 | the limits | limits.rt of stop_history and trace_script, pages.rt | README.md, docs/, man/tracer.1, bench/ |
 | those of litmus files, the budgets | draft.rt, grammar.rt and arguments.rt of tracer_cli | the same, the help |
 | the bits of a word | layout.rt and Layout.antt of stop_history | its word.rt, docs/formats/layouts.md |
-| the word of an example | docs/formats/layouts.md | docs/definitions/words.md |
+| the word of an example | docs/formats/layouts.md | docs/crates/stop_history.md |
 """
 
 import pathlib
@@ -51,7 +51,7 @@ WAIT_FLAGS, EVENTS = "crates/trace_options/src/wait_flags.rt", "crates/trace_opt
 WORD, CAUSES = "crates/stop_history/src/word.rt", "crates/trace_script/src/cause.rt"
 CASE_FILES, LAYOUTS = "docs/formats/case-files.md", "docs/formats/layouts.md"
 LITMUS_FILES = "docs/formats/litmus-files.md"
-WORDS = "docs/definitions/words.md"
+WORDS = "docs/crates/stop_history.md"
 WIDTHS, TRACER_WIDTH = "crates/stop_history/src/word/layout.rt", "crates/stop_history/specs/Layout.antt"
 PLAIN, PLAIN_CASE, PLAIN_LITMUS = "bench/plain.rs", "bench/plain_case.rs", "bench/plain_litmus.rs"
 PLAIN_EXPLORE, PROVED = "bench/plain_explore.rs", "docs/proofs/program.md"

@@ -54,7 +54,7 @@ LITMUS_FILES = "docs/formats/litmus-files.md"
 WORDS = "docs/crates/stop_history.md"
 WIDTHS, TRACER_WIDTH = "crates/stop_history/src/word/layout.rt", "crates/stop_history/specs/Layout.antt"
 PLAIN, PLAIN_CASE, PLAIN_LITMUS = "bench/plain.rs", "bench/plain_case.rs", "bench/plain_litmus.rs"
-PLAIN_EXPLORE, PROVED = "bench/plain_explore.rs", "docs/proofs/program.md"
+PLAIN_EXPLORE, PROVED = "bench/plain_explore.rs", "docs/crates/tracer_cli.md"
 
 # What is said of the limits, and where: a name stands for its number, with :, as 16,777,215, with :_ as 16_777_215.
 SAID = [

@@ -132,7 +132,7 @@ impl State {
 
     /// Makes the call of an actor, in one step, and keeps the reply.
     pub(super) fn make(&mut self, actor: usize, which: usize) {
-        let op = self.actors[actor].op.take().expect("a call is announced");
+        let op = self.take_call(actor).expect("a call is announced");
         self.moves += 1;
         self.is_due |= may_let_run(op);
         let reply = match op {
@@ -142,13 +142,20 @@ impl State {
             // The stop of an interrupt, which comes first.
             Op::Exit(row, _) if self.tracees.is_interrupted(row) => self.make_stop(row, StopNumbers::default()),
             Op::Exit(row, status) => self.make_exit(row, status),
-            Op::ExitGroup(row, status) => self.make_kill(row, false, status),
+            Op::ExitGroup(row, status) => {
+                self.tracees.settle_death(row, status);
+                self.make_kill(row, false, status)
+            }
             Op::Kill(row) => self.make_kill(row, true, SIGKILL),
             Op::Wait(request) => Reply::Waited(self.make_wait(actor, request, which)),
             Op::Restart(row, how) => Reply::Answered(self.make_restart(actor, row, how)),
             Op::Touch(row) => Reply::Answered(self.holds(actor, row)),
-            Op::Seize(row, _) => Reply::Answered(self.tracees.find(row)),
-            Op::Interrupt(row) => Reply::Answered(self.tracees.interrupt(row)),
+            Op::Seize(row, _) => {
+                Reply::Answered(self.traces(actor, Errno::EPERM).and_then(|()| self.tracees.find(row)))
+            }
+            Op::Interrupt(row) => {
+                Reply::Answered(self.traces(actor, Errno::ESRCH).and_then(|()| self.tracees.interrupt(row)))
+            }
             Op::IsFinished(thread) => Reply::Is(self.actors[thread].is_done()),
             Op::Pause => {
                 self.was_idle(actor, Idle::Pause);
@@ -233,6 +240,15 @@ impl State {
         self.tracees.answer(request, which, tracer).map(Some)
     }
 
+    /// Whether this actor may trace, where one thread alone traces all tracees: others are refused.
+    fn traces(&self, actor: usize, refusal: Errno) -> Result<(), Errno> {
+        let me = match self.actors[actor].kind {
+            Kind::Tracer(number) => number,
+            _ => None,
+        };
+        if self.only_tracer.is_none() || self.only_tracer == me { Ok(()) } else { Err(refusal) }
+    }
+
     /// Whether a ptrace call of this actor has a stop of this row.
     pub(super) fn holds(&self, actor: usize, row: usize) -> Result<(), Errno> {
         let Kind::Tracer(Some(me)) = self.actors[actor].kind else { return Err(Errno::ESRCH) };
@@ -260,7 +276,8 @@ impl State {
             self.link(actor, op, reply);
         }
         if !matches!(op, Op::Start | Op::TakeUp(_)) {
-            self.trace.push(Step { actor: actor as u16, op, reply });
+            let preferred = self.preferred.take();
+            self.trace.push(Step { actor: actor as u16, op, reply, preferred });
         }
         self.actors[actor].reply = reply;
     }
@@ -280,7 +297,7 @@ impl State {
         // What an access finds depends on who made those before it, not on what they were answered.
         let link = match accessed {
             Some(history) => mix(history, hash_of(&reply)),
-            None => mix(mix(actor as u64, self.actors[actor].hash_of_call(&op)), hash_of(&reply)),
+            None => mix(self.actors[actor].call_hash, hash_of(&reply)),
         };
         self.chain(actor, link);
     }

@@ -21,6 +21,15 @@ impl Order {
     }
 }
 
+/// What a deviation prefers from then on: what was taken, to what it was taken for.
+#[derive(Clone, Copy, Debug, PartialEq, Eq)]
+pub(super) struct Preferred {
+    pub(super) actor: u16,
+    pub(super) to_actor: u16,
+    /// A row to another, where it is also another answer of a wait.
+    pub(super) rows: Option<(u32, u32)>,
+}
+
 #[derive(Default, Hash)]
 pub(super) struct Preferences {
     actors: Order,
@@ -48,13 +57,12 @@ impl Preferences {
         usize::from(self.actors.0[place])
     }
 
-    pub(super) fn prefer_actor(&mut self, taken: u16, to: u16) {
-        self.actors.prefer(taken, to);
-    }
-
-    pub(super) fn prefer_row(&mut self, taken: u32, to: u32) {
-        self.rows.prefer(taken as u16, to as u16);
-        self.rows_moved = true;
+    pub(super) fn prefer(&mut self, preferred: Preferred) {
+        self.actors.prefer(preferred.actor, preferred.to_actor);
+        if let Some((row, to)) = preferred.rows {
+            self.rows.prefer(row as u16, to as u16);
+            self.rows_moved = true;
+        }
     }
 
     /// Whether rows are preferred in another order than their own.
@@ -73,7 +81,7 @@ impl Preferences {
 
 #[cfg(test)]
 mod tests {
-    use super::Preferences;
+    use super::{Preferences, Preferred};
 
     fn preferences() -> Preferences {
         let mut preferences = Preferences::default();
@@ -85,12 +93,15 @@ mod tests {
     #[test]
     fn who_is_taken_stays_before_whom_it_was_taken_for() {
         let mut preferences = preferences();
-        preferences.prefer_actor(2, 1);
+        let prefer = |preferences: &mut Preferences, actor, to_actor| {
+            preferences.prefer(Preferred { actor, to_actor, rows: None });
+        };
+        prefer(&mut preferences, 2, 1);
         assert_eq!([0, 1, 2].map(|place| preferences.actor(place)), [0, 2, 1]);
-        preferences.prefer_actor(2, 0);
+        prefer(&mut preferences, 2, 0);
         assert_eq!([0, 1, 2].map(|place| preferences.actor(place)), [2, 0, 1]);
         // It is before that one already.
-        preferences.prefer_actor(2, 1);
+        prefer(&mut preferences, 2, 1);
         assert_eq!([0, 1, 2].map(|place| preferences.actor(place)), [2, 0, 1]);
     }
 
@@ -98,7 +109,7 @@ mod tests {
     fn rows_are_answered_as_they_are_preferred() {
         let mut preferences = preferences();
         assert_eq!(preferences.sorted(&[0, 2]).collect::<Vec<_>>(), [0, 1]);
-        preferences.prefer_row(2, 0);
+        preferences.prefer(Preferred { actor: 0, to_actor: 0, rows: Some((2, 0)) });
         assert_eq!(preferences.sorted(&[0, 2]).collect::<Vec<_>>(), [1, 0]);
         assert_eq!(preferences.sorted(&[0, 1, 2]).collect::<Vec<_>>(), [2, 0, 1]);
     }

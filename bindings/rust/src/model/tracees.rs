@@ -277,7 +277,7 @@ impl Tracees {
     /// A row that is alive is to die. One that is stopped or claimed is restarted in its tracer's place: on the board
     /// these are a claim and a restart as any others, but nobody else acts between them.
     pub(super) fn kill(&mut self, row: usize, status: u32) {
-        self.above[row].killed.get_or_insert(status);
+        self.settle_death(row, status);
         self.above[row].interrupted = false;
         let state = self.states[row];
         if state.phase == phase::STOPPED {
@@ -288,6 +288,12 @@ impl Tracees {
             assert!(resumed.is_ok(), "pukzarn: the board refuses a restart of who has claimed: {resumed:?}");
         }
         self.refresh(row);
+    }
+
+    /// A row dies by this next, whatever kills it until then.
+    pub(super) fn settle_death(&mut self, row: usize, status: u32) {
+        self.above[row].killed.get_or_insert(status);
+        self.was_changed(row);
     }
 
     /// Whether a tracee stops before its next act.

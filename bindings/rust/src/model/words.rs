@@ -3,6 +3,7 @@
 use super::actors::{Actor, Kind};
 use super::calls::{Op, Reply};
 use super::objects::ObjectNumber;
+use super::preferences::Preferred;
 use super::state::{State, Step};
 use crate::context::{Notify, Noun, Patience, Published, Request, Wakeup};
 use crate::errno::Errno;
@@ -15,9 +16,41 @@ impl State {
         let line = |step: &Step| {
             let actor = usize::from(step.actor);
             let name = self.name_of(actor);
-            format!("{name:width$} {}: {}", self.call_words(actor, step.op), reply_words(step.op, step.reply))
+            let (call, reply) = (self.call_words(actor, step.op), reply_words(step.op, step.reply));
+            let (meaning, deviation) = (self.meaning_words(step.reply), self.deviation_words(step));
+            format!("{name:width$} {call}: {reply}{meaning}{deviation}")
         };
         self.trace.iter().map(line).collect()
+    }
+
+    /// What a wait status says of the stop or death that a wait was answered.
+    fn meaning_words(&self, reply: Reply) -> String {
+        let Reply::Waited(Ok(Some(waited))) = reply else { return String::new() };
+        if waited.death == 1 {
+            return format!(" ({})", death_words(waited.status));
+        }
+        let stop = |step: &Step| match (step.op, step.reply) {
+            (Op::Publish(row, stop), Reply::Published(Ok(number), published)) => {
+                let is_it = (row as u32, number) == (waited.row, waited.number);
+                is_it.then_some(if published == Published::Wanted { stop } else { StopNumbers::default() })
+            }
+            (Op::Exit(row, _), Reply::Published(Ok(number), _)) => {
+                ((row as u32, number) == (waited.row, waited.number)).then(StopNumbers::default)
+            }
+            _ => None,
+        };
+        self.trace.iter().rev().find_map(stop).map_or(String::new(), |stop| format!(" ({})", stop_words(stop)))
+    }
+
+    /// Who comes first where nothing else is decided, in whose place a step was taken.
+    fn deviation_words(&self, step: &Step) -> String {
+        match step.preferred {
+            Some(preferred) if preferred.actor != preferred.to_actor => {
+                format!(" <- before {}", self.name_of(usize::from(preferred.to_actor)))
+            }
+            Some(Preferred { rows: Some((_, to)), .. }) => format!(" <- before {}", self.tracees.rows[to as usize].tid),
+            _ => String::new(),
+        }
     }
 
     /// Each thread that waits, and for what; then the tracees that something was to happen to.

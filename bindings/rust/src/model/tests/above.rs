@@ -85,6 +85,31 @@ fn who_dies_with_its_group_dies_so_though_it_is_killed_then() {
 }
 
 #[test]
+fn a_group_that_has_exited_keeps_its_code_though_its_leader_is_killed_then() {
+    builder().exhaustive().check(|sim| {
+        sim.kills();
+        sim.tracee(Row::root(100), |tracee| {
+            tracee.stop(Stop::Clone(101))?;
+            tracee.exit_group(3);
+            Ok(())
+        });
+        sim.tracee(Row::thread(101, 100, 100), |tracee| tracee.stop(Stop::Start).map(drop));
+        sim.tracer("main", || {
+            let (leader, thread) = (Pid::from_raw(100), Pid::from_raw(101));
+            waitpid(leader, None).unwrap();
+            ptrace::cont(leader, None).unwrap();
+            // The thread ends as its group does, so the leader has called exit_group.
+            while !matches!(waitpid(thread, None), Ok(WaitStatus::Exited(..))) {
+                let _ = ptrace::cont(thread, None);
+            }
+            ptrace::kill(leader).unwrap();
+            assert_eq!(waitpid(leader, None), Ok(WaitStatus::Exited(leader, 3)));
+        });
+        sim.run();
+    });
+}
+
+#[test]
 fn who_is_killed_makes_no_stop_any_more() {
     builder().exhaustive().check(|sim| {
         sim.kills();
@@ -259,5 +284,25 @@ fn only_the_thread_that_traces_restarts() {
             }
         });
         sim.run();
+    });
+}
+
+#[test]
+fn only_the_thread_that_traces_interrupts_and_sets_options() {
+    builder().exhaustive().check(|sim| {
+        sim.only_tracer("main");
+        sim.tracee(Row::root(100), |tracee| tracee.stop(Stop::Start).map(drop));
+        sim.tracer("main", || {
+            let pid = wait().unwrap().pid().unwrap();
+            ptrace::interrupt(pid).unwrap();
+            ptrace::cont(pid, None).unwrap();
+            wait().unwrap();
+        });
+        sim.tracer("other", || {
+            let pid = Pid::from_raw(100);
+            assert_eq!(ptrace::interrupt(pid), Err(crate::Errno::ESRCH));
+            assert_eq!(ptrace::seize(pid, Options::PTRACE_O_TRACEEXIT), Err(crate::Errno::EPERM));
+        });
+        sim.run().assert_all_reaped();
     });
 }

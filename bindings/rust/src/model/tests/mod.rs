@@ -114,7 +114,7 @@ fn a_deadlock_says_who_waits_for_what() {
     );
     assert_eq!(
         failure.steps,
-        ["tracee 100 publish 100 start: published 1", "one        wait 100 0: 100 stop 1 0x80057f"]
+        ["tracee 100 publish 100 start: published 1", "one        wait 100 0: 100 stop 1 0x80057f (start)"]
     );
     assert_eq!(failure.deviations, 0);
 }

@@ -15,7 +15,7 @@ ARCHIVE ?= crates/pukzarn/out/libpukzarn.a
 HEAP ?= $(dir $(shell $(RT) doc))c/liblibc_c.a
 VERSION = $(shell sed -n 's/.*\.version("\(.*\)").*/\1/p' crates/tracer_cli/src/arguments.rt)
 
-.PHONY: all kit demo examples scarce-memory refused-memory man-page documents one-source one-meaning refused-code check \
+.PHONY: all kit demo try examples scarce-memory refused-memory man-page documents one-source one-meaning refused-code check \
 	wrong-bodies wrong-bodies-changed wrong-bodies-test test bench bench-case bench-cells bench-c bench-pages bench-fold \
 	bench-run bench-threads bench-large bench-explore bench-rounds library archive c-header library-test rust-test \
 	bench-rust install-library install-program tools install clean
@@ -37,6 +37,13 @@ demo: kit
 	@echo "demo: running the program on seven files of examples/, without the proofs (a minute)"
 	@RT="$(RT)" $(PYTHON) tools/cases.py demo replay/first replay/refused run/fork.case run/signal.case run/shown.case \
 		explore/race.litmus explore/double_claim.litmus
+
+# FILE is a case, replay or litmus file; ARGS are the program's words, as ARGS="explore --ends", where the command of the
+# file's ending is not what is wanted.
+try: kit
+	@test -n "$(FILE)" || { echo "try: say which file, as make try FILE=examples/run/fork.case"; exit 2; }
+	@echo "try: running the program on $(FILE) without its proofs: nothing that it prints is proved (two minutes)" >&2
+	@RT="$(RT)" $(PYTHON) tools/cases.py try $(FILE) $(if $(ARGS),-- $(ARGS))
 
 # PROGRAM=FILE runs a program that is built already, as bin/tracer: some seconds.
 examples: kit

@@ -4,6 +4,8 @@
     cases.py check          all of tests/cases/*.cases and every file of examples/: one build, then a run of each
     cases.py check --program FILE    the same with a program that is built already, in place of that build
     cases.py demo NAME..    runs files of examples/, as run/fork.case, and shows each with its answer
+    cases.py try FILE [-- WORD ..] runs any file as the program's standard input, and ends with its status; without
+                                   words by the file's ending: .case runs, .litmus explores, others replay
     cases.py --self-test    shows that a wrong text, message or status is found; it builds nothing
 
 The program is built once, without proofs, by `rt try --cases` (the environment variable RT names another `rt`). It
@@ -59,6 +61,8 @@ COUNT = re.compile(r"\{n(?:\*(\d+))?\}")
 ENDED = re.compile(rb"case=(\S+) run=(\S+)(?: status=(\d+))? .*proved=no\n")
 BESIDE = (".args", ".stdout", ".stderr", ".status")
 SHOWN = 2000
+# The command that a file is tried with, by its ending.
+COMMANDS = {".case": "run", ".litmus": "explore"}
 # How many random litmus files are run.
 RANDOM_FILES = 200
 # The most that a run of a built program may take.
@@ -372,6 +376,26 @@ def demo(names):
     return 0
 
 
+def try_file(name, *words):
+    """Prints on both streams what the program answers a file, and answers its status."""
+    path = pathlib.Path(name)
+    words = words or [COMMANDS.get(path.suffix, "replay")]
+    try:
+        run = Run(name, [word.encode() for word in words], path.read_bytes())
+    except OSError as error:
+        print(f"cases: {name}: {error.strerror}", file=sys.stderr)
+        return 2
+    report = report_of([run])
+    stdout, stderr, status = found_in(report.stdout, report.stderr, 1)[0]
+    sys.stdout.buffer.write(stdout)
+    sys.stdout.flush()
+    sys.stderr.buffer.write(stderr)
+    if status is None:
+        print("cases: FAILED: it did not end\n" + report.stderr.decode(errors="replace"), file=sys.stderr)
+        return 1
+    return status
+
+
 SELF_TEST = """
 text row
     | row 1 1 1 0
@@ -415,16 +439,18 @@ def self_test():
 
 def main():
     shape = {"description": __doc__, "formatter_class": argparse.RawDescriptionHelpFormatter}
-    parser = argparse.ArgumentParser(**shape, usage="cases.py check [--program FILE] | demo NAME.. | --self-test")
+    parser = argparse.ArgumentParser(**shape, usage="cases.py check [--program FILE] | demo NAME.. | try FILE [-- WORD ..] | --self-test")
     parser.add_argument("--self-test", action="store_true", help="compare a report that was written by hand")
     parser.add_argument("--program", type=pathlib.Path, help="a program that is built already")
-    parser.add_argument("what", nargs="?", choices=["check", "demo"])
-    parser.add_argument("names", nargs="*", help="files of examples/")
+    parser.add_argument("what", nargs="?", choices=["check", "demo", "try"])
+    parser.add_argument("names", nargs="*", help="files of examples/; a file, and the program's words")
     asked = parser.parse_args()
     if asked.self_test:
         return self_test()
     if asked.what == "demo" and asked.names:
         return demo(asked.names)
+    if asked.what == "try" and asked.names:
+        return try_file(*asked.names)
     return check(asked.program) if asked.what == "check" else parser.error("say what to do")
 
 

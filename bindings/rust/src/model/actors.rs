@@ -49,8 +49,8 @@ pub(super) struct Actor {
     pub(super) kind: Kind,
     /// The call that it is about to make; None while it runs.
     pub(super) op: Option<Op>,
-    /// A hash of that call, or of the one that it made last.
-    pub(super) call_hash: u64,
+    /// A hash of that call, or of the one that it made last, once it is asked for.
+    pub(super) call_hash: Option<u64>,
     pub(super) reply: Reply,
     /// Which stop it has made last, where it is a tracee that a closure plays.
     pub(super) published: Published,
@@ -64,6 +64,11 @@ pub(super) struct Actor {
 }
 
 impl Actor {
+    /// A hash of a call that it is about to make, or makes.
+    pub(super) fn hash_of_call(&mut self, op: &Op) -> u64 {
+        *self.call_hash.get_or_insert_with(|| hash_of(op))
+    }
+
     pub(super) fn is_done(&self) -> bool {
         self.life == Life::Done
     }
@@ -84,7 +89,7 @@ impl State {
             name,
             kind,
             op: None,
-            call_hash: 0,
+            call_hash: None,
             reply,
             published,
             last_act: None,
@@ -117,26 +122,14 @@ impl State {
     /// An actor is about to make a call.
     pub(super) fn announce(&mut self, actor: usize, op: Op) {
         self.is_due |= matches!(op, Op::Start | Op::TakeUp(_));
-        self.take_call(actor);
-        let call_hash = mix(actor as u64, hash_of(&op));
-        self.calls_hash = self.calls_hash.wrapping_add(call_hash);
         let actor = &mut self.actors[actor];
-        (actor.op, actor.call_hash) = (Some(op), call_hash);
-    }
-
-    /// The call that an actor was about to make, which it is no more.
-    pub(super) fn take_call(&mut self, actor: usize) -> Option<Op> {
-        let actor = &mut self.actors[actor];
-        let op = actor.op.take()?;
-        self.calls_hash = self.calls_hash.wrapping_sub(actor.call_hash);
-        Some(op)
+        (actor.op, actor.call_hash) = (Some(op), None);
     }
 
     /// An actor has come to its end.
     pub(super) fn end_actor(&mut self, actor: usize) {
-        self.take_call(actor);
         let ended = &mut self.actors[actor];
-        ended.life = Life::Done;
+        (ended.life, ended.op) = (Life::Done, None);
         ended.chain = mix(ended.chain, 1);
         self.tracers_left -= usize::from(ended.is_tracer());
         self.shared_changes += 1;

@@ -132,7 +132,7 @@ impl State {
 
     /// Makes the call of an actor, in one step, and keeps the reply.
     pub(super) fn make(&mut self, actor: usize, which: usize) {
-        let op = self.take_call(actor).expect("a call is announced");
+        let op = self.actors[actor].op.take().expect("a call is announced");
         self.moves += 1;
         self.is_due |= may_let_run(op);
         let reply = match op {
@@ -297,7 +297,7 @@ impl State {
         // What an access finds depends on who made those before it, not on what they were answered.
         let link = match accessed {
             Some(history) => mix(history, hash_of(&reply)),
-            None => mix(self.actors[actor].call_hash, hash_of(&reply)),
+            None => mix(mix(actor as u64, self.actors[actor].hash_of_call(&op)), hash_of(&reply)),
         };
         self.chain(actor, link);
     }

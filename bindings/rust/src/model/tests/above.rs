@@ -98,9 +98,15 @@ fn a_group_that_has_exited_keeps_its_code_though_its_leader_is_killed_then() {
             let (leader, thread) = (Pid::from_raw(100), Pid::from_raw(101));
             waitpid(leader, None).unwrap();
             ptrace::cont(leader, None).unwrap();
-            // The thread ends as its group does, so the leader has called exit_group.
-            while !matches!(waitpid(thread, None), Ok(WaitStatus::Exited(..))) {
-                let _ = ptrace::cont(thread, None);
+            let code = loop {
+                match waitpid(thread, None) {
+                    Ok(WaitStatus::Exited(_, code)) => break code,
+                    _ => drop(ptrace::cont(thread, None)),
+                }
+            };
+            if code == 0 {
+                // It has ended by itself. Else it has ended with its group, so the leader has called exit_group.
+                return;
             }
             ptrace::kill(leader).unwrap();
             assert_eq!(waitpid(leader, None), Ok(WaitStatus::Exited(leader, 3)));

@@ -93,7 +93,7 @@ SECOND = [
     ("crates/trace_status/specs/WaitStatus.antt", "pub data RunEnd : Type 0 where", "RunEnd"),
     ("crates/mem_views/specs/ByteView.antt", "unfoldable pub zeros : ℕ → List ℕ", "zeros"),
     ("crates/stop_board/specs/Board.antt", "mode_text : ℕ → List ℕ", "mode_text"),
-    ("crates/tracer_cli/src/order.rt", "pub(crate) struct Tracee;", "Tracee"),
+    ("crates/replay_files/src/order.rt", "pub(crate) struct Tracee;", "Tracee"),
     ("crates/trace_pages/src/lib.rt", "pub trait Gate {}", "Gate"),
     ("crates/stop_history/src/phase.rt", "enum Cut {}", "Cut"),
 ]
@@ -102,7 +102,7 @@ HARMLESS = [
     ("crates/trace_calls/specs/ByPid.antt", "-- abbrev pub KeepsRule : Type 0"),
     ("crates/trace_calls/specs/ByPid.antt", "pub use Rattle.stop_table.specs.Rule.{KeepsRule}"),
     ("crates/trace_calls/specs/ByPid.antt", "pub mod View"),
-    ("crates/tracer_cli/src/order.rt", "// struct Tracee;"),
+    ("crates/replay_files/src/order.rt", "// struct Tracee;"),
     ("crates/trace_options/src/tests.rt", "struct Tracee;"),
     ("crates/thread_tests/src/lib.rt", "struct Tracee;"),
 ]

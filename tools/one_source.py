@@ -21,7 +21,7 @@
 | the messages of a run | crates/tracer_cli/specs/Failure.antt | failure.rt, run_error.rt, FORMATS.md, man/tracer.1 |
 | the causes of a refusal | crates/trace_script/src/cause.rt | FORMATS.md, case-files.md, man/tracer.1 |
 | the limits | limits.rt of stop_history and trace_script, pages.rt | README.md, docs/, man/tracer.1, bench/ |
-| those of litmus files, the budgets | draft.rt, grammar.rt and arguments.rt of tracer_cli | the same, the help |
+| those of litmus files, the budgets | draft.rt, grammar.rt of litmus_files; arguments.rt | the same, the help |
 | the bits of a word | layout.rt and Layout.antt of stop_history | its word.rt, docs/formats/layouts.md |
 | the word of an example | docs/formats/layouts.md | docs/crates/stop_history.md |
 """
@@ -46,7 +46,7 @@ OPTIONS, OPTION_BITS = "crates/trace_options/specs/Options.antt", "crates/trace_
 MESSAGES, FAILURE = "crates/tracer_cli/specs/Failure.antt", "crates/tracer_cli/src/failure.rt"
 RUN_ERROR = "crates/tracer_workers/src/run_error.rt"
 LIMITS = ("crates/stop_history/src/limits.rt", "crates/trace_script/src/limits.rt", "crates/trace_pages/src/pages.rt",
-          "crates/tracer_cli/src/litmus/draft.rt", "crates/tracer_cli/src/litmus/grammar.rt", ARGUMENTS)
+          "crates/litmus_files/src/draft.rt", "crates/litmus_files/src/grammar.rt", ARGUMENTS)
 WAIT_FLAGS, EVENTS = "crates/trace_options/src/wait_flags.rt", "crates/trace_options/src/event.rt"
 WORD, CAUSES = "crates/stop_history/src/word.rt", "crates/trace_script/src/cause.rt"
 CASE_FILES, LAYOUTS = "docs/formats/case-files.md", "docs/formats/layouts.md"
@@ -54,7 +54,8 @@ LITMUS_FILES = "docs/formats/litmus-files.md"
 WORDS = "docs/crates/stop_history.md"
 WIDTHS, TRACER_WIDTH = "crates/stop_history/src/word/layout.rt", "crates/stop_history/specs/Layout.antt"
 PLAIN, PLAIN_CASE, PLAIN_LITMUS = "bench/plain.rs", "bench/plain_case.rs", "bench/plain_litmus.rs"
-PLAIN_EXPLORE, PROVED = "bench/plain_explore.rs", "docs/crates/tracer_cli.md"
+PLAIN_EXPLORE = "bench/plain_explore.rs"
+LITMUS, PROGRAM = "docs/crates/litmus_files.md", "docs/crates/tracer_cli.md"
 
 # What is said of the limits, and where: a name stands for its number, with :, as 16,777,215, with :_ as 16_777_215.
 SAID = [
@@ -94,8 +95,8 @@ SAID = [
     (LITMUS_FILES, "the {THREADS_AND_ONE}th thread, at its line; the {COMMANDS_AND_ONE:,}th command,"),
     (PAGE, "A litmus file has at most {MOST_THREADS} threads, and {MOST_COMMANDS:,} commands in all."),
     (PAGE, "are done N times, 1 to {MOST_REPEATS}."),
-    (PROVED, "at most {MOST_THREADS} threads and {MOST_COMMANDS:,} commands, a thread's name {LONGEST_NAME} bytes,"),
-    (PROVED, "a repeat is done at most {MOST_REPEATS} times."),
+    (LITMUS, "at most {MOST_THREADS} threads and {MOST_COMMANDS:,} commands, a thread's name {LONGEST_NAME} bytes,"),
+    (LITMUS, "a repeat is done at most {MOST_REPEATS} times."),
     (PLAIN_LITMUS, "const MOST_THREADS: usize = {MOST_THREADS};"),
     (PLAIN_LITMUS, "const MOST_COMMANDS: usize = {MOST_COMMANDS};"),
     (PLAIN_LITMUS, "const LONGEST_NAME: usize = {LONGEST_NAME};"),
@@ -106,9 +107,9 @@ SAID = [
     (PAGE, "places, 1 to {MOST_PLACES}; with more nothing"),
     (PAGE, "The default is {BUDGET}."),
     (PAGE, "1 to {MOST_PLACES}, as a replay file,"),
-    (PROVED, "`explore` has a budget of {BUDGET:,} places,"),
+    (PROGRAM, "`explore` has a budget of {BUDGET:,} places,"),
     (README, "at most {BUDGET:,}, with `--budget` up to {MOST_PLACES:,};"),
-    (PROVED, "of `--budget` and `--replay` {MOST_PLACES:,}."),
+    (PROGRAM, "of `--budget` and `--replay` {MOST_PLACES:,}."),
     (PLAIN_EXPLORE, "const MOST_PLACES: usize = {BUDGET:_};"),
 ]
 
@@ -307,14 +308,14 @@ CHANGES = [
     (LITMUS_FILES, "the 65th thread", "the 64th thread"),
     (PAGE, "A litmus file has at most 64 threads", "A litmus file has at most 16 threads"),
     (PAGE, "N times, 1 to 64.", "N times, 1 to 65."),
-    (PROVED, "name 32 bytes", "name 31 bytes"),
-    (PROVED, "at most 64 times.", "at most 63 times."),
+    (LITMUS, "name 32 bytes", "name 31 bytes"),
+    (LITMUS, "at most 64 times.", "at most 63 times."),
     (PLAIN_LITMUS, "MOST_COMMANDS: usize = 4096;", "MOST_COMMANDS: usize = 4095;"),
     (ARGUMENTS, "places are searched at most, 1 to 100000000", "places are searched at most, 1 to 1000000000"),
     (FORMATS, "| 1 to 100000000 | 1000000 |", "| 1 to 100000000 | 100000 |"),
     (PAGE, "The default is 1000000.", "The default is 100000."),
     (PAGE, "1 to 100000000, as a replay file", "0 to 100000000, as a replay file"),
-    (PROVED, "a budget of 1,000,000 places", "a budget of 1,000,001 places"),
+    (PROGRAM, "a budget of 1,000,000 places", "a budget of 1,000,001 places"),
     (README, "with `--budget` up to 100,000,000;", "with `--budget` up to 10,000,000;"),
     (PLAIN_EXPLORE, "MOST_PLACES: usize = 1_000_000;", "MOST_PLACES: usize = 1_000_001;"),
     (WORD, "| 3 to 10 | births", "| 3 to 8 | births"),

@@ -24,10 +24,10 @@ use Rattle.tracer_cli.specs.declared.failure.Failure.TheVariants.{CannotRead, Ca
 use Rattle.trace_script.specs.Reading.{most_bytes}
 use Rattle.tracer_cli.specs.CaseText.{HasConfig, case_text_of, config_of}
 use Rattle.tracer_cli.specs.Explored.{PrintsOutcomes}
-use Rattle.tracer_cli.specs.File.{content_of}
+use Rattle.replay_files.specs.File.{content_of}
 use Rattle.tracer_cli.specs.Job.{HasNoJob, IsDone, IsJob}
-use Rattle.tracer_cli.specs.LitmusFile.{LitmusContent, litmus_content_of}
-use Rattle.tracer_cli.specs.Replay.{replay_of, text_from}
+use Rattle.litmus_files.specs.LitmusFile.{LitmusContent, litmus_content_of}
+use Rattle.replay_files.specs.Replay.{replay_of, text_from}
 use Rattle.tracer_cli.specs.Run.{AnswersRequest, Ends, Explores, IsReported, MayBeRead, run_status}
 use Rattle.tracer_cli.specs.Run.{IsReadFailure, IsReadOf, IsUnwritten, Prints}
 use Rattle.tracer_cli.specs.Run.{PrintsCase, Replays, Runs, Writes}

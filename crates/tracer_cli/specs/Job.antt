@@ -9,8 +9,8 @@ use Rattle.tracer_cli.specs.declared.job.Job.{Job}
 use Rattle.tracer_cli.specs.declared.job.Job.TheVariants as job
 use Rattle.tracer_cli.specs.CaseText.{HasConfig, case_text_of}
 use Rattle.tracer_cli.specs.Explored.{PrintsOutcomes}
-use Rattle.tracer_cli.specs.LitmusFile.{litmus_content_of}
-use Rattle.tracer_cli.specs.Replay.{replay_of}
+use Rattle.litmus_files.specs.LitmusFile.{litmus_content_of}
+use Rattle.replay_files.specs.Replay.{replay_of}
 use Rattle.tracer_cli.specs.Run.{IsReadFailure, IsReadOf, Prints, PrintsCase, Writes}
 use Rattle.tracer_cli.specs.Shown.{IsNamesFailure, unknown_name}
 

@@ -14,12 +14,12 @@ use Rattle.tracer_cli.specs.declared.failure.Failure.TheVariants.{Refused, Usage
 use Rattle.tracer_cli.specs.declared.failure.Failure.TheVariants.{CannotRead, CannotWrite, NoThreads, Forbidden}
 use Rattle.tracer_cli.specs.Arguments.{AreExploreOptionsOf, AreOptionsOf}
 use Rattle.tracer_cli.specs.CaseText.{case_text_of, config_of}
-use Rattle.tracer_cli.specs.CutOff.{IsBegun, IsCutOff}
+use Rattle.outcome_text.specs.CutOff.{IsBegun, IsCutOff}
 use Rattle.tracer_cli.specs.Explored.{PrintsOutcomes}
 use Rattle.tracer_cli.specs.Failure.{failure_status, failure_text}
-use Rattle.tracer_cli.specs.LitmusFile.{litmus_content_of}
+use Rattle.litmus_files.specs.LitmusFile.{litmus_content_of}
 use Rattle.trace_script.specs.Reading.{most_bytes}
-use Rattle.tracer_cli.specs.Replay.{replay_of}
+use Rattle.replay_files.specs.Replay.{replay_of}
 use Rattle.tracer_cli.specs.Shown.{AreShown, unknown_name}
 
 -- ---- reading

@@ -4,7 +4,7 @@ ghost use Rattle.std.specs.Prelude.{◌≡◌, ◌≤◌, ◌⊎◌, IfErr, IfOk
 ghost use Rattle.std.specs.IoError.{error_kind};
 ghost use Rattle.tracer_cli.specs.Arguments.{AskExplore, AskInput, AskReplay, AskRun};
 ghost use Rattle.tracer_cli.specs.CommandLine.{AnswersWords, IsExitStatusOf};
-ghost use Rattle.tracer_cli.specs.CutOff.{IsBegun};
+ghost use Rattle.outcome_text.specs.CutOff.{IsBegun};
 ghost use Rattle.tracer_cli.specs.Failure.{failure_at, failure_status, failure_text};
 ghost use Rattle.tracer_cli.specs.Run.{Ends, ExploresNamed, IsUnread, IsUnwritten, Replays, RunsNamed};
 

@@ -3,11 +3,11 @@
 ghost use Rattle.std.specs.Prelude.{◌≡◌, ◌++◌, IfErr, OnOk};
 ghost use Rattle.std.specs.Io.KnownBytes.{Appends};
 ghost use Rattle.std.specs.IoError.{error_kind};
-ghost use Rattle.tracer_cli.specs.CutOff.{IsCutOff, text_of_parts};
+ghost use Rattle.outcome_text.specs.CutOff.{IsCutOff, text_of_parts};
 ghost use Rattle.tracer_cli.specs.Failure.{failure_at, failure_text};
 
-use crate::parts::{CutOff, write_part, write_parts};
 use itoa::Buffer;
+use outcome_text::{CutOff, write_part, write_parts};
 use std::alloc::{AllocError, AllocFailed};
 use std::io::{self, ErrorKind, Write};
 use stop_board::NoMemory;

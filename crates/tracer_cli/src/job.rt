@@ -9,7 +9,7 @@ use crate::case_text::{case_text, run_config};
 use crate::explored::explore_file;
 use crate::failure::{Failure, read_failure};
 use crate::print::print;
-use crate::replay::replay_text;
+use replay_files::replay_text;
 use std::fs;
 use std::io::{Read, Write};
 use std::rt::Files;

@@ -1,5 +1,5 @@
 -- Whether or not it could be written whole, a beginning of the failure's text is written.
-use Rattle.tracer_cli.proofs.TextOfParts.{begun_by}
+use Rattle.outcome_text.proofs.TextOfParts.{begun_by}
 use Rattle.tracer_cli.proofs.entry.fail.Goals as goal
 
 pub returns-clause-begun : goal.returns-clause-begun

@@ -1,8 +1,8 @@
 -- The order of an outcome is a text that is shown.
 use Rattle.std.proofs.Common.{string_bytes, subst}
-use Rattle.tracer_cli.specs.LitmusDraft.{content_in}
+use Rattle.litmus_files.specs.LitmusDraft.{content_in}
 use Rattle.tracer_cli.specs.Run.{Writes}
-use Rattle.tracer_cli.proofs.Printing.{shown_printed, writes_if_memory}
+use Rattle.tracer_cli.proofs.PrintsOutcomes.{shown_printed, writes_if_memory}
 use Rattle.tracer_cli.proofs.explored.explore_content.Goals as goal
 
 pub returns-in-Some-clause-printed : goal.returns-in-Some-clause-printed

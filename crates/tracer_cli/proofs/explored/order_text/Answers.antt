@@ -1,9 +1,9 @@
 -- By the commands of each thread, which are the file's own.
 use Rattle.std.proofs.Common.{◌∙◌, ap, length}
 use Rattle.stop_explorer.specs.Search.{commands_in}
-use Rattle.tracer_cli.specs.Required.{program_with}
-use Rattle.tracer_cli.proofs.ExploredFiles.{have_tracers}
-use Rattle.tracer_cli.proofs.Unmet.{asked_with}
+use Rattle.litmus_files.specs.Required.{program_with}
+use Rattle.outcome_text.proofs.SearchedFiles.{have_tracers}
+use Rattle.outcome_text.proofs.Unmet.{asked_with}
 use Rattle.tracer_cli.proofs.explored.order_text.Goals as goal
 
 pub outcome_replay-requires : goal.outcome_replay-requires

@@ -1,9 +1,9 @@
 -- How outcomes end is a text that is written; each outcome is printed by itself.
 use Rattle.std.proofs.Common.{Bool, length, string_bytes, subst, sym, true}
-use Rattle.tracer_cli.specs.Explored.{all_text, chosen_with}
-use Rattle.tracer_cli.specs.LitmusDraft.{content_in}
+use Rattle.outcome_text.specs.Searched.{all_text, chosen_with}
+use Rattle.litmus_files.specs.LitmusDraft.{content_in}
 use Rattle.tracer_cli.specs.Run.{Writes, WritesIfMemory}
-use Rattle.tracer_cli.proofs.Printing.{writes_as}
+use Rattle.tracer_cli.proofs.PrintsOutcomes.{writes_as}
 use Rattle.tracer_cli.proofs.explored.print_chosen.Goals as goal
 
 pub returns-then-ends-clause-printed : goal.returns-then-ends-clause-printed

@@ -1,11 +1,13 @@
 -- No outcome has all that the file requires, and so no run has; or those that have it are listed.
 use Rattle.std.proofs.Common.{◌∙◌, length, refl, string_bytes, subst, sym, true}
-use Rattle.tracer_cli.specs.Explored.{WritesShown, all_text, chosen_with, shows_ends}
-use Rattle.tracer_cli.specs.LitmusDraft.{content_in}
+use Rattle.tracer_cli.specs.Explored.{WritesShown, shows_ends}
+use Rattle.outcome_text.specs.Searched.{all_text, chosen_with}
+use Rattle.litmus_files.specs.LitmusDraft.{content_in}
 use Rattle.tracer_cli.specs.Run.{WritesIfMemory}
-use Rattle.tracer_cli.proofs.ExploredFiles.{all_shown, forbidden_shown, known_of}
-use Rattle.tracer_cli.proofs.Printing.{forbidden_printed, shown_printed}
-use Rattle.tracer_cli.proofs.Unmet.{forbidden_unmet}
+use Rattle.tracer_cli.proofs.ExploredFiles.{all_shown, forbidden_shown}
+use Rattle.outcome_text.proofs.SearchedFiles.{known_of}
+use Rattle.tracer_cli.proofs.PrintsOutcomes.{forbidden_printed, shown_printed}
+use Rattle.outcome_text.proofs.Unmet.{forbidden_unmet}
 use Rattle.tracer_cli.proofs.explored.print_found.Goals as goal
 
 pub explain-requires-clause-unmet : goal.explain-requires-clause-unmet

@@ -1,6 +1,6 @@
 -- The parts are the text of the failure.
 use Rattle.std.proofs.Common.{◌≡◌, ◌∙◌, ◌++◌, ℕ, List, ap, codes}
-use Rattle.tracer_cli.proofs.TextOfParts.{cut_off_as, written_as}
+use Rattle.outcome_text.proofs.TextOfParts.{cut_off_as, written_as}
 use Rattle.tracer_cli.proofs.failure.report_no_outcome.Goals as goal
 
 in_one : (said number line : List ℕ) → said ≡ codes "tracer: no outcome " ++ (number ++ codes "\n") → number ≡ line

@@ -1,6 +1,6 @@
 -- The five parts are the text of a refusal.
 use Rattle.std.proofs.Common.{◌≡◌, ◌∙◌, ◌++◌, ℕ, List, ap, append_assoc, codes}
-use Rattle.tracer_cli.proofs.TextOfParts.{cut_off_as, written_as}
+use Rattle.outcome_text.proofs.TextOfParts.{cut_off_as, written_as}
 use Rattle.tracer_cli.proofs.failure.report_refusal.Goals as goal
 
 in_one : (said number name line cause : List ℕ)

@@ -1,6 +1,6 @@
 -- What is written of a failure is its text.
 use Rattle.std.proofs.Common.{◌≡◌, ◌∙◌, ◌++◌, ℕ, List, ap, codes}
-use Rattle.tracer_cli.proofs.TextOfParts.{cut_off_as, written_as}
+use Rattle.outcome_text.proofs.TextOfParts.{cut_off_as, written_as}
 use Rattle.tracer_cli.proofs.failure.Failure.report.Goals as goal
 
 named : (said text name : List ℕ) → said ≡ codes "tracer: unknown call " ++ (text ++ codes "\n") → text ≡ name

@@ -1,0 +1,9 @@
+pub mod FirstOf
+pub mod LitmusCopies
+pub mod LitmusFiles
+pub mod LitmusForward
+pub mod LitmusNames
+pub mod LitmusPlaces
+pub mod LitmusRanges
+pub mod LitmusSteps
+pub mod LitmusWords

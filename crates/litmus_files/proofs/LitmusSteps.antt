@@ -1,0 +1,268 @@
+-- One more line of a litmus file: what it adds, and which faults it may have.
+use Rattle.std.proofs.Common.{refl, ◌≡◌, ◌∙◌, ◌<◌, ◌+◌, ◌*◌, ◌-◌, ◌++◌, ◌∷◌, [], ℕ, Bool, true, false, cond}
+use Rattle.std.proofs.Common.{List, Option, Some, None, Result, Ok, Err, IfErr, IsOk, OnOk, ap, arith, eqb, is_ok, is_some}
+use Rattle.std.proofs.Common.{length, map, nat_le, subst, sym}
+use Rattle.std.specs.Option.{ok_or}
+use Rattle.std.proofs.lemmas.Bool.Decides.{nat_tests}
+use Rattle.stop_explorer.specs.declared.command.ThreadCommand.{ThreadCommand}
+use Rattle.stop_explorer.specs.declared.voice.Voice.{Voice}
+use Rattle.stop_explorer.specs.declared.command.Which.TheVariants as which
+use Rattle.stop_history.specs.Roster.{row_of}
+use Rattle.stop_history.specs.declared.roster.Row.{Row}
+use Rattle.text_lines.specs.Ranges.{◌>>=◌}
+use Rattle.trace_script.specs.Reading.{TakesLine}
+use Rattle.trace_script.specs.declared.cause.Cause.{Cause}
+use Rattle.trace_script.specs.declared.cause.Cause.TheVariants.{NoEnd, NoMemory, NoSuchTracee, TooMany, UnknownWord}
+use Rattle.litmus_files.specs.declared.condition.LitmusCondition.{LitmusCondition}
+use Rattle.litmus_files.specs.declared.condition.LitmusCondition.TheVariants as said
+use Rattle.litmus_files.specs.declared.draft.TheConstants.{MOST_COMMANDS, MOST_THREADS}
+use Rattle.litmus_files.specs.declared.line.Aim.{Aim}
+use Rattle.litmus_files.specs.declared.line.Aim.TheVariants as aim
+use Rattle.litmus_files.specs.declared.line.LitmusCommand.{LitmusCommand}
+use Rattle.litmus_files.specs.declared.line.LitmusReply.{LitmusReply}
+use Rattle.litmus_files.specs.declared.required.Condition.{Condition}
+use Rattle.litmus_files.specs.declared.required.Condition.TheVariants as condition
+use Rattle.litmus_files.specs.declared.required.NumberedCommand.{NumberedCommand}
+use Rattle.litmus_files.specs.declared.required.NumberedLine.{NumberedLine}
+use Rattle.litmus_files.specs.LitmusDraft.{repeat_kept}
+use Rattle.std.proofs.lemmas.Option.{none-some, same_Some}
+use Rattle.litmus_files.specs.LitmusFile.{LitmusReading, OpenRepeat, command_in, commands_added, condition_added, condition_of}
+use Rattle.litmus_files.specs.LitmusFile.{copies_of, current_thread, leaving_line, litmus_command_added}
+use Rattle.litmus_files.specs.LitmusFile.{numbered_command, place_past, repeat_ended, reply_required, row_named}
+use Rattle.litmus_files.specs.LitmusFile.{thread_added, thread_command, thread_printed_as, wanted_of, wanted_row}
+use Rattle.litmus_files.specs.LitmusFile.{which_of, with_condition}
+use Rattle.litmus_files.proofs.LitmusCopies.{length_copies}
+
+-- ---- out of memory is found by no test
+
+abbrev pub IsFound : Cause → Type 0
+IsFound NoMemory = ⊥
+IsFound other = Unit {0}
+
+pub err_taken : {S : Type 0} (cause : Cause) (new : S) (read : Result S Cause) → IsFound cause → read ≡ Err cause
+    → TakesLine (Err cause) new read
+err_taken NoMemory new read found is = absurd found
+err_taken cause new read found is = is
+
+found_first : {A S : Type 0} (cause : Cause) (new : S) (r : Result A Cause) (next : A → Result S Cause)
+    → IfErr r IsFound → Err cause ≡ r → TakesLine (Err cause) new (r >>= next)
+found_first {A} {S} cause new r next found is =
+    let Found : Result A Cause → Type 0 = λ r. IfErr r IsFound in
+    err_taken cause new (r >>= next) (subst Found (sym is) found) (ap (λ r. r >>= next) (sym is))
+
+bind_found : {A B : Type 0} (r : Result A Cause) (next : A → Result B Cause) → IfErr r IsFound
+    → ((a : A) → IfErr (next a) IsFound) → IfErr (r >>= next) IsFound
+bind_found (Ok a) next found rest = rest a
+bind_found (Err cause) next found rest = found
+
+named_found : (found : Option ℕ) → IfErr (ok_or found NoSuchTracee) IsFound
+named_found None = tt
+named_found (Some row) = tt
+
+which_found : (rows : List Row) (about : Aim) → IfErr (which_of rows about) IsFound
+which_found rows (aim.Tid tid) =
+    bind_found (row_named rows tid) (λ row. Ok (which.Row row)) (named_found (row_of rows tid)) (λ row. tt)
+which_found rows aim.Any = tt
+which_found rows (aim.Group pgid) = tt
+which_found rows aim.It = tt
+
+wanted_row_found : (rows : List Row) (tid : Option ℕ) → IfErr (wanted_row rows tid) IsFound
+wanted_row_found rows None = tt
+wanted_row_found rows (Some tid) =
+    bind_found (row_named rows tid) (λ row. Ok (Some row)) (named_found (row_of rows tid)) (λ row. tt)
+
+wanted_found : (rows : List Row) (reply : Option LitmusReply) → IfErr (wanted_of rows reply) IsFound
+wanted_found rows None = tt
+wanted_found rows (Some reply) =
+    bind_found (wanted_row rows reply.tid) (λ row. Ok (Some (record { row = row; answer = reply.answer })))
+    (wanted_row_found rows reply.tid) (λ row. tt)
+
+command_found : (rows : List Row) (command : LitmusCommand) → IfErr (thread_command rows command) IsFound
+command_found rows command =
+    bind_found (which_of rows command.aim)
+    (λ about. wanted_of rows command.reply >>= λ needed. Ok
+    (record { which = about; call = command.call; waits = command.waits; wanted = needed; leave_to = 0 }))
+    (which_found rows command.aim)
+    (λ about. bind_found (wanted_of rows command.reply)
+    (λ needed. Ok
+    (record { which = about; call = command.call; waits = command.waits; wanted = needed; leave_to = 0 }))
+    (wanted_found rows command.reply) (λ needed. tt))
+
+thread_by : (n : ℕ) (none : Bool) → IfErr (cond none (Err UnknownWord) (Ok (n - 1))) IsFound
+thread_by n true = tt
+thread_by n false = tt
+
+room_by : (n : ℕ) (room : Bool) → IfErr (cond room (Ok n) (Err TooMany)) IsFound
+room_by n true = tt
+room_by n false = tt
+
+-- ---- commands of the last thread
+
+abbrev with_commands : LitmusReading → (thread place : ℕ) → List NumberedCommand → LitmusReading
+with_commands so_far thread place commands =
+    record so_far { lines = so_far.lines ++ map (leaving_line thread place) commands }
+
+abbrev added_at : LitmusReading → List NumberedCommand → (thread : ℕ) → Result LitmusReading Cause
+added_at so_far commands thread =
+    place_past so_far (length commands) >>= λ place. Ok (with_commands so_far thread place commands)
+
+pub thread_refused : (so_far new : LitmusReading) (commands : List NumberedCommand) (cause : Cause)
+    → Err cause ≡ current_thread so_far → TakesLine (Err cause) new (commands_added so_far commands)
+thread_refused so_far new commands cause is =
+    found_first cause new (current_thread so_far) (added_at so_far commands)
+    (thread_by (length so_far.names) (eqb (length so_far.names) 0)) is
+
+pub room_refused : (so_far new : LitmusReading) (commands : List NumberedCommand) (thread : ℕ) (cause : Cause)
+    → Ok thread ≡ current_thread so_far → Err cause ≡ place_past so_far (length commands)
+    → TakesLine (Err cause) new (commands_added so_far commands)
+room_refused so_far new commands thread cause at is =
+    let Takes : Result LitmusReading Cause → Type 0 = λ read. TakesLine (Err cause) new read in
+    let here : added_at so_far commands thread ≡ commands_added so_far commands =
+    ap (λ r. r >>= added_at so_far commands) at in
+    subst Takes here
+    (found_first cause new (place_past so_far (length commands))
+    (λ place. Ok (with_commands so_far thread place commands))
+    (room_by (length so_far.lines - so_far.before + length commands)
+    (nat_le (length so_far.lines + length commands) MOST_COMMANDS)) is)
+
+pub added : (so_far : LitmusReading) (commands : List NumberedCommand) (thread place : ℕ) (lines : List NumberedLine)
+    → Ok thread ≡ current_thread so_far → Ok place ≡ place_past so_far (length commands)
+    → lines ≡ so_far.lines ++ map (leaving_line thread place) commands
+    → commands_added so_far commands ≡ Ok (record so_far { lines = lines })
+added so_far commands thread place lines at past is =
+    ap (λ r. r >>= added_at so_far commands) (sym at)
+    ∙ ap (λ r. r >>= λ place. Ok (with_commands so_far thread place commands)) (sym past)
+    ∙ ap (λ ls. Ok (record so_far { lines = ls })) (sym is)
+
+pub fits : (so_far : LitmusReading) (commands : List NumberedCommand) (thread place : ℕ)
+    → Ok thread ≡ current_thread so_far → Ok place ≡ place_past so_far (length commands)
+    → IsOk (commands_added so_far commands)
+fits so_far commands thread place at past =
+    ap (λ r. is_ok r) (added so_far commands thread place _ at past refl)
+
+-- ---- the end of a repeat
+
+pub ends_with : (so_far : LitmusReading) (times : Option ℕ) (n : ℕ) (body : List NumberedCommand) → times ≡ Some n
+    → repeat_ended so_far (repeat_kept times body)
+    ≡ commands_added (record so_far { repeat = None }) (copies_of n body)
+ends_with so_far times n body is = ap (λ t. repeat_ended so_far (repeat_kept t body)) is
+
+-- as many places as the copies have commands
+pub place_of_copies : (so_far : LitmusReading) (n : ℕ) (body : List NumberedCommand) (len : ℕ) → len ≡ length body
+    → place_past so_far (n * len) ≡ place_past so_far (length (copies_of n body))
+place_of_copies so_far n body len is =
+    ap (λ l. place_past so_far (n * l)) is ∙ ap (place_past so_far) (sym (length_copies n body))
+
+-- ---- one more command
+
+pub command_refused : (n : ℕ) (so_far new : LitmusReading) (command : LitmusCommand) (cause : Cause)
+    → Err cause ≡ thread_command so_far.rows command
+    → TakesLine (Err cause) new (litmus_command_added n so_far command)
+command_refused n so_far new command cause is =
+    found_first cause new (thread_command so_far.rows command)
+    (λ made. command_in (reply_required n so_far made) so_far.repeat (numbered_command so_far made))
+    (command_found so_far.rows command) is
+
+pub command_taken : (n : ℕ) (so_far : LitmusReading) (command : LitmusCommand) (made : ThreadCommand)
+    → Ok made ≡ thread_command so_far.rows command
+    → litmus_command_added n so_far command
+    ≡ command_in (reply_required n so_far made) so_far.repeat (numbered_command so_far made)
+command_taken n so_far command made is =
+    ap (λ r. r >>= λ c. command_in (reply_required n so_far c) so_far.repeat (numbered_command so_far c)) (sym is)
+
+pub taken_once : (n : ℕ) (so_far : LitmusReading) (command : LitmusCommand) (made : ThreadCommand)
+    → Ok made ≡ thread_command so_far.rows command → so_far.repeat ≡ None
+    → litmus_command_added n so_far command
+    ≡ commands_added (reply_required n so_far made) (numbered_command so_far made ∷ [])
+taken_once n so_far command made is none =
+    command_taken n so_far command made is
+    ∙ ap (λ r. command_in (reply_required n so_far made) r (numbered_command so_far made)) none
+
+-- the repeat that is open is done as often as it was
+pub times_kept : (old new : Option ℕ) (t : ℕ) (old_body new_body : List NumberedCommand) → old ≡ Some t
+    → repeat_kept new new_body ≡ repeat_kept old old_body → new ≡ Some t
+times_kept old None t old_body new_body is same =
+    let open_is : repeat_kept old old_body ≡ repeat_kept (Some t) old_body = ap (λ o. repeat_kept o old_body) is in
+    absurd (none-some _ (same ∙ open_is))
+times_kept old (Some u) t old_body new_body is same =
+    let open_is : repeat_kept old old_body ≡ repeat_kept (Some t) old_body = ap (λ o. repeat_kept o old_body) is in
+    ap (λ (r : OpenRepeat). Some r.times) (same_Some _ _ (same ∙ open_is))
+
+-- a command of a repeat has room
+pub fits_in_repeat : (n : ℕ) (so_far : LitmusReading) (command : LitmusCommand) (made : ThreadCommand)
+    (times : Option ℕ) (t : ℕ) (old : List NumberedCommand) → Ok made ≡ thread_command so_far.rows command
+    → times ≡ Some t → so_far.repeat ≡ repeat_kept times old → IsOk (litmus_command_added n so_far command)
+fits_in_repeat n so_far command made times t old is open_is same =
+    ap (λ r. is_ok r) (command_taken n so_far command made is
+    ∙ ap (λ r. command_in (reply_required n so_far made) r (numbered_command so_far made))
+    (same ∙ ap (λ t. repeat_kept t old) open_is))
+
+pub taken_in_repeat : (n : ℕ) (so_far required : LitmusReading) (command : LitmusCommand) (made : ThreadCommand)
+    (numbered : NumberedCommand) (times : Option ℕ) (t : ℕ) (old new : List NumberedCommand)
+    → Ok made ≡ thread_command so_far.rows command → times ≡ Some t → so_far.repeat ≡ repeat_kept times old
+    → required ≡ reply_required n so_far made → numbered ≡ numbered_command so_far made → new ≡ old ++ numbered ∷ []
+    → litmus_command_added n so_far command ≡ Ok (record required { repeat = repeat_kept times new })
+taken_in_repeat n so_far required command made numbered times t old new is open_is same required_is numbered_is pushed =
+    command_taken n so_far command made is
+    ∙ ap (λ r. command_in (reply_required n so_far made) r (numbered_command so_far made))
+    (same ∙ ap (λ t. repeat_kept t old) open_is)
+    ∙ ap (λ s. command_in s (Some (record { times = t; body = old })) (numbered_command so_far made)) (sym required_is)
+    ∙ ap (λ c. command_in required (Some (record { times = t; body = old })) c) (sym numbered_is)
+    ∙ ap (λ b. Ok (record required { repeat = Some (record { times = t; body = b }) })) (sym pushed)
+    ∙ ap (λ t. Ok (record required { repeat = repeat_kept t new })) (sym open_is)
+
+-- ---- one more condition
+
+condition_found : (rows : List Row) (thread : Option ℕ) (asked : LitmusCondition)
+    → IfErr (condition_of rows thread asked) IsFound
+condition_found rows thread (said.Tid tid sense named) =
+    bind_found (row_named rows tid) (λ row. Ok (condition.Tracee row sense named)) (named_found (row_of rows tid))
+    (λ row. tt)
+condition_found rows thread (said.Any sense named) = tt
+condition_found rows None (said.Thread sense) = tt
+condition_found rows (Some thread) (said.Thread sense) = tt
+
+pub condition_refused : (n : ℕ) (so_far new : LitmusReading) (word : List ℕ) (asked : LitmusCondition) (cause : Cause)
+    (thread : Option ℕ) → thread ≡ thread_printed_as so_far.names word
+    → Err cause ≡ condition_of so_far.rows thread asked
+    → TakesLine (Err cause) new (condition_added n so_far word asked)
+condition_refused n so_far new word asked cause thread named is =
+    let found : Option ℕ = thread_printed_as so_far.names word in
+    found_first cause new (condition_of so_far.rows found asked) (λ c. Ok (with_condition n so_far c))
+    (condition_found so_far.rows found asked) (is ∙ ap (λ t. condition_of so_far.rows t asked) named)
+
+pub condition_taken : (n : ℕ) (so_far : LitmusReading) (word : List ℕ) (asked : LitmusCondition) (made : Condition)
+    (thread : Option ℕ) → thread ≡ thread_printed_as so_far.names word → Ok made ≡ condition_of so_far.rows thread asked
+    → condition_added n so_far word asked ≡ Ok (with_condition n so_far made)
+condition_taken n so_far word asked made thread named is =
+    ap (λ r. r >>= λ c. Ok (with_condition n so_far c))
+    (sym (is ∙ ap (λ t. condition_of so_far.rows t asked) named))
+
+pub at_ok : {T E P : Type 0} (r : Result T E) → is_ok r ≡ true → OnOk r P → P
+at_ok (Ok x) is holds = holds
+at_ok (Err e) is holds = absurd (let clash : false ≡ true = is in cc)
+
+-- ---- one more thread
+
+pub room_for : (n len most : ℕ) → len < most → n ≡ len → nat_le most n ≡ false
+room_for n len most less is = grind (arith, nat_tests)
+
+by_tests : {S : Type 0} (full within : Bool) (x : S) → full ≡ false → within ≡ false
+    → cond full (Err TooMany) (cond within (Err NoEnd) (Ok x)) ≡ Ok x
+by_tests full within x room closed = rw (room, closed)
+
+pub thread_taken : (so_far : LitmusReading) (voice : Voice) (name : Option (List ℕ)) (names : List (Option (List ℕ)))
+    (voices : List Voice) → nat_le MOST_THREADS (length so_far.names) ≡ false → is_some so_far.repeat ≡ false
+    → names ≡ so_far.names ++ name ∷ [] → voices ≡ so_far.voices ++ voice ∷ []
+    → thread_added so_far voice name
+    ≡ Ok (record so_far { names = names; voices = voices; before = length so_far.lines })
+thread_taken so_far voice name names voices room closed is voices_are =
+    by_tests (nat_le MOST_THREADS (length so_far.names)) (is_some so_far.repeat)
+    (record so_far {
+      names = so_far.names ++ name ∷ [];
+      voices = so_far.voices ++ voice ∷ [];
+      before = length so_far.lines;
+    }) room closed
+    ∙ ap (λ ns. Ok (record so_far { names = ns; voices = so_far.voices ++ voice ∷ []; before = length so_far.lines }))
+    (sym is)
+    ∙ ap (λ vs. Ok (record so_far { names = names; voices = vs; before = length so_far.lines })) (sym voices_are)

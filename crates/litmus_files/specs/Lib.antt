@@ -1,0 +1,6 @@
+pub mod LitmusCondition
+pub mod LitmusDraft
+pub mod LitmusFile
+pub mod LitmusGrammar
+pub mod LitmusReply
+pub mod Required

@@ -1,0 +1,344 @@
+//! What a line of a litmus file says, by its words and by where it is. All words are looked at before any number.
+
+ghost use Rattle.std.specs.Prelude.{◌≡◌, ◌<◌, IfOk, IfSome, length, map, option_map, position};
+ghost use Rattle.std.specs.List.{list_all};
+ghost use Rattle.stop_history.specs.declared.limits.TheConstants.{TRACERS};
+ghost use Rattle.text_lines.specs.Lines.{nth_word, words_in};
+ghost use Rattle.trace_script.specs.CaseLine.{is_equals};
+ghost use Rattle.replay_files.specs.Command.{IsCommand};
+ghost use Rattle.replay_files.specs.Grammar.{IsLine};
+ghost use Rattle.litmus_files.specs.LitmusGrammar.{IsLitmusCall, IsLitmusCommand, IsLitmusLine, any_or_tid};
+ghost use Rattle.litmus_files.specs.LitmusGrammar.{as_in_replay, asking, bare_command_of, claim_call, claim_command};
+ghost use Rattle.litmus_files.specs.LitmusGrammar.{claim_of_words, command_of_words, does_wait, group_aim};
+ghost use Rattle.litmus_files.specs.LitmusGrammar.{is_name_byte, is_thread_name, it_or_tid, litmus_line_of};
+ghost use Rattle.litmus_files.specs.LitmusGrammar.{litmus_rest_of, name_of_words, repeat_line, replied_command};
+ghost use Rattle.litmus_files.specs.LitmusGrammar.{resume_command, resume_of_words, thread_line};
+
+use crate::condition::condition_of;
+use crate::keyword::{
+    CommandKeyword, LitmusKeyword, is_any_word, is_group_word, is_it_word, keyword_in,
+};
+use crate::line::{Aim, LitmusCommand, LitmusLine, Within};
+use crate::reply::reply_of;
+use replay_files::{Command, KINDS, Line, ReplayKeyword, rest_of, tracer_of};
+use stop_explorer::{BoardCall, Voice};
+use text_lines::{LineFault, first_words, keyword, number_between};
+use trace_options::LAST_SIGNAL;
+use trace_record::Resume;
+use trace_script::{id, row_of_words};
+
+/// How many words of a line are looked at: one more than the five of the longest command, its `=` and the four of the
+/// longest reply.
+const WORDS_LOOKED_AT: usize = 11;
+
+/// How many bytes the name of a thread has at most.
+const LONGEST_NAME: usize = 32;
+
+/// How many times the commands of a repeat are done at most.
+const MOST_REPEATS: u32 = 64;
+
+/// What a line says, by where it is, or its first fault.
+pub(crate) fn read_litmus_line(within: Within, line: &[u8]) -> Result<LitmusLine, LineFault>
+    ensures line { result ≡ litmus_line_of within (words_in line.now) }
+    ensures range { IfOk result IsLitmusLine }
+{
+    let mut words: [&[u8]; WORDS_LOOKED_AT] = [&[]; WORDS_LOOKED_AT];
+    let count = first_words(line, &mut words);
+    read_words(within, &words[..count])
+}
+
+/// The name of a thread, of the line that begins it: its second word, if it has one.
+pub(crate) fn thread_name<'a>(line: &'a [u8]) -> Option<&'a [u8]>
+    ensures { option_map (λ name. name.now) result ≡ name_of_words (words_in line.now) }
+{
+    let mut words: [&[u8]; 2] = [&[]; 2];
+    let count = first_words(line, &mut words);
+    words[..count].get(1).copied()
+}
+
+/// What the words of a line say, by where it is.
+fn read_words(within: Within, words: &[&[u8]]) -> Result<LitmusLine, LineFault>
+    ensures line { result ≡ litmus_line_of within (map (λ w. w.now) words.now) }
+    ensures range { IfOk result IsLitmusLine }
+{
+    match words {
+        [] => Ok(LitmusLine::Nothing),
+        [first, ..] if first.first() == Some(&b'#') => Ok(LitmusLine::Nothing),
+        [first, words @ ..] => {
+            let keyword = keyword_in(within, first)?;
+            litmus_rest_of(keyword, words)
+        }
+    }
+}
+
+/// What a line says, by the words after its first one.
+fn litmus_rest_of(keyword: LitmusKeyword, words: &[&[u8]]) -> Result<LitmusLine, LineFault>
+    ensures line { result ≡ litmus_rest_of keyword (map (λ w. w.now) words.now) }
+    ensures range { IfOk result IsLitmusLine }
+{
+    match keyword {
+        LitmusKeyword::Row => match words {
+            [tid, tgid, pgid, parent] => {
+                Ok(LitmusLine::Row(row_of_words(tid, tgid, pgid, parent)?))
+            }
+            _ => Err(LineFault::UnknownWord),
+        },
+        LitmusKeyword::Thread(voice) => thread_line(voice, words),
+        LitmusKeyword::Repeat => match words {
+            [count] => repeat_line(count),
+            _ => Err(LineFault::UnknownWord),
+        },
+        LitmusKeyword::End => match words {
+            [] => Ok(LitmusLine::End),
+            _ => Err(LineFault::UnknownWord),
+        },
+        LitmusKeyword::Only => Ok(LitmusLine::Only(condition_of(words)?)),
+        LitmusKeyword::Command(keyword) => Ok(LitmusLine::Command(command_of(keyword, words)?)),
+    }
+}
+
+fn thread_line(voice: Voice, words: &[&[u8]]) -> Result<LitmusLine, LineFault>
+    ensures line { result ≡ thread_line voice (map (λ w. w.now) words.now) }
+    ensures range { IfOk result IsLitmusLine }
+{
+    match words {
+        [] => Ok(LitmusLine::Thread(voice)),
+        [name] if is_thread_name(name) => Ok(LitmusLine::Thread(voice)),
+        _ => Err(LineFault::UnknownWord),
+    }
+}
+
+/// Whether a word can name a thread: a letter, then letters, digits, `_` and `-`.
+fn is_thread_name(word: &[u8]) -> bool
+    ensures { result ≡ is_thread_name word.now }
+{
+    word.first().is_some_and(|c| c.is_ascii_alphabetic())
+        && word.len() <= LONGEST_NAME
+        && are_name_bytes(word)
+}
+
+fn are_name_bytes(word: &[u8]) -> bool
+    ensures { result ≡ list_all is_name_byte word.now }
+{
+    word.iter().all(|c| is_name_byte(*c))
+}
+
+fn is_name_byte(c: u8) -> bool
+    ensures { result ≡ is_name_byte c }
+{
+    c.is_ascii_alphanumeric() || c == b'_' || c == b'-'
+}
+
+fn repeat_line(count: &[u8]) -> Result<LitmusLine, LineFault>
+    ensures line { result ≡ repeat_line count.now }
+    ensures range { IfOk result IsLitmusLine }
+{
+    let count = number_between(1, u64::from(MOST_REPEATS), count)? as u32;
+    Ok(LitmusLine::Repeat(count))
+}
+
+/// A command, by the words after its first one. Its reply comes after the first `=`.
+fn command_of(keyword: CommandKeyword, words: &[&[u8]]) -> Result<LitmusCommand, LineFault>
+    ensures command { result ≡ command_of_words keyword (map (λ w. w.now) words.now) }
+    ensures range { IfOk result IsLitmusCommand }
+{
+    match equals(words) {
+        None => bare_command(keyword, words),
+        Some(place) => replied_command(keyword, &words[..place], &words[place + 1..]),
+    }
+}
+
+/// The place of the first `=`.
+fn equals(words: &[&[u8]]) -> Option<usize>
+    ensures place { result ≡ position (λ w. is_equals w.now) words.now }
+    ensures within { IfSome result (λ place. place < length words.now) }
+{
+    words.iter().position(|word| *word == b"=".as_slice())
+}
+
+/// A command with its reply. An unknown word of the reply comes before a wrong number of the command.
+fn replied_command(
+    keyword: CommandKeyword,
+    words: &[&[u8]],
+    reply: &[&[u8]],
+) -> Result<LitmusCommand, LineFault>
+    ensures command { result
+        ≡ replied_command keyword (map (λ w. w.now) words.now) (map (λ w. w.now) reply.now) }
+    ensures range { IfOk result IsLitmusCommand }
+{
+    match reply_of(keyword, first_of(words), reply) {
+        Err(LineFault::UnknownWord) => Err(LineFault::UnknownWord),
+        reply => {
+            let command = bare_command(keyword, words)?;
+            Ok(LitmusCommand {
+                reply: Some(reply?),
+                ..command
+            })
+        }
+    }
+}
+
+/// The first of some words; without letters where there is none.
+fn first_of<'a>(words: &[&'a [u8]]) -> &'a [u8]
+    ensures { result.now ≡ nth_word (map (λ w. w.now) words.now) 0 }
+{
+    match words {
+        [first, ..] => first,
+        [] => &[],
+    }
+}
+
+/// A command without a reply.
+fn bare_command(keyword: CommandKeyword, words: &[&[u8]]) -> Result<LitmusCommand, LineFault>
+    ensures command { result ≡ bare_command_of keyword (map (λ w. w.now) words.now) }
+    ensures range { IfOk result IsLitmusCommand }
+{
+    match keyword {
+        CommandKeyword::Publish => as_in_replay(keyword, rest_of(ReplayKeyword::Publish, words)?),
+        CommandKeyword::Exit => as_in_replay(keyword, rest_of(ReplayKeyword::Exit, words)?),
+        CommandKeyword::State => as_in_replay(keyword, rest_of(ReplayKeyword::State, words)?),
+        CommandKeyword::Claim => claim_of(keyword, words),
+        CommandKeyword::Wait => claim_of(keyword, words),
+        CommandKeyword::Look => claim_of(keyword, words),
+        CommandKeyword::Peek => claim_of(keyword, words),
+        CommandKeyword::Resume => resume_of(words),
+    }
+}
+
+/// A command of a replay file that has the same words here.
+fn as_in_replay(keyword: CommandKeyword, line: Line) -> Result<LitmusCommand, LineFault>
+    ensures command { result ≡ as_in_replay keyword line }
+    ensures range { IsLine line → IfOk result IsLitmusCommand }
+{
+    let Line::Command(tid, command) = line else {
+        return Err(LineFault::UnknownWord);
+    };
+    let call = match command {
+        Command::Publish(stop) => BoardCall::Publish(stop),
+        Command::Exit(death) => BoardCall::Exit(death),
+        Command::State => BoardCall::State,
+        Command::Claim(_) | Command::Resume(..) => return Err(LineFault::UnknownWord),
+    };
+    Ok(asking(keyword, Aim::Tid(tid), call))
+}
+
+/// A command that makes this call, without a reply.
+fn asking(keyword: CommandKeyword, aim: Aim, call: BoardCall) -> LitmusCommand
+    ensures { result ≡ asking keyword aim call }
+{
+    LitmusCommand {
+        aim,
+        call,
+        waits: does_wait(keyword),
+        reply: None,
+    }
+}
+
+/// Whether a command waits while its call would be refused by a refusal that may pass.
+fn does_wait(keyword: CommandKeyword) -> bool
+    ensures { result ≡ does_wait keyword }
+{
+    match keyword {
+        CommandKeyword::Publish => true,
+        CommandKeyword::Exit => true,
+        CommandKeyword::State => false,
+        CommandKeyword::Claim => false,
+        CommandKeyword::Wait => true,
+        CommandKeyword::Look => true,
+        CommandKeyword::Peek => false,
+        CommandKeyword::Resume => false,
+    }
+}
+
+/// A claim, a wait, a look or a peek, by the words after its first one.
+fn claim_of(keyword: CommandKeyword, words: &[&[u8]]) -> Result<LitmusCommand, LineFault>
+    ensures command { result ≡ claim_of_words keyword (map (λ w. w.now) words.now) }
+    ensures range { IfOk result IsLitmusCommand }
+{
+    match words {
+        [named, tracer] => claim_command(keyword, any_or_tid(named), tracer),
+        [word, pgid, tracer] if is_group_word(word) => {
+            claim_command(keyword, group_aim(pgid), tracer)
+        }
+        _ => Err(LineFault::UnknownWord),
+    }
+}
+
+fn claim_command(
+    keyword: CommandKeyword,
+    aim: Result<Aim, LineFault>,
+    tracer: &[u8],
+) -> Result<LitmusCommand, LineFault>
+    ensures command { result ≡ claim_command keyword aim tracer.now }
+    ensures range { IfOk result IsLitmusCommand }
+{
+    let aim = aim?;
+    let tracer = u32::from(tracer_of(tracer)?);
+    Ok(asking(keyword, aim, claim_call(keyword, tracer)))
+}
+
+/// The call of a claim or a wait, which take what is there, and of a look or a peek, which leave it.
+fn claim_call(keyword: CommandKeyword, tracer: u32) -> BoardCall
+    ensures call { result ≡ claim_call keyword tracer }
+    ensures range { tracer < TRACERS → IsLitmusCall result }
+{
+    match keyword {
+        CommandKeyword::Look | CommandKeyword::Peek => BoardCall::Look(tracer),
+        _ => BoardCall::Claim(tracer),
+    }
+}
+
+/// Whichever tracee has something, or that of a thread id.
+fn any_or_tid(word: &[u8]) -> Result<Aim, LineFault>
+    ensures { result ≡ any_or_tid word.now }
+{
+    if is_any_word(word) {
+        return Ok(Aim::Any);
+    }
+    Ok(Aim::Tid(id(word)?))
+}
+
+/// Whichever tracee of a process group has something.
+fn group_aim(pgid: &[u8]) -> Result<Aim, LineFault>
+    ensures { result ≡ group_aim pgid.now }
+{
+    Ok(Aim::Group(id(pgid)?))
+}
+
+/// A resume, by the words after its first one.
+fn resume_of(words: &[&[u8]]) -> Result<LitmusCommand, LineFault>
+    ensures command { result ≡ resume_of_words (map (λ w. w.now) words.now) }
+    ensures range { IfOk result IsLitmusCommand }
+{
+    match words {
+        [named, tracer, kind, signal] => resume_command(named, tracer, kind, signal),
+        _ => Err(LineFault::UnknownWord),
+    }
+}
+
+fn resume_command(
+    named: &[u8],
+    tracer: &[u8],
+    kind: &[u8],
+    signal: &[u8],
+) -> Result<LitmusCommand, LineFault>
+    ensures command { result ≡ resume_command named.now tracer.now kind.now signal.now }
+    ensures range { IfOk result IsLitmusCommand }
+{
+    let kind = keyword(&KINDS, kind)?;
+    let aim = it_or_tid(named)?;
+    let tracer = u32::from(tracer_of(tracer)?);
+    let signal = number_between(0, u64::from(LAST_SIGNAL), signal)? as u8;
+    let call = BoardCall::Resume(tracer, Resume { kind, signal });
+    Ok(asking(CommandKeyword::Resume, aim, call))
+}
+
+/// The tracee that the thread claimed last, or that of a thread id.
+fn it_or_tid(word: &[u8]) -> Result<Aim, LineFault>
+    ensures { result ≡ it_or_tid word.now }
+{
+    if is_it_word(word) {
+        return Ok(Aim::It);
+    }
+    Ok(Aim::Tid(id(word)?))
+}

@@ -1,0 +1,58 @@
+-- The orders of turns, one after another.
+use Rattle.std.proofs.Common.{◌≡◌, ◌<◌, ◌≤◌, ◌+◌, ◌++◌, ◌∷◌, [], ℕ, suc, zero, List, Option, All, IfSome, length, get_or, drop, take}
+use Rattle.std.proofs.Common.{Some, None, slice_get, arith, ◌∙◌, ap, sym}
+use Rattle.std.specs.List.{cons_option}
+use Rattle.std.proofs.lemmas.List.{at_drop_all, drop_more, take_more}
+use Rattle.stop_history.specs.declared.roster.Row.{Row}
+use Rattle.stop_explorer.specs.declared.command.ThreadCommand.{ThreadCommand}
+use Rattle.stop_explorer.specs.declared.turn.Turn.{Turn}
+use Rattle.stop_explorer.specs.Program.{Log, index_from, own_turns}
+use Rattle.text_lines.specs.Lines.{line_text}
+use Rattle.replay_files.specs.declared.order.Order.{Order}
+use Rattle.litmus_files.specs.LitmusGrammar.{HasTracer}
+use Rattle.outcome_text.specs.OutcomeOrder.{HaveTracers, order_of_turn, orders_after}
+use Rattle.outcome_text.specs.OutcomeText.{command_of_turn}
+use Rattle.replay_files.specs.Spelling.{order_words, orders_text}
+
+pub orders_more : (rows : List Row) (commands : ℕ → List ThreadCommand) (turns : Log) (i : ℕ) (d : Turn)
+    (command : Option ThreadCommand) (order : Option Order) → i < length turns
+    → command ≡ command_of_turn commands (take i turns) (get_or turns i d)
+    → order ≡ order_of_turn rows (get_or turns i d) command
+    → orders_after rows commands (take i turns) (drop i turns)
+    ≡ cons_option order (orders_after rows commands (take (i + 1) turns) (drop (i + 1) turns))
+unfolding orders_after
+orders_more rows commands turns i d command order within is order_is =
+    let turn : Turn = get_or turns i d in
+    let rest : List Turn = drop (i + 1) turns in
+    ap (orders_after rows commands (take i turns)) (drop_more turns i d within)
+    ∙ ap (λ before. cons_option (order_of_turn rows turn (command_of_turn commands (take i turns) turn))
+    (orders_after rows commands before rest)) (sym (take_more turns i d within))
+    ∙ ap (λ o. cons_option o (orders_after rows commands (take (i + 1) turns) rest))
+    (ap (order_of_turn rows turn) (sym is) ∙ sym order_is)
+
+-- the text of the orders, where the turn has one
+pub text_of_order : (rows : List Row) (found : Option Order) (order : Order) (more : List Order) → found ≡ Some order
+    → orders_text rows (cons_option found more) ≡ line_text (order_words rows order) ++ orders_text rows more
+text_of_order rows found order more is = ap (λ o. orders_text rows (cons_option o more)) is
+
+pub text_of_none : (rows : List Row) (found : Option Order) (more : List Order) → found ≡ None
+    → orders_text rows (cons_option found more) ≡ orders_text rows more
+text_of_none rows found more is = ap (λ o. orders_text rows (cons_option o more)) is
+
+pub orders_over : (rows : List Row) (commands : ℕ → List ThreadCommand) (before turns : Log) (i : ℕ) → length turns ≤ i
+    → orders_after rows commands before (drop i turns) ≡ []
+unfolding orders_after
+orders_over rows commands before turns i past = at_drop_all (orders_after rows commands before) turns i past
+
+-- ---- the tracer of a turn's command
+
+each_some : {X : Type 0} (P : X → Type 0) (xs : List X) → All P xs → (k : ℕ) → IfSome (slice_get xs k) P
+each_some P [] all k = tt
+each_some P (x ∷ xs) all zero = all 0 x (omega arith)
+each_some P (x ∷ xs) all (suc k) = each_some P xs (λ n d within. all (suc n) d (omega arith)) k
+
+pub turn_has_tracer : (commands : ℕ → List ThreadCommand) → HaveTracers commands → (before : Log) (turn : Turn)
+    → IfSome (command_of_turn commands before turn) (λ command. HasTracer command.call)
+turn_has_tracer commands all before turn =
+    each_some (λ (command : ThreadCommand). HasTracer command.call) (commands turn.thread) (all turn.thread)
+    (index_from (commands turn.thread) 0 (own_turns turn.thread before))

@@ -1,0 +1,52 @@
+-- What was found is of the program with the first n requirements.
+use Rattle.std.proofs.Common.{◌≡◌, ◌∙◌, ◌<◌, ap, arith, length, subst, sym}
+use Rattle.std.specs.List.{All}
+use Rattle.stop_explorer.specs.BoardCall.{IsBoardCall}
+use Rattle.stop_explorer.specs.Program.{Program}
+use Rattle.litmus_files.specs.LitmusDraft.{content_in}
+use Rattle.litmus_files.specs.Required.{program_with}
+use Rattle.outcome_text.proofs.SearchedFiles.{not_more_with}
+use Rattle.outcome_text.proofs.Unmet.{calls_with, threads_with}
+use Rattle.outcome_text.proofs.searched.search.Goals as goal
+
+pub explore-requires-clause-calls : goal.explore-requires-clause-calls
+explore-requires-clause-calls c =
+    let program_is = c.as_slice-lines.ensures.value ∙ c.in_ok-program.ensures
+    ∙ ap (program_with c.args.count) c.as_slice.ensures.value in
+    subst (λ (p : Program). All (λ line. IsBoardCall line.command.call) p) (sym program_is)
+    (calls_with c.args.count c.args.file.now.lines.items c.requires.calls)
+
+pub explore-requires-clause-threads : goal.explore-requires-clause-threads
+explore-requires-clause-threads c =
+    let program_is = c.as_slice-lines.ensures.value ∙ c.in_ok-program.ensures
+    ∙ ap (program_with c.args.count) c.as_slice.ensures.value in
+    let threads : length c.args.file.now.names.items ≡ length c.as_slice-voices.result.now =
+    sym (ap (λ vs. length vs) c.as_slice-voices.ensures.value ∙ c.requires.voices) in
+    subst (λ (p : Program). All (λ line. line.thread < length c.as_slice-voices.result.now) p) (sym program_is)
+    (subst (λ n. All (λ line. line.thread < n) (program_with c.args.count c.args.file.now.lines.items)) threads
+    (threads_with c.args.count (length c.args.file.now.names.items) c.args.file.now.lines.items c.requires.threads))
+
+pub commands_of-requires-clause-calls : goal.commands_of-requires-clause-calls
+commands_of-requires-clause-calls c =
+    let program_is = c.as_slice-lines.ensures.value ∙ c.in_ok-program.ensures
+    ∙ ap (program_with c.args.count) c.as_slice.ensures.value in
+    subst (λ (p : Program). All (λ line. IsBoardCall line.command.call) p) (sym program_is)
+    (calls_with c.args.count c.args.file.now.lines.items c.requires.calls)
+
+pub commands_of-requires-clause-threads : goal.commands_of-requires-clause-threads
+commands_of-requires-clause-threads c =
+    let program_is = c.as_slice-lines.ensures.value ∙ c.in_ok-program.ensures
+    ∙ ap (program_with c.args.count) c.as_slice.ensures.value in
+    let threads : length c.args.file.now.names.items ≡ c.len.result =
+    omega (arith, c.len.ensures, c.args.file.now.names.ok.0) in
+    subst (λ (p : Program). All (λ line. line.thread < c.len.result) p) (sym program_is)
+    (subst (λ n. All (λ line. line.thread < n) (program_with c.args.count c.args.file.now.lines.items)) threads
+    (threads_with c.args.count (length c.args.file.now.names.items) c.args.file.now.lines.items c.requires.threads))
+
+pub returns-clause-few : goal.returns-clause-few
+returns-clause-few c =
+    not_more_with (content_in c.args.file.now) c.args.count c.args.budget c.in_ok-explored.explored.places
+    c.as_slice-voices.result.now c.as_slice-lines.result.now
+    (c.as_slice-lines.ensures.value ∙ c.in_ok-program.ensures ∙ ap (program_with c.args.count) c.as_slice.ensures.value)
+    c.as_slice-voices.ensures.value c.in_ok-explored.ensures.places c.in_ok-explored.ensures.within
+    c.places_have_one_number.ensures.more

@@ -1,0 +1,14 @@
+pub mod AnswerText
+pub mod Chosen
+pub mod CommandText
+pub mod Conditions
+pub mod CutOff
+pub mod Halving
+pub mod KeptLines
+pub mod OutcomeEnds
+pub mod OutcomeOrder
+pub mod OutcomeText
+pub mod Printed
+pub mod Searched
+pub mod TurnTexts
+pub mod Waiting

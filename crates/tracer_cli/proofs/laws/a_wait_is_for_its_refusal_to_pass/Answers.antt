@@ -1,9 +1,0 @@
--- The law is a lemma on plain lists.
-use Rattle.tracer_cli.proofs.WaitingFor.{passing, refused_so}
-use Rattle.tracer_cli.proofs.laws.a_wait_is_for_its_refusal_to_pass.Goals as goal
-
-pub returns-clause-passing : goal.returns-clause-passing
-returns-clause-passing c = passing
-
-pub returns-clause-refused : goal.returns-clause-refused
-returns-clause-refused c = refused_so

@@ -1,9 +1,0 @@
--- Where nothing is asked each outcome is chosen.
-use Rattle.std.proofs.Common.{◌∙◌, sym}
-use Rattle.tracer_cli.proofs.AllChosen.{each_is_chosen}
-use Rattle.tracer_cli.proofs.outcomes.chosen.is_printed.Goals as goal
-
-pub returns-then-all : goal.returns-then-all
-returns-then-all g c =
-    c.if-all.true
-    ∙ sym (each_is_chosen c.args.commands.now c.args.conditions.now (sym c.requires ∙ c.if-all.true) c.args.run.now)

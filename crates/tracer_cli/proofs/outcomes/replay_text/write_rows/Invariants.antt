@@ -1,8 +1,0 @@
--- The text so far and the lines of the rows left are those of all rows.
-use Rattle.std.proofs.Common.{◌≡◌, ◌++◌, drop, string_bytes}
-use Rattle.tracer_cli.specs.Spelling.{rows_text}
-use Rattle.tracer_cli.proofs.outcomes.replay_text.write_rows.Given as goal
-
-abbrev pub invariant-loop-row : goal.invariant-loop-row
-invariant-loop-row g l =
-    string_bytes l.out ++ rows_text (drop l.row-index l.rows) ≡ string_bytes l.fn.out ++ rows_text l.rows

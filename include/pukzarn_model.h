@@ -98,6 +98,17 @@ void pukzarn_sim_tracer(pukzarn_sim *sim, const char *name, void (*body)(void *)
  * are PTRACE_O_TRACESYSGOOD, PTRACE_O_TRACEFORK, PTRACE_O_TRACECLONE and PTRACE_O_TRACEEXEC. */
 void pukzarn_sim_options(pukzarn_sim *sim, unsigned options);
 
+/* The first stop of each tracee. */
+enum {
+    PUKZARN_FIRST_EVENT = 0,  /* PTRACE_EVENT_STOP, as after PTRACE_SEIZE */
+    PUKZARN_FIRST_SIGSTOP = 1 /* the signal-delivery-stop of SIGSTOP, as after PTRACE_TRACEME or PTRACE_ATTACH */
+};
+
+/* What the first stop of each tracee is, also of those that others create; without this, PUKZARN_FIRST_EVENT. After
+ * PUKZARN_FIRST_SIGSTOP a restart that hands this SIGSTOP on fails the schedule, since there is no group-stop, and
+ * PTRACE_INTERRUPT is EIO. */
+void pukzarn_sim_first_stops(pukzarn_sim *sim, unsigned first_stop);
+
 /* A tracer may kill tracees by SIGKILL, so that a stop may be gone at each ptrace call (ESRCH). It kills nobody by
  * itself: a thread of the tracer calls kill(2). */
 void pukzarn_sim_kills(pukzarn_sim *sim);

@@ -2,6 +2,7 @@
 #define _GNU_SOURCE
 #include "check_model.h"
 #include <err.h>
+#include <signal.h>
 #include <sys/ptrace.h>
 #include <sys/wait.h>
 #include <unistd.h>
@@ -174,6 +175,32 @@ static void with_options(pukzarn_sim *sim, void *unused)
     CHECK(pukzarn_sim_run(sim), 0);
 }
 
+/* The first stop of a tracee that was not seized. */
+static void sees_sigstop(void *signal)
+{
+    int status;
+    CHECK(waitpid(100, &status, 0), 100);
+    CHECK(status, SIGSTOP << 8 | 0x7f);
+    CHECK_ERRNO(ptrace(PTRACE_INTERRUPT, 100, 0, 0), EIO);
+    CHECK(ptrace(PTRACE_CONT, 100, 0, signal), 0);
+    CHECK(waitpid(100, &status, 0), 100);
+    CHECK(status, STATUS_EXITED_3);
+}
+
+static void with_sigstop(pukzarn_sim *sim, void *signal)
+{
+    pukzarn_sim_first_stops(sim, PUKZARN_FIRST_SIGSTOP);
+    pukzarn_sim_case(sim, ONE_PROCESS);
+    pukzarn_sim_tracer(sim, "main", sees_sigstop, signal);
+    CHECK(pukzarn_sim_run(sim), 0);
+}
+
+static void with_other_first_stop(pukzarn_sim *sim, void *unused)
+{
+    (void)unused;
+    pukzarn_sim_first_stops(sim, 2);
+}
+
 static void with_other_bits(pukzarn_sim *sim, void *unused)
 {
     (void)unused;
@@ -234,6 +261,11 @@ int main(void)
     CHECK(pukzarn_model("with_options", with_options, NULL), 0);
     CHECK(pukzarn_model("with_other_bits", with_other_bits, NULL), 1);
     CHECK(has_printed("0x40000000 has bits of no option"), 1);
+    CHECK(pukzarn_model("with_sigstop", with_sigstop, NULL), 0);
+    CHECK(pukzarn_model("hands_sigstop_on", with_sigstop, (void *)SIGSTOP), 1);
+    CHECK(has_printed("hands on the SIGSTOP of its first stop"), 1);
+    CHECK(pukzarn_model("with_other_first_stop", with_other_first_stop, NULL), 1);
+    CHECK(has_printed("2 is no first stop"), 1);
     CHECK(pukzarn_model("many_steps", many_steps, NULL), 1);
     CHECK(has_printed("\nthe cause, as above: thread `main` failed: all was traced\n"), 1);
     CHECK(pukzarn_model_printed(cut, 0), (long)strlen(printed()));

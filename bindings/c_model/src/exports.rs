@@ -592,6 +592,12 @@ pub unsafe extern "C-unwind" fn pukzarn_sim_options(sim: *const Simulation<'_>, 
 }
 
 #[unsafe(no_mangle)]
+pub unsafe extern "C-unwind" fn pukzarn_sim_first_stops(sim: *const Simulation<'_>, first_stop: c_uint) {
+    // SAFETY: the simulation is the caller's.
+    unsafe { of(sim) }.first_stops(first_stop);
+}
+
+#[unsafe(no_mangle)]
 pub unsafe extern "C-unwind" fn pukzarn_sim_kills(sim: *const Simulation<'_>) {
     // SAFETY: the simulation is the caller's.
     unsafe { of(sim) }.sim.kills();

@@ -5,7 +5,7 @@ use crate::place::{self, Place, fail, place};
 use crate::threads::Threads;
 use crate::words::in_c;
 use pukzarn::sys::ptrace::Options;
-use pukzarn::{Builder, Deadlocks, Effort, End, Failure, Phase, Report, Shares, Sim};
+use pukzarn::{Builder, Deadlocks, Effort, End, Failure, FirstStop, Phase, Report, Shares, Sim};
 use std::any::Any;
 use std::cell::RefCell;
 use std::ffi::{c_int, c_uint};
@@ -67,6 +67,14 @@ impl<'a> Simulation<'a> {
         match Options::from_bits(bits.cast_signed()) {
             Some(options) => self.sim.options(options),
             None => fail(format!("pukzarn_sim_options: {bits:#x} has bits of no option")),
+        }
+    }
+
+    pub(crate) fn first_stops(&self, number: c_uint) {
+        match number {
+            0 => self.sim.first_stops(FirstStop::Event),
+            1 => self.sim.first_stops(FirstStop::Sigstop),
+            _ => fail(format!("pukzarn_sim_first_stops: {number} is no first stop")),
         }
     }
 

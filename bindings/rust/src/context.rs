@@ -4,9 +4,11 @@
 //! thread of stress have each in its own way. What only a model has (locks and channels as steps) is `ModelCalls`: on the
 //! threads of stress the primitives of std block by themselves.
 
+use crate::end::End;
 use crate::errno::Errno;
 use crate::library::{RecordCalls, RestartNumbers, StopNumbers, TraceeRecord, Waited};
-use crate::sim::{End, Sim};
+use crate::sim::Sim;
+use crate::stop::FirstStop;
 use std::any::Any;
 use std::cell::RefCell;
 use std::rc::Rc;
@@ -66,6 +68,7 @@ pub(crate) trait Calls {
     // Of a tracee's thread.
 
     fn options(&self, row: usize) -> u32;
+    fn first_stop(&self) -> FirstStop;
     fn publish(&self, row: usize, stop: StopNumbers) -> Result<Published, Errno>;
     /// Waits for the restart. At a tracee's birth it is called by the simulation, before the tracee's closure.
     fn take_up(&self, row: usize) -> RestartNumbers;

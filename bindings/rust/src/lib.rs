@@ -7,6 +7,7 @@
 
 mod bits;
 pub(crate) mod context;
+mod end;
 pub mod errno;
 pub mod libc;
 mod library;
@@ -21,11 +22,12 @@ pub mod thread;
 mod tracee;
 pub mod unistd;
 
+pub use end::{End, Phase};
 pub use errno::Errno;
 pub use model::{Builder, Coverage, Deadlocks, Effort, Failure, Report, Shares, Threads, forget, model};
 pub use row::Row;
-pub use sim::{CaseFault, End, Phase, Sim};
-pub use stop::{Death, Restart, Stop};
+pub use sim::{CaseFault, Sim};
+pub use stop::{Death, FirstStop, Restart, Stop};
 pub use stress::{Stress, stress};
 pub use tracee::Tracee;
 

@@ -1,9 +1,12 @@
 //! What a test declares: tracees, the tracer's threads, and a run of them.
 
 use crate::context::{Body, World};
-use crate::library::{Case, CaseRefused, Machine, RowNumbers};
+use crate::end::End;
+use crate::library::{Case, CaseRefused, Machine, RestartNumbers, RowNumbers, StopNumbers, kind};
 use crate::row::Row;
+use crate::stop::FirstStop;
 use crate::sys::ptrace::Options;
+use crate::sys::signal::Signal;
 use crate::tracee::{Play, Tracee};
 use crate::{Errno, Result};
 use std::cell::RefCell;
@@ -50,6 +53,7 @@ pub(crate) struct Declared {
     pub(crate) tracers: Vec<(String, Body)>,
     /// The options of each tracee at first.
     pub(crate) options: u32,
+    pub(crate) first_stop: FirstStop,
     pub(crate) kills: Kills,
     /// How many waits may be interrupted.
     pub(crate) eintrs: u32,
@@ -67,6 +71,7 @@ impl Declared {
             tracees: Vec::new(),
             tracers: Vec::new(),
             options: FIRST_OPTIONS,
+            first_stop: FirstStop::Event,
             kills: Kills::Never,
             eintrs: 0,
             only_tracer: None,
@@ -164,6 +169,32 @@ impl Sim {
     /// ```
     pub fn options(&self, options: Options) {
         self.declared.borrow_mut().options = options.bits() as u32;
+    }
+
+    /// What the first stop of each tracee is, of a script or of a closure (`Stop::Start`); without it, the event.
+    ///
+    /// A tracer by PTRACE_TRACEME or PTRACE_ATTACH sees SIGSTOP, also of the children that its options attach.
+    ///
+    /// ```
+    /// use pukzarn::FirstStop;
+    /// use pukzarn::sys::signal::Signal;
+    /// use pukzarn::sys::{ptrace, wait};
+    ///
+    /// pukzarn::model(|sim| {
+    ///     sim.first_stops(FirstStop::Sigstop);
+    ///     sim.case("tracee 100 100 100 0\nexit 0\nend\n").unwrap();
+    ///     sim.tracer("main", || {
+    ///         let status = wait::wait().unwrap();
+    ///         let pid = status.pid().unwrap();
+    ///         assert_eq!(status, wait::WaitStatus::Stopped(pid, Signal::SIGSTOP));
+    ///         ptrace::cont(pid, None).unwrap();
+    ///         wait::wait().unwrap();
+    ///     });
+    ///     sim.run().assert_all_reaped();
+    /// });
+    /// ```
+    pub fn first_stops(&self, first_stop: FirstStop) {
+        self.declared.borrow_mut().first_stop = first_stop;
     }
 
     /// Some thread may kill a tracee, or a tracee ends its thread group: each ptrace call is then a step of its own,
@@ -307,79 +338,6 @@ fn fault_of(refused: CaseRefused) -> CaseFault {
     }
 }
 
-/// What a tracee is doing in the end.
-///
-/// ```
-/// assert_ne!(pukzarn::Phase::Dead, pukzarn::Phase::Reaped);
-/// ```
-#[derive(Clone, Copy, Debug, PartialEq, Eq, Hash, PartialOrd, Ord)]
-pub enum Phase {
-    /// Its parent has not created it.
-    Unborn,
-    /// It runs.
-    Running,
-    /// It is at a stop that nobody has waited for.
-    Stopped,
-    /// It is at a stop that this tracer was answered, by the number of the thread, from 0.
-    Claimed {
-        /// The number of the thread.
-        tracer: u32,
-    },
-    /// It has ended, and nobody has waited for it: a zombie.
-    Dead,
-    /// Its death was waited for.
-    Reaped,
-}
-
-/// How a run ended.
-///
-/// ```
-/// use pukzarn::{Phase, Row};
-///
-/// pukzarn::model(|sim| {
-///     sim.tracee(Row::root(100), |_| Ok(()));
-///     let end = sim.run();
-///     assert_eq!(end.tracees, [(100, Phase::Dead)]);
-///     assert!(end.waiting.is_empty());
-/// });
-/// ```
-#[derive(Clone, Debug, PartialEq, Eq, Hash, PartialOrd, Ord)]
-pub struct End {
-    /// The tids in the order of the rows, and what each is doing.
-    pub tracees: Vec<(u32, Phase)>,
-    /// The tracer's threads that wait for ever, where `Builder::deadlocks` lets them.
-    pub waiting: Vec<String>,
-}
-
-impl End {
-    /// What a tracee is doing; None where there is none of this tid.
-    ///
-    /// ```
-    /// pukzarn::model(|sim| assert_eq!(sim.run().phase(100), None));
-    /// ```
-    pub fn phase(&self, tid: u32) -> Option<Phase> {
-        self.tracees.iter().find(|tracee| tracee.0 == tid).map(|tracee| tracee.1)
-    }
-
-    /// Panics unless each tracee that was created has been reaped.
-    ///
-    /// ```
-    /// use pukzarn::sys::wait::wait;
-    ///
-    /// pukzarn::model(|sim| {
-    ///     sim.tracee(pukzarn::Row::root(100), |_| Ok(()));
-    ///     sim.tracer("main", || drop(wait()));
-    ///     sim.run().assert_all_reaped();
-    /// });
-    /// ```
-    #[track_caller]
-    pub fn assert_all_reaped(&self) {
-        for (tid, phase) in &self.tracees {
-            assert!(matches!(phase, Phase::Unborn | Phase::Reaped), "tracee {tid} is left {phase:?}");
-        }
-    }
-}
-
 /// The options that a machine takes of those that a tracer sets: without those that change nothing here (EXITKILL, and
 /// the two of vfork).
 pub(crate) fn machine_options(options: u32) -> u32 {
@@ -392,5 +350,19 @@ pub(crate) fn options_refused(options: u32, errno: Errno) -> String {
     format!(
         "pukzarn: options {options:#x} of a scripted tracee are not simulated ({errno}): they need TRACESYSGOOD, and \
          TRACEFORK and TRACECLONE together; a tracee that a closure plays takes any"
+    )
+}
+
+/// Whether a restart from this stop hands on the SIGSTOP that the stop is of: the tracee would stop again, with its group.
+pub(crate) fn is_group_stop(last: StopNumbers, how: RestartNumbers) -> bool {
+    const SIGSTOP: u32 = Signal::SIGSTOP as u32;
+    how.signal == SIGSTOP && last == StopNumbers { kind: kind::SIGNAL, value: SIGSTOP }
+}
+
+/// What a test is told whose tracer hands a scripted tracee the SIGSTOP of its first stop.
+pub(crate) fn group_stop_refused(tid: u32) -> String {
+    format!(
+        "pukzarn: the restart of tracee {tid} hands on the SIGSTOP of its first stop: on Linux its thread group then \
+         stops by it, a group-stop, which is not simulated. Hand on no signal at the first stop"
     )
 }

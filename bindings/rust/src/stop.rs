@@ -13,7 +13,7 @@ use crate::sys::signal::Signal;
 /// ```
 #[derive(Clone, Copy, Debug, PartialEq, Eq)]
 pub enum Stop {
-    /// PTRACE_EVENT_STOP, the first stop of a tracee that is traced from its birth on.
+    /// The first stop of a tracee: PTRACE_EVENT_STOP, or what `Sim::first_stops` has it be.
     Start,
     /// Syscall-enter-stop.
     Enter,
@@ -47,6 +47,33 @@ impl Stop {
             Stop::Ending(death) => (kind::ENDING, death.status()),
         };
         StopNumbers { kind, value }
+    }
+}
+
+/// What the first stop of a tracee is.
+///
+/// ```
+/// pukzarn::model(|sim| {
+///     sim.first_stops(pukzarn::FirstStop::Sigstop);
+///     sim.run();
+/// });
+/// ```
+#[derive(Clone, Copy, Debug, PartialEq, Eq)]
+pub enum FirstStop {
+    /// PTRACE_EVENT_STOP, of a tracee by PTRACE_SEIZE, and of the children that its options attach.
+    Event,
+    /// Signal-delivery-stop of SIGSTOP, of a tracee by PTRACE_TRACEME (with a raise(3) of it) or PTRACE_ATTACH, and of
+    /// the children that its options attach.
+    Sigstop,
+}
+
+impl FirstStop {
+    /// A stop that a tracee makes, where it may be the first.
+    pub(crate) fn made_of(self, stop: StopNumbers) -> StopNumbers {
+        match (self, stop.kind) {
+            (FirstStop::Sigstop, kind::START) => StopNumbers { kind: kind::SIGNAL, value: Signal::SIGSTOP as u32 },
+            _ => stop,
+        }
     }
 }
 

@@ -88,7 +88,7 @@ impl Tracee {
     /// ```
     pub fn stop(&mut self, stop: Stop) -> Result<Restart> {
         let calls = context::calls();
-        let mut numbers = stop.numbers();
+        let mut numbers = calls.first_stop().made_of(stop.numbers());
         let of_call = matches!(stop, Stop::Enter | Stop::Exit);
         if of_call && calls.options(self.row) & TRACESYSGOOD == 0 {
             numbers = StopNumbers { kind: kind::SIGNAL, value: Signal::SIGTRAP as u32 };

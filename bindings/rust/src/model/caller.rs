@@ -12,6 +12,7 @@ use crate::context::{
 };
 use crate::errno::Errno;
 use crate::library::{RecordCalls, RestartNumbers, StopNumbers, TraceeRecord, Waited};
+use crate::stop::FirstStop;
 use crate::sys::not_simulated;
 use std::cell::Cell;
 use std::sync::{Arc, MutexGuard};
@@ -168,6 +169,10 @@ impl Calls for Caller {
 
     fn options(&self, row: usize) -> u32 {
         self.model.lock().tracees.options(row)
+    }
+
+    fn first_stop(&self) -> FirstStop {
+        self.model.lock().tracees.first_stop()
     }
 
     fn publish(&self, row: usize, stop: StopNumbers) -> Result<Published, Errno> {

@@ -4,8 +4,8 @@ use super::actors::Kind;
 use super::calls::{Op, Reply};
 use super::state::State;
 use crate::context::Published;
-use crate::library::{Machine, Next, RestartNumbers};
-use crate::sim::{machine_options, options_refused};
+use crate::library::{Machine, Next, RestartNumbers, StopNumbers};
+use crate::sim::{group_stop_refused, is_group_stop, machine_options, options_refused};
 
 /// A tracee that follows a script.
 pub(super) struct Script {
@@ -14,11 +14,13 @@ pub(super) struct Script {
     options: Option<u32>,
     /// The stop that it is still to make, where an interrupt came before it.
     held: Option<Op>,
+    /// The stop that it has made last, or is about to make.
+    last: StopNumbers,
 }
 
 impl Script {
     pub(super) fn new(machine: Machine) -> Script {
-        Script { machine, options: None, held: None }
+        Script { machine, options: None, held: None, last: StopNumbers::default() }
     }
 
     /// Hands the machine its options, where they are others than before.
@@ -58,15 +60,22 @@ impl State {
 
     /// Runs a script up to its next call.
     fn next_of_script(&mut self, row: usize, how: RestartNumbers) -> Result<Op, String> {
-        let options = self.tracees.options(row);
+        let (options, first_stop) = (self.tracees.options(row), self.tracees.first_stop());
+        let tid = self.tracees.rows[row].tid;
         let script = self.script(row);
         script.set_options(options)?;
+        if is_group_stop(script.last, how) {
+            return Err(group_stop_refused(tid));
+        }
         if let Some(held) = script.held.take() {
             return Ok(held);
         }
         let Kind::Script(script) = &mut self.actors[row].kind else { unreachable!("a script's actor") };
         Ok(match script.machine.next(how, self.tracees.record(row)) {
-            Ok(Next::Stop(stop)) => Op::Publish(row, stop),
+            Ok(Next::Stop(stop)) => {
+                script.last = first_stop.made_of(stop);
+                Op::Publish(row, script.last)
+            }
             Ok(Next::Death(status)) => Op::Exit(row, status),
             Err(_) => Op::Exit(row, SIGSEGV),
         })

@@ -5,11 +5,13 @@
 
 use super::hash::mix;
 use crate::context::{Published, Request};
+use crate::end::Phase;
 use crate::errno::Errno;
 use crate::library::{
     Board, Record, RestartNumbers, RowNumbers, RowsRefused, State, StopNumbers, Waited, kind, phase, wait,
 };
-use crate::sim::{Declared, Phase};
+use crate::sim::Declared;
+use crate::stop::FirstStop;
 
 /// What is above the board, of one tracee.
 struct Above {
@@ -70,6 +72,7 @@ const WAITS_KEPT: usize = 32;
 
 pub(super) struct Tracees {
     pub(super) rows: Vec<RowNumbers>,
+    first_stop: FirstStop,
     board: Board,
     states: Vec<State>,
     above: Vec<Above>,
@@ -84,12 +87,14 @@ impl Tracees {
     pub(super) fn none() -> Tracees {
         let (rows, states, above) = (Vec::new(), Vec::new(), Vec::new());
         let (stale, waits) = (Vec::new(), Vec::new());
-        Tracees { rows, board: Board::closed(), states, above, hash: 0, stale, version: 0, waits }
+        let first_stop = FirstStop::Event;
+        Tracees { rows, first_stop, board: Board::closed(), states, above, hash: 0, stale, version: 0, waits }
     }
 
     /// Takes the rows of what is declared, all of them before their first stops. Panics where a row is refused.
     pub(super) fn begin(&mut self, declared: &mut Declared) {
         std::mem::swap(&mut self.rows, &mut declared.rows);
+        self.first_stop = declared.first_stop;
         let rows = &self.rows;
         self.board = Board::open(rows).unwrap_or_else(|refused| panic!("{}", words_of(rows, refused)));
         self.states.clear();
@@ -125,6 +130,10 @@ impl Tracees {
 
     pub(super) fn options(&self, row: usize) -> u32 {
         self.above[row].options
+    }
+
+    pub(super) fn first_stop(&self) -> FirstStop {
+        self.first_stop
     }
 
     pub(super) fn set_options(&mut self, row: usize, options: u32) {
@@ -301,9 +310,12 @@ impl Tracees {
         self.above[row].interrupted
     }
 
-    /// A running tracee stops before its next act; one that is stopped does not.
+    /// A running tracee stops before its next act; one that is stopped does not. EIO where it was not seized.
     pub(super) fn interrupt(&mut self, row: usize) -> Result<(), Errno> {
         self.find(row)?;
+        if self.first_stop == FirstStop::Sigstop {
+            return Err(Errno::EIO);
+        }
         self.above[row].interrupted |= self.states[row].phase == phase::RUNNING;
         self.refresh(row);
         Ok(())

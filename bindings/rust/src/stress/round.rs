@@ -3,8 +3,10 @@
 use super::Stress;
 use super::thread::{Place, Role, tracee_body};
 use crate::context::{self, Body, World};
+use crate::end::{End, Phase};
 use crate::library::{MOST_TRACERS, RowNumbers, RowsRefused, TraceeHandle, TracerHandle, open_cells, phase};
-use crate::sim::{Declared, End, Phase, Sim};
+use crate::sim::{Declared, Sim};
+use crate::stop::FirstStop;
 use std::sync::atomic::{AtomicBool, AtomicU32, AtomicU64, AtomicUsize, Ordering::SeqCst};
 use std::sync::{Arc, Mutex, MutexGuard, PoisonError};
 use std::thread::Thread;
@@ -52,6 +54,7 @@ impl Round {
             tracees: tracees.into_iter().map(Mutex::new).collect(),
             tracers: tracers.into_iter().map(Mutex::new).collect(),
             options: rows.iter().map(|_| AtomicU32::new(declared.options)).collect(),
+            first_stop: declared.first_stop,
             interrupted: rows.iter().map(|_| AtomicBool::new(false)).collect(),
             exiting: rows.iter().map(|_| AtomicBool::new(false)).collect(),
             claimed_by: rows.iter().map(|_| AtomicUsize::new(0)).collect(),
@@ -109,6 +112,7 @@ pub(super) struct Shared {
     /// By row: PTRACE_O_..., a PTRACE_INTERRUPT that is to come, whether it only waits for its threads to end, and the
     /// number of the tracer that was last answered its stop.
     pub(super) options: Vec<AtomicU32>,
+    pub(super) first_stop: FirstStop,
     pub(super) interrupted: Vec<AtomicBool>,
     pub(super) exiting: Vec<AtomicBool>,
     pub(super) claimed_by: Vec<AtomicUsize>,

@@ -7,7 +7,8 @@ use crate::library::{
     Machine, Next, RecordCalls, RestartNumbers, StopNumbers, TraceeHandle, TraceeRecord, TracerHandle, Waited, kind,
     phase, wait,
 };
-use crate::sim::{Follows, machine_options, options_refused};
+use crate::sim::{Follows, group_stop_refused, is_group_stop, machine_options, options_refused};
+use crate::stop::FirstStop;
 use crate::tracee;
 use std::cell::Cell;
 use std::panic::{AssertUnwindSafe, catch_unwind};
@@ -86,8 +87,10 @@ pub(super) fn tracee_body(shared: &Arc<Shared>, row: usize, follows: Follows) ->
 
 fn run_script(shared: &Shared, row: usize, machine: &mut Machine) {
     let calls = context::calls();
+    let mut last = StopNumbers::default();
     loop {
-        calls.take_up(row);
+        let how = calls.take_up(row);
+        assert!(!is_group_stop(last, how), "{}", group_stop_refused(shared.rows[row].tid));
         let options = calls.options(row);
         if let Err(errno) = machine.options(machine_options(options)) {
             panic!("{}", options_refused(options, errno));
@@ -95,7 +98,8 @@ fn run_script(shared: &Shared, row: usize, machine: &mut Machine) {
         let next = lock(&shared.tracees[row]).next(machine);
         match next {
             Ok(Next::Stop(stop)) => {
-                while calls.publish(row, stop).expect("a script's stop is taken") == Published::Interrupted {
+                last = calls.first_stop().made_of(stop);
+                while calls.publish(row, last).expect("a script's stop is taken") == Published::Interrupted {
                     calls.take_up(row);
                 }
             }
@@ -259,6 +263,9 @@ impl Calls for StressThread {
         self.jitter();
         let row = self.shared.row_of(pid).ok_or(Errno::ESRCH)?;
         match self.with_tracer(|tracer| tracer.look(row)).phase {
+            phase::RUNNING | phase::STOPPED | phase::CLAIMED if self.first_stop() == FirstStop::Sigstop => {
+                return Err(Errno::EIO);
+            }
             phase::RUNNING => self.shared.interrupted[row].store(true, SeqCst),
             phase::STOPPED | phase::CLAIMED => {}
             _ => return Err(Errno::ESRCH),
@@ -272,6 +279,10 @@ impl Calls for StressThread {
 
     fn options(&self, row: usize) -> u32 {
         self.shared.options[row].load(SeqCst)
+    }
+
+    fn first_stop(&self) -> FirstStop {
+        self.shared.first_stop
     }
 
     fn publish(&self, row: usize, stop: StopNumbers) -> Result<Published, Errno> {

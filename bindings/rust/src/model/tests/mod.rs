@@ -1,6 +1,7 @@
 //! Models of small tracers, and what is reported of them.
 
 mod above;
+mod first_stops;
 mod forgetting;
 
 use super::{Builder, Coverage, Deadlocks, Shares, Threads};

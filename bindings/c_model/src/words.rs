@@ -10,6 +10,8 @@ const WORDS: &[(&str, &str)] = &[
     ("pukzarn::forget", "pukzarn_forget"),
     ("Sim::kills", "pukzarn_sim_kills"),
     ("only what is of pukzarn::sync", "nothing"),
+    ("nothing but what is of pukzarn::sync", "nothing"),
+    ("Shares::Sync", "PUKZARN_SHARE_NOTHING"),
     ("a lock of std", "a lock"),
     ("Locks of pukzarn::sync may be held over calls", "A lock may not be held over a simulated call"),
     ("pukzarn::thread::yield_now or sleep", "sched_yield or sleep"),

@@ -216,13 +216,36 @@ fn passes_and_prints(test: &str) -> String {
 fn a_test_that_passes_says_so_where_not_all_was_tried() {
     let bounded = passes_and_prints("three_schedules_of_many");
     assert!(bounded.starts_with("pukzarn: three_schedules_of_many#1: "), "{bounded}");
-    for word in ["3 schedules", "smaller", "pukzarn::forget", "PUKZARN_SCHEDULES"] {
+    for word in ["3 schedules", "Shares::Sync", "smaller", "pukzarn::forget", "PUKZARN_SCHEDULES"] {
         assert!(bounded.contains(word), "no {word:?} in:\n{bounded}");
     }
     let shallow = passes_and_prints("at_most_one_deviation");
     assert!(shallow.contains("all with at most 1 deviation: "), "{shallow}");
     assert!(shallow.contains("PUKZARN_DEVIATIONS"), "{shallow}");
     assert_eq!(passes_and_prints("all_of_them"), "");
+}
+
+#[test]
+fn nobody_is_advised_what_is_done_already_or_has_no_effect() {
+    let advice = |shares: Shares, test: fn(&Sim)| {
+        let builder = Builder { max_schedules: 3, shares, ..Builder::new() };
+        let failure = builder.clone().exhaustive().explore(test).expect_err("not all were tried");
+        let advice = builder.advice(&failure.report).expect("not all were tried");
+        assert!(failure.cause.ends_with(&advice), "{failure}");
+        ["Shares::Sync", "pukzarn::forget"].map(|way| advice.contains(way))
+    };
+    assert_eq!(advice(Shares::Memory, two_processes), [true, true]);
+    assert_eq!(advice(Shares::Sync, two_processes), [false, true]);
+    let forgets = |sim: &Sim| {
+        sim.case("tracee 100 100 100 0\nexit 0\nend\ntracee 200 200 200 0\nexit 0\nend\n").expect("a case");
+        sim.tracer("main", || {
+            pukzarn::forget(&());
+            main_loop();
+        });
+        sim.run().assert_all_reaped();
+    };
+    // One thread, over scripts: the order of its calls is its own.
+    assert_eq!(advice(Shares::Memory, forgets), [false, false]);
 }
 
 #[test]

@@ -73,6 +73,11 @@ impl Actor {
         self.life == Life::Done
     }
 
+    /// Whether code of the test's author runs, and not a script.
+    pub(super) fn is_thread(&self) -> bool {
+        !matches!(self.kind, Kind::Script(_))
+    }
+
     pub(super) fn is_tracer(&self) -> bool {
         matches!(self.kind, Kind::Tracer(_))
     }

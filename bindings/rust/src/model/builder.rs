@@ -179,20 +179,31 @@ impl Builder {
     /// let bounded = pukzarn::Report { coverage: Coverage::Deviations(3), ..report };
     /// assert!(builder.advice(&bounded).is_some());
     /// ```
-    pub fn advice(&self, report: &Report) -> Option<&'static str> {
+    pub fn advice(&self, report: &Report) -> Option<String> {
         if report.coverage == Coverage::All {
             None
         } else if self.schedule.is_some() && report.schedules == 1 {
-            Some("PUKZARN_SCHEDULE asks for this schedule alone")
+            Some("PUKZARN_SCHEDULE asks for this schedule alone".into())
         } else if self.deviations.is_some() && report.schedules < self.max_schedules {
-            Some("Schedules with more deviations were not tried: raise `deviations` (PUKZARN_DEVIATIONS)")
+            Some("Schedules with more deviations were not tried: raise `deviations` (PUKZARN_DEVIATIONS)".into())
         } else {
-            Some(
-                "Not all were tried: make the case smaller, say at the heads of loops what counts (pukzarn::forget), \
-                 or raise max_schedules (PUKZARN_SCHEDULES)",
-            )
+            Some(format!("What helps: {}", ways_to_more(report)))
         }
     }
+}
+
+/// What would have more tried of what a report says was begun, what takes least first.
+fn ways_to_more(report: &Report) -> String {
+    let mut ways = Vec::new();
+    // Of one thread the order of calls is that of its own.
+    if report.shares != Shares::Sync && report.threads > 1 {
+        ways.push("where threads share nothing but what is of pukzarn::sync, say so (Shares::Sync)");
+    }
+    ways.push("make the case smaller");
+    if report.forgets == 0 {
+        ways.push("say at the heads of loops what counts (pukzarn::forget)");
+    }
+    format!("{}, or raise max_schedules (PUKZARN_SCHEDULES)", ways.join(", "))
 }
 
 impl Default for Builder {

@@ -53,6 +53,8 @@ pub struct Report {
     pub coverage: Coverage,
     /// What the threads were taken to share.
     pub shares: Shares,
+    /// The most threads of a schedule: the tracer's, and one for each tracee that a closure plays.
+    pub threads: u64,
     /// How often `forget` was called: the coverage holds as far as what was said there does.
     pub forgets: u64,
     /// The schedules that were run.

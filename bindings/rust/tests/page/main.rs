@@ -6,6 +6,7 @@ extern crate pukzarn as nix;
 mod calls;
 mod forgets;
 mod mended;
+mod shares;
 mod stub;
 mod tests;
 mod tracer;

@@ -9,6 +9,7 @@ use crate::errno::Errno;
 use crate::library::{RecordCalls, RestartNumbers, StopNumbers, TraceeRecord, Waited};
 use crate::sim::Sim;
 use crate::stop::FirstStop;
+use crate::sys::ptrace;
 use std::any::Any;
 use std::cell::RefCell;
 use std::rc::Rc;
@@ -54,8 +55,13 @@ pub(crate) trait Calls {
 
     /// None where nothing is to be reported and the request does not block.
     fn wait(&self, request: Request) -> Result<Option<Waited>, Errno>;
-    /// Calls with the record of a stop that this thread has claimed, once. ESRCH where it has not.
-    fn with_claimed(&self, pid: i32, call: &mut dyn FnMut(&mut dyn RecordCalls)) -> Result<(), Errno>;
+    /// Calls for a request with the record of a stop that this thread has claimed, once. ESRCH where it has not.
+    fn with_claimed(
+        &self,
+        pid: i32,
+        request: ptrace::Request,
+        call: &mut dyn FnMut(&mut dyn RecordCalls),
+    ) -> Result<(), Errno>;
     fn restart(&self, pid: i32, how: RestartNumbers) -> Result<(), Errno>;
     /// Sets the options of a tracee whose stop this thread has claimed. ESRCH where it has not.
     fn set_options(&self, pid: i32, options: u32) -> Result<(), Errno>;

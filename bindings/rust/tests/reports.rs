@@ -138,6 +138,25 @@ fn a_call_that_is_not_simulated_says_why() {
 }
 
 #[test]
+fn a_ptrace_call_that_is_a_step_has_the_name_of_its_request() {
+    let failure = failure_of(|sim| {
+        sim.kills();
+        short_process(sim, 100);
+        sim.tracer("main", || {
+            let pid = waitpid(None, None).expect("it stops").pid().expect("a stop is of a tracee");
+            ptrace::setoptions(pid, ptrace::Options::empty()).expect("it was claimed");
+            ptrace::getevent(pid).expect("it was claimed");
+            ptrace::setregs(pid, ptrace::getregs(pid).expect("it was claimed")).expect("it was claimed");
+            panic!("enough");
+        });
+        sim.run();
+    });
+    let calls: Vec<&str> = failure.steps.iter().filter_map(|step| step.strip_prefix("main       ")).collect();
+    let requests = ["setoptions 100 0: done", "geteventmsg 100 0: done", "getregs 100 0: done", "setregs 100 0: done"];
+    assert_eq!(calls[1..], requests, "{failure}");
+}
+
+#[test]
 fn two_runs_of_a_model_report_the_same() {
     let report = || Builder::new().explore(two_processes).expect("the tracer has no fault");
     let (one, other) = (report(), report());

@@ -13,7 +13,7 @@ use crate::context::{
 use crate::errno::Errno;
 use crate::library::{RecordCalls, RestartNumbers, StopNumbers, TraceeRecord, Waited};
 use crate::stop::FirstStop;
-use crate::sys::not_simulated;
+use crate::sys::{not_simulated, ptrace};
 use std::cell::Cell;
 use std::sync::{Arc, MutexGuard};
 
@@ -80,13 +80,13 @@ impl Caller {
     }
 
     /// The row of a stop that this thread has claimed. This is a step where somebody else may take the stop away.
-    fn claimed(&self, pid: i32) -> Result<usize, Errno> {
+    fn claimed(&self, pid: i32, request: ptrace::Request) -> Result<usize, Errno> {
         let state = self.model.lock();
         let row = state.tracees.row_of(pid).ok_or(Errno::ESRCH)?;
         if state.is_immediate() {
             return state.holds(self.actor, row).map(|()| row);
         }
-        let reply = self.call_in(state, Op::Touch(row));
+        let reply = self.call_in(state, Op::Ptrace(row, request));
         self.answered(reply).map(|()| row)
     }
 
@@ -129,8 +129,13 @@ impl Calls for Caller {
         }
     }
 
-    fn with_claimed(&self, pid: i32, call: &mut dyn FnMut(&mut dyn RecordCalls)) -> Result<(), Errno> {
-        let row = self.claimed(pid)?;
+    fn with_claimed(
+        &self,
+        pid: i32,
+        request: ptrace::Request,
+        call: &mut dyn FnMut(&mut dyn RecordCalls),
+    ) -> Result<(), Errno> {
+        let row = self.claimed(pid, request)?;
         let mut state = self.model.lock();
         let mut watched = Watched::new(state.tracees.record(row));
         call(&mut watched);
@@ -144,7 +149,7 @@ impl Calls for Caller {
     }
 
     fn set_options(&self, pid: i32, options: u32) -> Result<(), Errno> {
-        let row = self.claimed(pid)?;
+        let row = self.claimed(pid, ptrace::Request::PTRACE_SETOPTIONS)?;
         self.change_options(row, options);
         Ok(())
     }

@@ -8,6 +8,7 @@ use super::state::{CallsAre, State, Step};
 use crate::context::{Notify, Noun, Patience, Published, Request, Wakeup};
 use crate::errno::Errno;
 use crate::library::{RestartNumbers, StopNumbers, Waited, kind, phase};
+use crate::sys::ptrace;
 
 /// A call that an actor is about to make. Rows and actors are their places.
 #[derive(Clone, Copy, Debug, PartialEq, Eq, Hash)]
@@ -23,7 +24,7 @@ pub(super) enum Op {
     Wait(Request),
     Restart(usize, RestartNumbers),
     /// A ptrace call that needs a stop.
-    Touch(usize),
+    Ptrace(usize, ptrace::Request),
     Seize(usize, u32),
     Interrupt(usize),
     /// SIGKILL to the row's thread group.
@@ -149,7 +150,7 @@ impl State {
             Op::Kill(row) => self.make_kill(row, true, SIGKILL),
             Op::Wait(request) => Reply::Waited(self.make_wait(actor, request, which)),
             Op::Restart(row, how) => Reply::Answered(self.make_restart(actor, row, how)),
-            Op::Touch(row) => Reply::Answered(self.holds(actor, row)),
+            Op::Ptrace(row, _) => Reply::Answered(self.holds(actor, row)),
             Op::Seize(row, _) => {
                 Reply::Answered(self.traces(actor, Errno::EPERM).and_then(|()| self.tracees.find(row)))
             }

@@ -8,6 +8,7 @@ use super::state::{State, Step};
 use crate::context::{Notify, Noun, Patience, Published, Request, Wakeup};
 use crate::errno::Errno;
 use crate::library::{RestartNumbers, StopNumbers, Waited, kind, phase, restart, wait};
+use crate::sys::ptrace;
 
 impl State {
     /// The steps of a schedule, one a line: who, the call, and its answer.
@@ -135,7 +136,7 @@ impl State {
             Op::ExitGroup(row, status) => format!("exit group {} {}", tid(row), death_words(status)),
             Op::Wait(request) => format!("{} {tracer}", request_words(request)),
             Op::Restart(row, how) => format!("resume {} {tracer} {}", tid(row), restart_words(how)),
-            Op::Touch(row) => format!("ptrace {} {tracer}", tid(row)),
+            Op::Ptrace(row, request) => format!("{} {} {tracer}", ptrace_word(request), tid(row)),
             Op::Seize(row, options) => format!("seize {} {options:#x}", tid(row)),
             Op::Interrupt(row) => format!("interrupt {}", tid(row)),
             Op::Kill(row) => format!("kill {}", tid(row)),
@@ -186,6 +187,11 @@ fn request_words(request: Request) -> String {
         wait::P_PGID => format!("{word} group {}", request.id),
         _ => format!("{word} {}", request.id),
     }
+}
+
+/// The name of a request without what all of them begin with.
+fn ptrace_word(request: ptrace::Request) -> String {
+    format!("{request:?}").trim_start_matches("PTRACE_").to_lowercase()
 }
 
 fn restart_words(how: RestartNumbers) -> String {
@@ -248,9 +254,10 @@ fn reply_words(op: Op, reply: Reply) -> String {
 
 #[cfg(test)]
 mod tests {
-    use super::{death_words, request_words, stop_words, waited_words};
+    use super::{death_words, ptrace_word, request_words, stop_words, waited_words};
     use crate::context::Request;
     use crate::library::{StopNumbers, Waited};
+    use crate::sys::ptrace;
 
     #[test]
     fn the_words_are_those_of_explore() {
@@ -264,6 +271,7 @@ mod tests {
         }
         let waited = Waited { row: 0, tid: 100, number: 1, status: 0x57f, death: 0 };
         assert_eq!(waited_words(waited), "100 stop 1 0x00057f");
+        assert_eq!(ptrace_word(ptrace::Request::PTRACE_GETEVENTMSG), "geteventmsg");
         let requests =
             [(0, 0, 6, true, "wait any"), (1, 7, 6, false, "claim 7"), (2, 7, 0x100_0006, true, "look group 7")];
         for (idtype, id, options, blocks, words) in requests {

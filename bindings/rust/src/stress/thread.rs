@@ -9,6 +9,7 @@ use crate::library::{
 };
 use crate::sim::{Follows, group_stop_refused, is_group_stop, machine_options, options_refused};
 use crate::stop::FirstStop;
+use crate::sys::ptrace;
 use crate::tracee;
 use std::cell::Cell;
 use std::panic::{AssertUnwindSafe, catch_unwind};
@@ -234,7 +235,12 @@ impl Calls for StressThread {
         Ok(answer)
     }
 
-    fn with_claimed(&self, pid: i32, call: &mut dyn FnMut(&mut dyn RecordCalls)) -> Result<(), Errno> {
+    fn with_claimed(
+        &self,
+        pid: i32,
+        _request: ptrace::Request,
+        call: &mut dyn FnMut(&mut dyn RecordCalls),
+    ) -> Result<(), Errno> {
         self.jitter();
         self.on_stop(pid, |tracer| tracer.record(pid).stop())?;
         self.with_tracer(|tracer| call(&mut tracer.record(pid)));

@@ -21,12 +21,12 @@ pub type AddressType = *mut c_void;
 
 /// The registers of a tracee, as with `PTRACE_GETREGS`.
 pub fn getregs(pid: Pid) -> Result<user_regs_struct, Errno> {
-    of_claimed(pid, |record| record.getregs())
+    of_claimed(pid, Request::PTRACE_GETREGS, |record| record.getregs())
 }
 
 /// Sets the registers of a tracee, as with `PTRACE_SETREGS`.
 pub fn setregs(pid: Pid, regs: user_regs_struct) -> Result<(), Errno> {
-    of_claimed(pid, |record| record.setregs(&regs))
+    of_claimed(pid, Request::PTRACE_SETREGS, |record| record.setregs(&regs))
 }
 
 /// Sets which stops a tracee makes from now on, as with `PTRACE_SETOPTIONS`.
@@ -36,12 +36,12 @@ pub fn setoptions(pid: Pid, options: Options) -> Result<(), Errno> {
 
 /// The event message of a stop, as with `PTRACE_GETEVENTMSG`.
 pub fn getevent(pid: Pid) -> Result<c_long, Errno> {
-    of_claimed(pid, |record| record.message().map(u64::cast_signed))
+    of_claimed(pid, Request::PTRACE_GETEVENTMSG, |record| record.message().map(u64::cast_signed))
 }
 
 /// The signal of a stop and why it came, as with `PTRACE_GETSIGINFO`.
 pub fn getsiginfo(pid: Pid) -> Result<siginfo_t, Errno> {
-    of_claimed(pid, |record| record.stop().map(|(_, stop)| siginfo_of(stop)))
+    of_claimed(pid, Request::PTRACE_GETSIGINFO, |record| record.stop().map(|(_, stop)| siginfo_of(stop)))
 }
 
 /// A signal was sent by kill(2); a syscall-stop and an event have what ptrace(2) says under `PTRACE_GETSIGINFO`.
@@ -128,7 +128,7 @@ pub fn kill(pid: Pid) -> Result<(), Errno> {
 
 /// The word at an address, as with `PTRACE_PEEKDATA`; `EIO` where it is not mapped.
 pub fn read(pid: Pid, addr: AddressType) -> Result<c_long, Errno> {
-    of_claimed(pid, |record| {
+    of_claimed(pid, Request::PTRACE_PEEKDATA, |record| {
         let mut word = [0; 8];
         let mapped = record.read(addr.addr() as u64, &mut word)?;
         if mapped == word.len() { Ok(c_long::from_ne_bytes(word)) } else { Err(Errno::EIO) }
@@ -143,7 +143,7 @@ pub fn write(pid: Pid, addr: AddressType, data: c_long) -> Result<(), Errno> {
 
 /// The word of `struct user` at an offset, as with `PTRACE_PEEKUSER`: a register, or `EIO`.
 pub fn read_user(pid: Pid, offset: AddressType) -> Result<c_long, Errno> {
-    of_claimed(pid, |record| {
+    of_claimed(pid, Request::PTRACE_PEEKUSER, |record| {
         let words = record.getregs()?.to_words();
         Ok(words[register_at(offset)?].cast_signed())
     })
@@ -159,11 +159,11 @@ pub fn write_user(pid: Pid, offset: AddressType, data: c_long) -> Result<(), Err
 pub use crate::library::{write, write_user};
 
 pub(crate) fn write_word(pid: Pid, addr: AddressType, data: c_long) -> Result<(), Errno> {
-    of_claimed(pid, |record| record.write(addr.addr() as u64, &data.to_ne_bytes()))
+    of_claimed(pid, Request::PTRACE_POKEDATA, |record| record.write(addr.addr() as u64, &data.to_ne_bytes()))
 }
 
 pub(crate) fn write_register(pid: Pid, offset: AddressType, data: c_long) -> Result<(), Errno> {
-    of_claimed(pid, |record| {
+    of_claimed(pid, Request::PTRACE_POKEUSER, |record| {
         let mut words = record.getregs()?.to_words();
         words[register_at(offset)?] = data.cast_unsigned();
         record.setregs(&user_regs_struct::from_words(words))
@@ -178,9 +178,13 @@ fn register_at(offset: AddressType) -> Result<usize, Errno> {
 }
 
 /// Calls with the record of a stop that the calling thread was answered.
-fn of_claimed<T>(pid: Pid, call: impl FnOnce(&mut dyn RecordCalls) -> Result<T, Errno>) -> Result<T, Errno> {
+fn of_claimed<T>(
+    pid: Pid,
+    request: Request,
+    call: impl FnOnce(&mut dyn RecordCalls) -> Result<T, Errno>,
+) -> Result<T, Errno> {
     let (mut call, mut answer) = (Some(call), None);
-    context::calls().with_claimed(pid.as_raw(), &mut |record| {
+    context::calls().with_claimed(pid.as_raw(), request, &mut |record| {
         if let Some(call) = call.take() {
             answer = Some(call(record));
         }

@@ -1,6 +1,6 @@
 //! Sets of registers, and what a syscall-stop is about.
 
-use super::{of_claimed, requests::number_table};
+use super::{Request, of_claimed, requests::number_table};
 use crate::errno::Errno;
 use crate::libc::{
     self, __c_anonymous_ptrace_syscall_info_data as Data, __c_anonymous_ptrace_syscall_info_exit as Exit,
@@ -92,18 +92,18 @@ const NO_FLOATS: &str = "a tracee has no floating-point registers";
 
 /// A set of registers of a tracee, as with `PTRACE_GETREGSET`; `NT_PRFPREG` ends the test.
 pub fn getregset<S: RegisterSet>(pid: Pid) -> Result<S::Regs, Errno> {
-    of_claimed(pid, |record| record.getregs()).map(S::from_registers)
+    of_claimed(pid, Request::PTRACE_GETREGSET, |record| record.getregs()).map(S::from_registers)
 }
 
 /// Sets a set of registers of a tracee, as with `PTRACE_SETREGSET`; `NT_PRFPREG` ends the test.
 pub fn setregset<S: RegisterSet>(pid: Pid, regs: S::Regs) -> Result<(), Errno> {
     let regs = S::to_registers(regs);
-    of_claimed(pid, |record| record.setregs(&regs))
+    of_claimed(pid, Request::PTRACE_SETREGSET, |record| record.setregs(&regs))
 }
 
 /// What a syscall-stop is about, as with `PTRACE_GET_SYSCALL_INFO`.
 pub fn syscall_info(pid: Pid) -> Result<ptrace_syscall_info, Errno> {
-    of_claimed(pid, |record| {
+    of_claimed(pid, Request::PTRACE_GET_SYSCALL_INFO, |record| {
         let mut bytes = [0; size_of::<ptrace_syscall_info>()];
         record.syscall_info(&mut bytes)?;
         Ok(info_of(&bytes))

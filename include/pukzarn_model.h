@@ -43,8 +43,8 @@ typedef void pukzarn_test(pukzarn_sim *sim, void *arg);
  * test in the printed line: each model of a program has one of its own. Answers 0; or 1 where a schedule fails. It is
  * not called within a test.
  *
- * In the environment PUKZARN_SCHEDULE has one schedule that is run in place of all, PUKZARN_SCHEDULES how many are run
- * at most, and PUKZARN_DEVIATIONS the most deviations. */
+ * In the environment PUKZARN_SCHEDULE has one schedule that is run in place of all, and whose steps are printed also
+ * where it passes; PUKZARN_SCHEDULES has how many are run at most, and PUKZARN_DEVIATIONS the most deviations. */
 int pukzarn_model(const char *name, pukzarn_test *test, void *arg);
 
 /* How far a model is to come. */
@@ -82,8 +82,8 @@ struct pukzarn_bounds {
 /* pukzarn_model within bounds. */
 int pukzarn_model_within(const struct pukzarn_bounds *bounds, const char *name, pukzarn_test *test, void *arg);
 
-/* Writes what the last model of this thread printed, cut to the room and ended by a zero byte; with room 0 nothing is
- * written. Answers the length of the whole text, without the zero byte. */
+/* Writes what the last model of this thread printed, without the steps of a schedule that passes, cut to the room and
+ * ended by a zero byte; with room 0 nothing is written. Answers the length of the whole text, without the zero byte. */
 long pukzarn_model_printed(char *to, size_t room);
 
 /* ---- What a test adds, before it runs ---- */

@@ -353,7 +353,7 @@ pub(crate) fn options_refused(options: u32, errno: Errno) -> String {
     )
 }
 
-/// Whether a restart from this stop hands on the SIGSTOP that the stop is of: the tracee would stop again, with its group.
+/// Whether a restart hands on the SIGSTOP that the last stop is of: the tracee would stop again, with its group.
 pub(crate) fn is_group_stop(last: StopNumbers, how: RestartNumbers) -> bool {
     const SIGSTOP: u32 = Signal::SIGSTOP as u32;
     how.signal == SIGSTOP && last == StopNumbers { kind: kind::SIGNAL, value: SIGSTOP }

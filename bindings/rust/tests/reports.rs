@@ -222,10 +222,16 @@ fn all_of_them() {
     Builder { deviations: None, schedule: None, ..Builder::new() }.check(two_processes);
 }
 
+#[test]
+fn one_that_may_be_asked_for() {
+    Builder { deviations: None, ..Builder::new() }.check(two_processes);
+}
+
 /// What a test of this program prints on standard error where it passes and its output is not asked for.
 fn passes_and_prints(test: &str) -> String {
     let mut command = Command::new(std::env::current_exe().expect("this program has a name"));
     command.args([test, "--exact"]).env_remove("RUST_TEST_NOCAPTURE");
+    command.env("PUKZARN_SCHEDULE", "one_that_may_be_asked_for#1:1");
     let output = command.output().expect("this program runs again");
     assert!(output.status.success(), "{test} passes");
     String::from_utf8(output.stderr).expect("text")
@@ -242,6 +248,16 @@ fn a_test_that_passes_says_so_where_not_all_was_tried() {
     assert!(shallow.contains("all with at most 1 deviation: "), "{shallow}");
     assert!(shallow.contains("PUKZARN_DEVIATIONS"), "{shallow}");
     assert_eq!(passes_and_prints("all_of_them"), "");
+}
+
+#[test]
+fn a_schedule_that_is_asked_for_and_passes_is_printed() {
+    let printed = passes_and_prints("one_that_may_be_asked_for");
+    let lines: Vec<&str> = printed.lines().collect();
+    assert_eq!(lines[0], "pukzarn: one_that_may_be_asked_for#1: this schedule passes:", "{printed}");
+    assert_eq!(lines[1], "  tracee 200 publish 200 start: published 1 <- before tracee 100", "{printed}");
+    assert!(lines[lines.len() - 2].contains("wait any 0: no child"), "{printed}");
+    assert!(lines[lines.len() - 1].contains("PUKZARN_SCHEDULE asks for this schedule alone"), "{printed}");
 }
 
 #[test]

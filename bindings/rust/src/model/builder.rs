@@ -36,7 +36,7 @@ pub struct Builder {
     /// How often a poll that found nothing may find nothing once more before anything has changed.
     pub idle_polls: u32,
     /// The decisions of one schedule, which is run in place of the search, as `Failure::schedule` has them; ignored by
-    /// models of another name (PUKZARN_SCHEDULE).
+    /// models of another name (PUKZARN_SCHEDULE). Its steps are printed on standard error also where it passes.
     pub schedule: Option<String>,
     /// A thread that makes no call for so long is taken to wait for a lock of std.
     pub patience: Duration,

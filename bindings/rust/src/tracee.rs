@@ -1,16 +1,23 @@
 //! The tracee that a test's closure plays.
 
+mod memory;
+
 use crate::Result;
 use crate::context::{self, Published};
-use crate::library::{StopNumbers, TraceeRecord, kind, user_regs_struct};
+use crate::library::{StopNumbers, kind};
 use crate::stop::{Death, Restart, Stop};
 use crate::sys::signal::Signal;
 
 const TRACESYSGOOD: u32 = 0x1;
+const TRACEFORK: u32 = 0x2;
+const TRACECLONE: u32 = 0x8;
 const TRACEEXIT: u32 = 0x40;
-const PAGE: u64 = 4096;
-/// exit(2), as x86-64 numbers it.
+/// clone(2), as x86-64 numbers it, and the other two.
+const CLONE: u64 = 56;
+const FORK: u64 = 57;
 const EXIT: u64 = 60;
+/// CLONE_VM, CLONE_SIGHAND and CLONE_THREAD.
+const THREAD: u64 = 0x1_0900;
 /// What rax has at a syscall-enter-stop: -ENOSYS.
 const NO_RESULT: u64 = -38i64 as u64;
 
@@ -140,11 +147,67 @@ impl Tracee {
     /// ```
     pub fn call(&mut self, number: u64, arguments: [u64; 6], result: i64) -> Result<()> {
         self.enter(number, arguments)?;
-        self.change_registers(|registers| registers.rax = result as u64);
-        if self.restart.stops_at_calls() {
-            self.stop(Stop::Exit)?;
-        }
-        Ok(())
+        self.leave(result)
+    }
+
+    /// A call of fork(2) that creates the process `tid`, which is its result: entry and exit stop as the restarts ask
+    /// for, and PTRACE_EVENT_FORK comes where PTRACE_O_TRACEFORK is set.
+    ///
+    /// Where it is not, the child is not traced: no wait is ever answered it, and in the simulation it is never born.
+    ///
+    /// # Errors
+    /// EINVAL: it does not name the tracee's next child, in the order of the rows, or a thread.
+    ///
+    /// ```
+    /// use pukzarn::sys::{ptrace, wait};
+    /// use pukzarn::{Row, Stop};
+    ///
+    /// pukzarn::model(|sim| {
+    ///     sim.tracee(Row::root(100), |tracee| {
+    ///         tracee.stop(Stop::Start)?;
+    ///         tracee.fork(101)
+    ///     });
+    ///     sim.tracee(Row::child(101, 100), |tracee| tracee.stop(Stop::Start).map(drop));
+    ///     sim.tracer("main", || {
+    ///         while let Ok(status) = wait::wait() {
+    ///             let _ = ptrace::syscall(status.pid().unwrap(), None);
+    ///         }
+    ///     });
+    ///     sim.run().assert_all_reaped();
+    /// });
+    /// ```
+    pub fn fork(&mut self, tid: u32) -> Result<()> {
+        self.create(FORK, [0; 6], TRACEFORK, Stop::Fork(tid), tid)
+    }
+
+    /// A call of clone(2) that creates the thread `tid` of its own thread group, which is its result: entry and exit
+    /// stop as the restarts ask for, and PTRACE_EVENT_CLONE comes where PTRACE_O_TRACECLONE is set.
+    ///
+    /// Where it is not, the thread is not traced: no wait is ever answered it, and in the simulation it is never born.
+    ///
+    /// # Errors
+    /// EINVAL: it does not name the tracee's next child, in the order of the rows, or a process.
+    ///
+    /// ```
+    /// use pukzarn::sys::{ptrace, wait};
+    /// use pukzarn::{Row, Stop};
+    ///
+    /// pukzarn::model(|sim| {
+    ///     sim.tracee(Row::root(100), |tracee| {
+    ///         tracee.stop(Stop::Start)?;
+    ///         tracee.clone_thread(101)
+    ///     });
+    ///     sim.tracee(Row::thread(101, 100, 100), |tracee| tracee.stop(Stop::Start).map(drop));
+    ///     sim.tracer("main", || {
+    ///         while let Ok(status) = wait::wait() {
+    ///             let _ = ptrace::cont(status.pid().unwrap(), None);
+    ///         }
+    ///     });
+    ///     sim.run().assert_all_reaped();
+    /// });
+    /// ```
+    pub fn clone_thread(&mut self, tid: u32) -> Result<()> {
+        self.create(CLONE, [THREAD, 0, 0, 0, 0, 0], TRACECLONE, Stop::Clone(tid), tid)
     }
 
     /// A call of exit(2), which stops at its entry as the restart asks for, and then ends the tracee.
@@ -218,105 +281,6 @@ impl Tracee {
         context::calls().exit(self.row, status);
     }
 
-    /// The registers, as the tracer left them at the last stop.
-    ///
-    /// ```
-    /// pukzarn::model(|sim| {
-    ///     sim.tracee(pukzarn::Row::root(100), |tracee| {
-    ///         assert_eq!(tracee.registers().rax, 0);
-    ///         Ok(())
-    ///     });
-    ///     sim.run();
-    /// });
-    /// ```
-    pub fn registers(&self) -> user_regs_struct {
-        let mut registers = user_regs_struct::default();
-        self.with_record(|record| record.getregs().map(|at| registers = at)).expect("registers can be read");
-        registers
-    }
-
-    /// Sets the registers, which the tracer sees at the next stop.
-    ///
-    /// ```
-    /// pukzarn::model(|sim| {
-    ///     sim.tracee(pukzarn::Row::root(100), |tracee| {
-    ///         let mut registers = tracee.registers();
-    ///         registers.rip = 0x401000;
-    ///         tracee.set_registers(&registers);
-    ///         assert_eq!(tracee.registers().rip, 0x401000);
-    ///         Ok(())
-    ///     });
-    ///     sim.run();
-    /// });
-    /// ```
-    pub fn set_registers(&mut self, registers: &user_regs_struct) {
-        self.with_record(|record| record.setregs(registers)).expect("registers take any values");
-    }
-
-    /// Maps the pages that these bytes lie in, where they are not mapped, as zeros.
-    ///
-    /// # Errors
-    /// ENOSPC: 256 pages are mapped. ENOMEM.
-    ///
-    /// ```
-    /// pukzarn::model(|sim| {
-    ///     sim.tracee(pukzarn::Row::root(100), |tracee| {
-    ///         tracee.map_memory(0x10ff8, 16)?;
-    ///         let mut bytes = [1; 16];
-    ///         assert_eq!(tracee.read_memory(0x10ff8, &mut bytes), 16);
-    ///         assert_eq!(bytes, [0; 16]);
-    ///         Ok(())
-    ///     });
-    ///     sim.run();
-    /// });
-    /// ```
-    pub fn map_memory(&mut self, address: u64, length: u64) -> Result<()> {
-        let first = address / PAGE;
-        let last = address.saturating_add(length.max(1) - 1) / PAGE;
-        for page in first..=last {
-            match self.with_record(|record| record.map(page * PAGE)) {
-                Ok(()) | Err(crate::Errno::EEXIST) => {}
-                Err(errno) => return Err(errno),
-            }
-        }
-        Ok(())
-    }
-
-    /// Writes bytes, which have to be mapped: all of them or none.
-    ///
-    /// # Errors
-    /// EIO: some of them are not mapped.
-    ///
-    /// ```
-    /// pukzarn::model(|sim| {
-    ///     sim.tracee(pukzarn::Row::root(100), |tracee| {
-    ///         tracee.map_memory(0x10000, 4)?;
-    ///         tracee.write_memory(0x10000, b"/tmp")
-    ///     });
-    ///     sim.run();
-    /// });
-    /// ```
-    pub fn write_memory(&mut self, address: u64, bytes: &[u8]) -> Result<()> {
-        self.with_record(|record| record.write(address, bytes))
-    }
-
-    /// Copies bytes up to the first that is not mapped, and answers how many they are.
-    ///
-    /// ```
-    /// pukzarn::model(|sim| {
-    ///     sim.tracee(pukzarn::Row::root(100), |tracee| {
-    ///         assert_eq!(tracee.read_memory(0x10000, &mut [0; 4]), 0);
-    ///         Ok(())
-    ///     });
-    ///     sim.run();
-    /// });
-    /// ```
-    pub fn read_memory(&self, address: u64, to: &mut [u8]) -> usize {
-        let mut length = 0;
-        self.with_record(|record| record.read(address, to).map(|many| length = many)).expect("memory can be read");
-        length
-    }
-
     /// Enters a system call.
     fn enter(&mut self, number: u64, arguments: [u64; 6]) -> Result<()> {
         self.change_registers(|at| {
@@ -329,26 +293,28 @@ impl Tracee {
         Ok(())
     }
 
+    /// Leaves a system call with its result.
+    fn leave(&mut self, result: i64) -> Result<()> {
+        self.change_registers(|registers| registers.rax = result as u64);
+        if self.restart.stops_at_calls() {
+            self.stop(Stop::Exit)?;
+        }
+        Ok(())
+    }
+
+    /// A call that creates a child, which is born by the event, where an option asks for that.
+    fn create(&mut self, number: u64, arguments: [u64; 6], option: u32, event: Stop, child: u32) -> Result<()> {
+        self.enter(number, arguments)?;
+        if context::calls().options(self.row) & option != 0 {
+            self.stop(event)?;
+        }
+        self.leave(i64::from(child))
+    }
+
     /// Stops at PTRACE_EVENT_EXIT where that is asked for.
     fn announce(&mut self, death: Death) {
         if context::calls().options(self.row) & TRACEEXIT != 0 {
             self.stop(Stop::Ending(death)).expect("an exit event is never refused");
         }
-    }
-
-    fn change_registers(&mut self, change: impl FnOnce(&mut user_regs_struct)) {
-        let mut registers = self.registers();
-        change(&mut registers);
-        self.set_registers(&registers);
-    }
-
-    fn with_record<T>(&self, call: impl FnOnce(&mut dyn TraceeRecord) -> Result<T>) -> Result<T> {
-        let (mut call, mut answer) = (Some(call), None);
-        context::calls().with_record(self.row, &mut |record| {
-            if let Some(call) = call.take() {
-                answer = Some(call(record));
-            }
-        });
-        answer.expect("a tracee's thread has its record")
     }
 }

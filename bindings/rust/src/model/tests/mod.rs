@@ -1,6 +1,7 @@
 //! Models of small tracers, and what is reported of them.
 
 mod above;
+mod births;
 mod first_stops;
 mod forgetting;
 

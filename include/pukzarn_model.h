@@ -152,7 +152,8 @@ int pukzarn_thread_start(void (*body)(void *), void *arg);
 void pukzarn_thread_join(int thread);
 
 /* Called at the head of a loop: of all that has happened, only these bytes count for what this thread does from here
- * on. Then fewer schedules are run; the report says "as far as `pukzarn_forget` holds". */
+ * on. Where it has several such loops, the bytes also say which one it is. Then fewer schedules are run; the report says
+ * "as far as `pukzarn_forget` holds". */
 void pukzarn_forget(const void *all_that_counts, size_t len);
 
 #ifdef __cplusplus

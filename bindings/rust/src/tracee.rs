@@ -2,11 +2,11 @@
 
 mod memory;
 
-use crate::Result;
 use crate::context::{self, Published};
 use crate::library::{StopNumbers, kind};
 use crate::stop::{Death, Restart, Stop};
 use crate::sys::signal::Signal;
+use crate::{Errno, Result};
 
 const TRACESYSGOOD: u32 = 0x1;
 const TRACEFORK: u32 = 0x2;
@@ -45,6 +45,8 @@ pub struct Tracee {
     row: usize,
     restart: Restart,
     life: Life,
+    /// The stop that was refused last.
+    refused: Option<Stop>,
 }
 
 #[derive(Clone, Copy, PartialEq)]
@@ -58,15 +60,29 @@ pub(crate) type Play = Box<dyn FnOnce(&mut Tracee) -> Result<()> + Send>;
 
 /// Plays a tracee on its thread, once it is born.
 pub(crate) fn play(row: usize, body: Play) {
-    let mut tracee = Tracee { row, restart: Restart::Cont(None), life: Life::Alive };
+    let mut tracee = Tracee { row, restart: Restart::Cont(None), life: Life::Alive, refused: None };
     if let Err(errno) = body(&mut tracee) {
-        panic!("the tracee's closure ends with an error: {errno}");
+        let hint = tracee.refused.filter(|_| errno == Errno::EINVAL).map_or(String::new(), birth_refused);
+        panic!("the tracee's closure ends with an error: {errno}{hint}");
     }
     if tracee.life == Life::Alive {
         let death = Death::Exited(0);
         tracee.announce(death);
         context::calls().exit_at_last(row, death.status());
     }
+}
+
+/// Why a stop was refused: all but those that create a child are taken.
+fn birth_refused(stop: Stop) -> String {
+    let (call, child) = match stop {
+        Stop::Fork(child) => ("fork", child),
+        Stop::Clone(child) => ("clone", child),
+        _ => return String::new(),
+    };
+    format!(
+        ". Its {call} of {child} is refused: the child that it creates next is another, or is not declared. Children \
+         are declared in the order of their creation"
+    )
 }
 
 impl Tracee {
@@ -100,9 +116,11 @@ impl Tracee {
         if of_call && calls.options(self.row) & TRACESYSGOOD == 0 {
             numbers = StopNumbers { kind: kind::SIGNAL, value: Signal::SIGTRAP as u32 };
         }
+        self.refused = Some(stop);
         while calls.publish(self.row, numbers)? == Published::Interrupted {
             calls.take_up(self.row);
         }
+        self.refused = None;
         self.restart = Restart::from_numbers(calls.take_up(self.row));
         Ok(self.restart)
     }
@@ -156,7 +174,7 @@ impl Tracee {
     /// Where it is not, the child is not traced: no wait is ever answered it, and in the simulation it is never born.
     ///
     /// # Errors
-    /// EINVAL: it does not name the tracee's next child, in the order of the rows, or a thread.
+    /// EINVAL: it does not name the tracee's next child, in the order of the rows.
     ///
     /// ```
     /// use pukzarn::sys::{ptrace, wait};
@@ -186,7 +204,7 @@ impl Tracee {
     /// Where it is not, the thread is not traced: no wait is ever answered it, and in the simulation it is never born.
     ///
     /// # Errors
-    /// EINVAL: it does not name the tracee's next child, in the order of the rows, or a process.
+    /// EINVAL: it does not name the tracee's next child, in the order of the rows.
     ///
     /// ```
     /// use pukzarn::sys::{ptrace, wait};

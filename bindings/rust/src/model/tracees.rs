@@ -7,9 +7,8 @@ use super::hash::mix;
 use crate::context::{Published, Request};
 use crate::end::Phase;
 use crate::errno::Errno;
-use crate::library::{
-    Board, Record, RestartNumbers, RowNumbers, RowsRefused, State, StopNumbers, Waited, kind, phase, wait,
-};
+use crate::library::{Board, Record, RestartNumbers, RowNumbers, State, StopNumbers, Waited, kind, phase, wait};
+use crate::row::refusal_words;
 use crate::sim::Declared;
 use crate::stop::FirstStop;
 
@@ -96,7 +95,7 @@ impl Tracees {
         std::mem::swap(&mut self.rows, &mut declared.rows);
         self.first_stop = declared.first_stop;
         let rows = &self.rows;
-        self.board = Board::open(rows).unwrap_or_else(|refused| panic!("{}", words_of(rows, refused)));
+        self.board = Board::open(rows).unwrap_or_else(|refused| panic!("{}", refusal_words(rows, refused)));
         self.states.clear();
         self.states.resize(rows.len(), State::default());
         self.above.clear();
@@ -345,12 +344,5 @@ impl Tracees {
             _ => Phase::Reaped,
         };
         self.rows.iter().zip(&self.states).map(|(row, state)| (row.tid, phase_of(state))).collect()
-    }
-}
-
-fn words_of(rows: &[RowNumbers], refused: RowsRefused) -> String {
-    match refused {
-        RowsRefused::Faulty(at) => format!("pukzarn: the ids of tracee {} are refused: {:?}", rows[at].tid, rows[at]),
-        RowsRefused::Other(errno) => format!("pukzarn: {} tracees are refused: {errno}", rows.len()),
     }
 }

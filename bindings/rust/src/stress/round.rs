@@ -4,7 +4,8 @@ use super::Stress;
 use super::thread::{Place, Role, tracee_body};
 use crate::context::{self, Body, World};
 use crate::end::{End, Phase};
-use crate::library::{MOST_TRACERS, RowNumbers, RowsRefused, TraceeHandle, TracerHandle, open_cells, phase};
+use crate::library::{MOST_TRACERS, RowNumbers, TraceeHandle, TracerHandle, open_cells, phase};
+use crate::row::refusal_words;
 use crate::sim::{Declared, Sim};
 use crate::stop::FirstStop;
 use std::sync::atomic::{AtomicBool, AtomicU32, AtomicU64, AtomicUsize, Ordering::SeqCst};
@@ -43,10 +44,8 @@ impl Round {
             place.unwrap_or_else(|| panic!("pukzarn: there is no tracer {only}, which is to be the only one"))
         });
         let handles = if only.is_some() { 1 } else { MOST_TRACERS };
-        let (tracees, tracers) = open_cells(&rows, handles).unwrap_or_else(|refused| match refused {
-            RowsRefused::Faulty(row) => panic!("pukzarn: the row of tracee {} is faulty", rows[row].tid),
-            RowsRefused::Other(errno) => panic!("pukzarn: the cells cannot be opened: {errno}"),
-        });
+        let cells = open_cells(&rows, handles);
+        let (tracees, tracers) = cells.unwrap_or_else(|refused| panic!("{}", refusal_words(&rows, refused)));
         Shared {
             settings: self.settings.clone(),
             seed: self.seed,

@@ -121,3 +121,23 @@ fn a_call_that_is_not_traced_makes_the_event_alone() {
         sim.run().assert_all_reaped();
     });
 }
+
+#[test]
+fn a_birth_that_is_refused_says_what_is_to_be_declared() {
+    let refusal_of = |body: fn(&mut Tracee) -> crate::Result<()>| {
+        let failure = builder().explore(move |sim| {
+            sim.tracee(Row::root(100), body);
+            sim.tracee(Row::child(101, 100), |_| Ok(()));
+            sim.tracee(Row::thread(102, 100, 100), |_| Ok(()));
+            sim.run();
+        });
+        failure.expect_err("the birth is refused").cause
+    };
+    let hint =
+        |birth: &str| format!("error: EINVAL: Invalid argument. Its {birth} is refused: the child that it creates");
+    assert!(refusal_of(|tracee| tracee.fork(999)).contains(&hint("fork of 999")));
+    assert!(refusal_of(|tracee| tracee.clone_thread(102)).contains(&hint("clone of 102")));
+    assert!(refusal_of(|tracee| tracee.stop(Stop::Fork(100)).map(drop)).contains(&hint("fork of 100")));
+    // Another EINVAL has no such hint.
+    assert!(refusal_of(|_| Err(Errno::EINVAL)).ends_with("error: EINVAL: Invalid argument"));
+}

@@ -126,7 +126,8 @@ mod tests {
         let refused = Board::open(&rows).err().unwrap();
         assert_eq!(
             refusal_words(&rows, refused),
-            "pukzarn: tracee 101 (thread group 101, process group 100, parent 100) is refused: its parent is not declared"
+            "pukzarn: tracee 101 (thread group 101, process group 100, parent 100) is refused: its parent is not \
+             declared"
         );
     }
 }

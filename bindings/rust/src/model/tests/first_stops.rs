@@ -133,3 +133,24 @@ fn without_traceexec_an_exec_has_no_event() {
         sim.run().assert_all_reaped();
     });
 }
+
+#[test]
+fn a_tracee_without_options_stops_by_sigtrap_at_calls() {
+    builder().exhaustive().check(|sim| {
+        sim.first_stops(FirstStop::Sigstop);
+        sim.options(ptrace::Options::empty());
+        sim.tracee(Row::root(100), |tracee| {
+            tracee.stop(Stop::Start)?;
+            tracee.call(39, [0; 6], 100)
+        });
+        sim.tracer("main", || {
+            let mut signals = Vec::new();
+            while let Ok(WaitStatus::Stopped(pid, signal)) = wait() {
+                signals.push(signal);
+                ptrace::syscall(pid, None).unwrap();
+            }
+            assert_eq!(signals, [Signal::SIGSTOP, Signal::SIGTRAP, Signal::SIGTRAP]);
+        });
+        sim.run().assert_all_reaped();
+    });
+}

@@ -15,10 +15,9 @@ ARCHIVE ?= crates/pukzarn/out/libpukzarn.a
 HEAP ?= $(dir $(shell $(RT) doc))c/liblibc_c.a
 VERSION = $(shell sed -n 's/.*\.version("\(.*\)").*/\1/p' crates/tracer_cli/src/arguments.rt)
 
-.PHONY: all kit demo try examples scarce-memory refused-memory man-page documents one-source one-meaning refused-code check \
-	wrong-bodies wrong-bodies-changed wrong-bodies-test test bench bench-case bench-cells bench-c bench-pages bench-fold \
-	bench-run bench-threads bench-large bench-explore bench-rounds library archive c-header library-test rust-test \
-	bench-rust install-library install-program tools install clean
+.PHONY: all kit demo try examples scarce-memory refused-memory man-page documents one-source one-meaning refused-code \
+	check wrong-bodies wrong-bodies-changed wrong-bodies-test test bench bench-rounds bench-rust bench-test tools library \
+	archive c-header library-test rust-test install-library install-program install clean
 
 all: kit
 	@echo "make: proving the program and what it stands on, over what earlier runs kept (the first time: 45 minutes)"
@@ -109,6 +108,7 @@ check: kit
 	@$(MAKE) --no-print-directory one-meaning
 	@$(MAKE) --no-print-directory c-header
 	@$(MAKE) --no-print-directory documents
+	@$(MAKE) --no-print-directory bench-test
 	$(call part,proofs from nothing$(COMMA) must-fail edits$(COMMA) tests and programs)
 	@RT_JOBS=$${RT_JOBS:-$(CHECKS)} $(RT) ci
 	$(call part,the library for C: its archive$(COMMA) proved once more$(COMMA) and the programs that use it)
@@ -149,124 +149,26 @@ test: kit
 	done
 	@echo "test: every test passed"
 
-bench: tools all
-	@echo "bench: timing bin/tracer and a plain Rust program in turn on one replay of 16 MB (some seconds)"
-	@mkdir -p $(OUT)
-	@$(RUSTC) -O --edition 2024 -o $(OUT)/generate bench/generate.rs
-	@$(RUSTC) -O --edition 2024 -o $(OUT)/plain bench/plain.rs
-	@$(OUT)/generate > $(OUT)/replay.txt
-	@$(PYTHON) bench/compare.py "bin/tracer replay" $(OUT)/plain $(OUT)/replay.txt
-	@$(MAKE) --no-print-directory bench-case
-	@$(MAKE) --no-print-directory bench-cells
-	@$(MAKE) --no-print-directory bench-pages
-	@$(MAKE) --no-print-directory bench-fold
-	@$(MAKE) --no-print-directory bench-run
-	@$(MAKE) --no-print-directory bench-threads
-	@$(MAKE) --no-print-directory bench-large
-	@$(MAKE) --no-print-directory bench-explore
-	@$(MAKE) --no-print-directory bench-rounds
-	@$(MAKE) --no-print-directory bench-c
+# A bench is a row of the table in bench/bench.py; `make bench` runs all but bench-rust. PROGRAM=FILE is a program that is
+# built already, for the benches that time bin/tracer.
+BENCH = RT="$(RT)" RUSTC="$(RUSTC)" CC="$(CC)" CARGO="$(CARGO)" LIBRARY="$(LIBRARY)" $(PYTHON) bench/bench.py \
+	$(if $(PROGRAM),--program $(PROGRAM))
 
-# Builds a program of bench/, which is a crate of the repository for as long as that takes: the crate's name, its source,
-# the libraries that it uses, and the words or the input that it is run with.
-define build_timed
-	@cp crates.txt $(OUT)/crates_before; trap 'cp $(OUT)/crates_before crates.txt; rm -rf crates/$(1)' EXIT INT TERM; \
-	mkdir -p crates/$(1)/src crates/$(1)/specs crates/$(1)/proofs \
-	  && cp bench/$(2).rattle crates/$(1)/src/main.rt \
-	  && touch crates/$(1)/specs/Lib.antt crates/$(1)/proofs/Lib.antt \
-	  && echo "$(1): $(3)" >> crates.txt \
-	  && (cd crates/$(1) && $(RT) run $(4) > /dev/null) && cp crates/$(1)/out/$(1) $(OUT)/$(1)
-endef
+bench: tools $(if $(PROGRAM),,all) library
+	@$(BENCH)
 
-bench-case: tools kit
-	@echo "bench-case: timing the reader of cases and a plain Rust program in turn on one case of 16 MB (a minute)"
-	@mkdir -p $(OUT)
-	@$(RUSTC) -O --edition 2024 -o $(OUT)/generate_case bench/generate_case.rs
-	@$(RUSTC) -O --edition 2024 -o $(OUT)/plain_case bench/plain_case.rs
-	@$(OUT)/generate_case > $(OUT)/case.txt
-	$(call build_timed,read_case,read_case,trace_script stop_board,< /dev/null)
-	@$(PYTHON) bench/compare.py --memory 4 $(OUT)/read_case $(OUT)/plain_case $(OUT)/case.txt
+bench-%: tools kit
+	@$(BENCH) $*
 
-# The same for the rounds over the cells that threads share.
-bench-cells: tools kit
-	@echo "bench-cells: timing rounds over the stop cells, a plain compare-exchange and a lock in turn (some minutes)"
-	@mkdir -p $(OUT)
-	@$(RUSTC) -O --edition 2024 -o $(OUT)/plain_cells bench/plain_cells.rs
-	$(call build_timed,time_cells,cells,stop_table stop_history trace_record trace_pages,-- own 1000)
-	@$(PYTHON) bench/cells.py $(OUT)/time_cells $(OUT)/plain_cells
+bench-replay bench-threads bench-large bench-explore: $(if $(PROGRAM),,all)
+bench-c: library
 
-# The same for rounds through the handles of the library for C.
-bench-c: library tools kit
-	@echo "bench-c: timing rounds through the handles of C and inside Rattle in turn (a minute)"
-	@mkdir -p $(OUT)
-	@$(CC) -O2 -std=c99 -D_POSIX_C_SOURCE=200809L -Iinclude -o $(OUT)/rounds_in_c bench/rounds_in_c.c $(LIBRARY)
-	$(call build_timed,rounds_inside,rounds_inside,c_interface,-- 1000 1 0 2 100 0)
-	@$(PYTHON) bench/rounds.py --more 25 $(OUT)/rounds_in_c $(OUT)/rounds_inside
-
-# The same for a memory of 256 pages.
-bench-pages: tools kit
-	@echo "bench-pages: timing a memory of 256 pages and a plain Rust program in turn (a minute)"
-	@mkdir -p $(OUT)
-	@$(RUSTC) -O --edition 2024 -o $(OUT)/plain_pages bench/plain_pages.rs
-	$(call build_timed,time_pages,pages,trace_pages,-- map 256)
-	@$(PYTHON) bench/pages.py $(OUT)/time_pages $(OUT)/plain_pages
-
-# The same for a folder of a million pieces.
-bench-fold: tools kit
-	@echo "bench-fold: timing a folder and a plain Rust program in turn (a minute)"
-	@mkdir -p $(OUT)
-	@$(RUSTC) -O --edition 2024 -o $(OUT)/plain_fold bench/plain_fold.rs
-	$(call build_timed,time_fold,fold,record_printer stop_history trace_options trace_record anyhow,-- order 1000)
-	@$(PYTHON) bench/fold.py --memory 2 $(OUT)/time_fold $(OUT)/plain_fold
-
-bench-run: tools kit
-	@echo "bench-run: timing a run on one thread and a plain Rust program in turn on one case of 16 MB (some minutes)"
-	@mkdir -p $(OUT)
-	@$(RUSTC) -O --edition 2024 -o $(OUT)/generate_case bench/generate_case.rs
-	@$(RUSTC) -O --edition 2024 -o $(OUT)/plain_run bench/plain_run.rs
-	@$(OUT)/generate_case > $(OUT)/case.txt
-	$(call build_timed,run_case,run_case,tracer_workers trace_script trace_options,< /dev/null)
-	@$(PYTHON) bench/compare.py $(OUT)/run_case $(OUT)/plain_run $(OUT)/case.txt
-
-# The program, whose runs have a thread for each tracee, beside one with the same threads.
-bench-threads: tools all
-	@echo "bench-threads: timing bin/tracer run and a plain Rust program with threads in turn (a minute)"
-	@mkdir -p $(OUT)
-	@$(RUSTC) -O --edition 2024 -o $(OUT)/plain_threads bench/plain_threads.rs
-	@$(PYTHON) bench/threads.py --rows 1.3 "bin/tracer run" $(OUT)/plain_threads
-
-# The same on cases that are large in one way.
-bench-large: tools all
-	@echo "bench-large: timing bin/tracer run and plain Rust programs in turn on six large cases (two minutes)"
-	@mkdir -p $(OUT)
-	@$(RUSTC) -O --edition 2024 -o $(OUT)/generate_case bench/generate_case.rs
-	@$(RUSTC) -O --edition 2024 -o $(OUT)/plain_run bench/plain_run.rs
-	@$(RUSTC) -O --edition 2024 -o $(OUT)/plain_threads bench/plain_threads.rs
-	@$(PYTHON) bench/large.py "bin/tracer run" $(OUT)/plain_run $(OUT)/plain_threads $(OUT)/generate_case
-
-# The program that finds all outcomes, beside a plain search for them.
-bench-explore: tools all
-	@echo "bench-explore: timing bin/tracer explore and a plain Rust program in turn on 37,440 outcomes, and on one outcome"
-	@echo "bench-explore: of two threads of 990 different commands each (a minute)"
-	@mkdir -p $(OUT)
-	@$(RUSTC) -O --edition 2024 -o $(OUT)/plain_explore bench/plain_explore.rs
-	@$(RUSTC) -O --edition 2024 -o $(OUT)/generate_litmus bench/generate_litmus.rs
-	@$(OUT)/generate_litmus > $(OUT)/commands.litmus
-	@$(PYTHON) bench/compare.py --runs 9 "bin/tracer explore" $(OUT)/plain_explore bench/explore.litmus
-	@$(PYTHON) bench/compare.py --runs 9 "bin/tracer explore" $(OUT)/plain_explore $(OUT)/commands.litmus
-
-# Which outcomes of a small program rounds of real threads had, and how often, in place of a time. Two tests of
-# outcome_tests print it; each begins no round after 40 seconds.
 bench-rounds: kit
-	@echo "bench-rounds: running 100,000 rounds of two threads, and as many of three (two to four minutes)"
-	@mkdir -p $(OUT)
-	@(cd crates/outcome_tests && $(RT) try --test --seconds 300 -- explored::rounds) > $(OUT)/rounds.txt 2>&1 \
-	  || { cat $(OUT)/rounds.txt; echo "bench-rounds: FAILED: a test of the rounds did not pass" >&2; exit 1; }
-	@sed -n 's/^    \(.*rounds\|outcome\)/\1/p' $(OUT)/rounds.txt
-	@test "$$(grep -c '^    rounds of [23] threads: ' $(OUT)/rounds.txt)" -eq 2 \
-	  || { echo "bench-rounds: FAILED: two tests were to say what was seen" >&2; exit 1; }
-	@! grep -q '^    fewer than' $(OUT)/rounds.txt \
-	  || echo "bench-rounds: this machine was too busy for 100,000 rounds of each"
+	@$(BENCH) rounds
+
+bench-test:
+	@echo "bench-test: looking at the table of benches, and at how they are read, divided and limited (a second)"
+	@$(PYTHON) bench/bench.py --self-test
 
 tools:
 	@for command in $(RUSTC) $(PYTHON); do \
@@ -352,9 +254,7 @@ rust-test: $(LIBRARY)
 	@echo "rust-test: every test passed"
 
 bench-rust: $(LIBRARY)
-	@echo "bench-rust: timing schedules of a model and the hand-overs of a plain baton in turn (a minute)"
-	@$(IN_RUST) $(CARGO) build --quiet --release --manifest-path bench/schedules/Cargo.toml
-	@taskset -c 0 $(CARGO_TARGET_DIR)/release/schedules
+	@$(IN_RUST) $(BENCH) rust
 
 include tools/c_model.mk
 

@@ -1,5 +1,6 @@
-//! The rounds of bench/cells.rattle in plain Rust, to compare with: by compare-exchange on a word with a slot beside it,
-//! and by a mutex and condition variables. A record has the size of a stop's record, and moves as it does there.
+//! The rounds of bench/time_cells.rattle in plain Rust, to compare with: by compare-exchange on a word with a slot
+//! beside it, and by a mutex and condition variables. A record has the size of a stop's record, and moves as it does
+//! there.
 //!
 //! Each row is on cache lines of its own.
 //!

@@ -1,5 +1,5 @@
-//! The rows of bench/fold.rattle in plain Rust, to compare with: the text of the stops that are folded, and a map of
-//! those that came early.
+//! The rows of bench/time_fold.rattle in plain Rust, to compare with: the text of the stops that are folded, and a map
+//! of those that came early.
 //!
 //! Usage: plain_fold order|window|stream PIECES
 
@@ -117,7 +117,7 @@ impl Row {
     }
 }
 
-/// What bench/fold.rattle makes of a stop.
+/// What bench/time_fold.rattle makes of a stop.
 fn make_piece(number: u32) -> Piece {
     let note = match number % 16 {
         1 => Note::Quiet,

@@ -1,5 +1,5 @@
-//! The rounds of bench/pages.rattle in plain Rust, to compare with: the addresses of the pages in a sorted list, their
-//! bytes in boxes in the same order.
+//! The rounds of bench/time_pages.rattle in plain Rust, to compare with: the addresses of the pages in a sorted list,
+//! their bytes in boxes in the same order.
 //!
 //! Usage: plain_pages map|byte|store ROUNDS
 

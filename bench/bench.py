@@ -258,12 +258,13 @@ BENCHES = [
             Shape("one outcome of two threads of 990 different commands each", text="generate_litmus"),
         ), 9, **CUT),
     )),
+    # Many short runs, since the host's other guests slow a processor down for seconds at a time.
     # The calls inside Rattle get their numbers as words, since the compiler does not know those of a program in C: a
     # syscall-enter-stop, P_ALL, WSTOPPED, the pid, PTRACE_CONT.
     Bench("c", "timing rounds through the handles of C and inside Rattle in turn (a minute)", (
         Part({"through handles of C": "rounds_in_c {}", "inside Rattle": "rounds_inside {} 1 0 2 100 0"}, (
-            Shape("one thread", "2000000", total=triangle(2000000)),
-        ), 15, prints=True, each="a round", says=("time", "more"), limits={"more": 25}),
+            Shape("one thread", "20000", total=triangle(20000)),
+        ), 301, prints=True, each="a round", says=("time", "more"), limits={"more": 25}),
     ), uses="c_interface", first="1000 1 0 2 100 0"),
     Bench("rounds", "running 100,000 rounds of two threads, and as many of three (two to four minutes)",
           does=see_rounds),

@@ -292,10 +292,11 @@ impl Tracee {
     /// });
     /// ```
     pub fn exit_group(&mut self, code: u8) {
-        self.announce(Death::Exited(code));
         self.life = Life::Ended;
         let status = Death::Exited(code).status();
         context::calls().exit_group(self.row, status);
+        // The code is settled, and the others die, before its own exit event.
+        self.announce(Death::Exited(code));
         context::calls().exit(self.row, status);
     }
 

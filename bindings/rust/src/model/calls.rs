@@ -152,7 +152,7 @@ impl State {
             Op::Restart(row, how) => Reply::Answered(self.make_restart(actor, row, how)),
             Op::Ptrace(row, _) => Reply::Answered(self.holds(actor, row)),
             Op::Seize(row, _) => {
-                Reply::Answered(self.traces(actor, Errno::EPERM).and_then(|()| self.tracees.find(row)))
+                Reply::Answered(self.tracees.find(row).and_then(|()| self.traces(actor, Errno::EPERM)))
             }
             Op::Interrupt(row) => {
                 Reply::Answered(self.traces(actor, Errno::ESRCH).and_then(|()| self.tracees.interrupt(row)))

@@ -286,7 +286,6 @@ impl Tracees {
     /// these are a claim and a restart as any others, but nobody else acts between them.
     pub(super) fn kill(&mut self, row: usize, status: u32) {
         self.settle_death(row, status);
-        self.above[row].interrupted = false;
         let state = self.states[row];
         if state.phase == phase::STOPPED {
             self.claim(row, state.tracer);
@@ -301,6 +300,8 @@ impl Tracees {
     /// A row dies by this next, whatever kills it until then.
     pub(super) fn settle_death(&mut self, row: usize, status: u32) {
         self.above[row].killed.get_or_insert(status);
+        // Who is to die makes no stop of an interrupt any more.
+        self.above[row].interrupted = false;
         self.was_changed(row);
     }
 
@@ -315,7 +316,8 @@ impl Tracees {
         if self.first_stop == FirstStop::Sigstop {
             return Err(Errno::EIO);
         }
-        self.above[row].interrupted |= self.states[row].phase == phase::RUNNING;
+        let above = &mut self.above[row];
+        above.interrupted |= self.states[row].phase == phase::RUNNING && above.killed.is_none();
         self.refresh(row);
         Ok(())
     }

@@ -301,13 +301,61 @@ fn only_the_thread_that_traces_interrupts_and_sets_options() {
         sim.tracer("main", || {
             let pid = wait().unwrap().pid().unwrap();
             ptrace::interrupt(pid).unwrap();
+            let other =
+                crate::thread::spawn(move || (ptrace::interrupt(pid), ptrace::seize(pid, Options::PTRACE_O_TRACEEXIT)));
+            assert_eq!(other.join().unwrap(), (Err(crate::Errno::ESRCH), Err(crate::Errno::EPERM)));
             ptrace::cont(pid, None).unwrap();
             wait().unwrap();
         });
-        sim.tracer("other", || {
-            let pid = Pid::from_raw(100);
-            assert_eq!(ptrace::interrupt(pid), Err(crate::Errno::ESRCH));
-            assert_eq!(ptrace::seize(pid, Options::PTRACE_O_TRACEEXIT), Err(crate::Errno::EPERM));
+        sim.run().assert_all_reaped();
+    });
+}
+
+#[test]
+fn a_group_that_exits_keeps_its_code_though_its_leader_is_killed_at_the_exit_event() {
+    builder().exhaustive().check(|sim| {
+        sim.kills();
+        sim.options(Options::PTRACE_O_TRACESYSGOOD | Options::PTRACE_O_TRACEEXIT);
+        sim.tracee(Row::root(100), |tracee| {
+            tracee.exit_group(3);
+            Ok(())
+        });
+        sim.tracer("main", || {
+            let leader = Pid::from_raw(100);
+            assert!(matches!(waitpid(leader, None), Ok(WaitStatus::PtraceEvent(..))));
+            ptrace::kill(leader).unwrap();
+            assert_eq!(waitpid(leader, None), Ok(WaitStatus::Exited(leader, 3)));
+        });
+        sim.run().assert_all_reaped();
+    });
+}
+
+#[test]
+fn who_is_killed_is_not_interrupted_any_more() {
+    builder().exhaustive().check(|sim| {
+        sim.kills();
+        sim.tracee(Row::root(100), |tracee| tracee.stop(Stop::Start).map(drop));
+        sim.tracer("main", || {
+            let pid = wait().unwrap().pid().unwrap();
+            ptrace::cont(pid, None).unwrap();
+            ptrace::kill(pid).unwrap();
+            let _ = ptrace::interrupt(pid);
+            let status = wait().unwrap();
+            assert!(matches!(status, WaitStatus::Exited(..) | WaitStatus::Signaled(..)), "{status:?}");
+        });
+        sim.run().assert_all_reaped();
+    });
+}
+
+#[test]
+fn a_tracee_that_was_reaped_is_seized_by_nobody() {
+    builder().exhaustive().check(|sim| {
+        sim.only_tracer("main");
+        sim.tracee(Row::root(100), |_| Ok(()));
+        sim.tracer("main", || {
+            wait().unwrap();
+            let other = crate::thread::spawn(|| ptrace::seize(Pid::from_raw(100), Options::empty()));
+            assert_eq!(other.join().unwrap(), Err(crate::Errno::ESRCH));
         });
         sim.run().assert_all_reaped();
     });

@@ -225,6 +225,30 @@ fn calls_that_differ_after_the_same_answers_are_reported() {
 }
 
 #[test]
+fn a_thread_that_ends_later_than_before_is_told() {
+    let begun = AtomicU32::new(0);
+    let failure = builder()
+        .explore(|sim| {
+            let schedule = begun.fetch_add(1, Ordering::SeqCst);
+            sim.case(ONE_CALL).unwrap();
+            sim.tracer("main", move || {
+                let other = crate::thread::spawn(move || {
+                    if schedule >= 2 {
+                        crate::thread::yield_now();
+                    }
+                });
+                other.join().unwrap();
+                while let Ok(status) = wait() {
+                    let _ = ptrace::cont(status.pid().unwrap(), None);
+                }
+            });
+            sim.run();
+        })
+        .unwrap_err();
+    assert!(failure.cause.starts_with("the test is not deterministic"), "{}", failure.cause);
+}
+
+#[test]
 fn a_lock_of_std_that_is_held_over_a_call_is_reported() {
     let builder = Builder { patience: Duration::from_millis(300), ..builder() };
     let failure = builder
@@ -253,7 +277,7 @@ fn a_loop_that_never_waits_is_reported() {
         .explore(|sim| {
             sim.case(ONE_CALL).unwrap();
             sim.tracer("main", || {
-                let turn = crate::sync::atomic::AtomicU64::new(0);
+                let turn = crate::sync::atomic::AtomicU32::new(0);
                 while turn.load(Ordering::SeqCst) == 0 {}
             });
             sim.run();

@@ -439,7 +439,8 @@ def self_test():
 
 def main():
     shape = {"description": __doc__, "formatter_class": argparse.RawDescriptionHelpFormatter}
-    parser = argparse.ArgumentParser(**shape, usage="cases.py check [--program FILE] | demo NAME.. | try FILE [-- WORD ..] | --self-test")
+    usage = "cases.py check [--program FILE] | demo NAME.. | try FILE [-- WORD ..] | --self-test"
+    parser = argparse.ArgumentParser(**shape, usage=usage)
     parser.add_argument("--self-test", action="store_true", help="compare a report that was written by hand")
     parser.add_argument("--program", type=pathlib.Path, help="a program that is built already")
     parser.add_argument("what", nargs="?", choices=["check", "demo", "try"])

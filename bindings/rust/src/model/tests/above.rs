@@ -5,7 +5,7 @@ use crate::sys::ptrace::{self, Event, Options};
 use crate::sys::signal::{SIGTRAP, SIGUSR1};
 use crate::sys::wait::{WaitStatus, wait, waitpid};
 use crate::unistd::Pid;
-use crate::{Builder, Deadlocks, Death, Row, Stop};
+use crate::{Builder, Deadlocks, Death, Row, Sim, Stop};
 use std::sync::Arc;
 use std::sync::atomic::{AtomicU64, Ordering};
 
@@ -58,16 +58,21 @@ fn a_group_that_exits_takes_its_stopped_threads_along() {
     });
 }
 
+/// A process that creates a thread, and then calls exit_group(3); the thread makes one stop.
+fn group_that_exits(sim: &Sim) {
+    sim.kills();
+    sim.tracee(Row::root(100), |tracee| {
+        tracee.stop(Stop::Clone(101))?;
+        tracee.exit_group(3);
+        Ok(())
+    });
+    sim.tracee(Row::thread(101, 100, 100), |tracee| tracee.stop(Stop::Start).map(drop));
+}
+
 #[test]
 fn who_dies_with_its_group_dies_so_though_it_is_killed_then() {
     builder().exhaustive().check(|sim| {
-        sim.kills();
-        sim.tracee(Row::root(100), |tracee| {
-            tracee.stop(Stop::Clone(101))?;
-            tracee.exit_group(3);
-            Ok(())
-        });
-        sim.tracee(Row::thread(101, 100, 100), |tracee| tracee.stop(Stop::Start).map(drop));
+        group_that_exits(sim);
         sim.tracer("main", || {
             let (leader, thread) = (Pid::from_raw(100), Pid::from_raw(101));
             waitpid(leader, None).unwrap();
@@ -87,13 +92,7 @@ fn who_dies_with_its_group_dies_so_though_it_is_killed_then() {
 #[test]
 fn a_group_that_has_exited_keeps_its_code_though_its_leader_is_killed_then() {
     builder().exhaustive().check(|sim| {
-        sim.kills();
-        sim.tracee(Row::root(100), |tracee| {
-            tracee.stop(Stop::Clone(101))?;
-            tracee.exit_group(3);
-            Ok(())
-        });
-        sim.tracee(Row::thread(101, 100, 100), |tracee| tracee.stop(Stop::Start).map(drop));
+        group_that_exits(sim);
         sim.tracer("main", || {
             let (leader, thread) = (Pid::from_raw(100), Pid::from_raw(101));
             waitpid(leader, None).unwrap();

@@ -2,8 +2,7 @@ pub mod FirstOf
 pub mod LitmusCopies
 pub mod LitmusFiles
 pub mod LitmusForward
-pub mod LitmusNames
 pub mod LitmusPlaces
 pub mod LitmusRanges
 pub mod LitmusSteps
-pub mod LitmusWords
+pub mod ThreadNames

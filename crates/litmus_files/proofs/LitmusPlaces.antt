@@ -12,7 +12,7 @@ use Rattle.stop_explorer.specs.declared.voice.Voice.{Voice}
 use Rattle.stop_explorer.specs.Program.{own_commands}
 use Rattle.stop_explorer.specs.Replies.{GoForward}
 use Rattle.stop_history.specs.Roster.{push_fault}
-use Rattle.text_lines.specs.Lines.{last_line, lines_of, nth_word, words_in}
+use Rattle.text_lines.specs.Lines.{last_line, lines_of, words_in}
 use Rattle.text_lines.specs.Ranges.{◌>>=◌}
 use Rattle.trace_script.specs.CaseFile.{roster_cause, unless_fault}
 use Rattle.trace_script.specs.Reading.{at_line, most_bytes, read_after, with_cause}
@@ -20,17 +20,17 @@ use Rattle.trace_script.specs.declared.cause.CaseError.{CaseError}
 use Rattle.trace_script.specs.declared.cause.Cause.{Cause}
 use Rattle.trace_script.specs.declared.cause.Cause.TheVariants.{NoEnd, TooMany, UnknownWord}
 use Rattle.litmus_files.specs.declared.draft.TheConstants.{MOST_COMMANDS, MOST_THREADS}
-use Rattle.litmus_files.specs.declared.line.LitmusLine.{LitmusLine}
-use Rattle.litmus_files.specs.declared.line.LitmusLine.TheVariants as line
+use Rattle.litmus_files.specs.LitmusLine.{Said}
+use Rattle.litmus_files.specs.LitmusLine as line
 use Rattle.litmus_files.specs.declared.required.NumberedCommand.{NumberedCommand}
 use Rattle.litmus_files.specs.declared.required.NumberedLine.{NumberedLine}
 use Rattle.litmus_files.specs.LitmusFile.{LitmusContent, LitmusReading, OpenRepeat, command_in, commands_added}
 use Rattle.litmus_files.specs.LitmusFile.{condition_of, content_unless_open, copies_of, current_thread, leaving_line}
 use Rattle.litmus_files.specs.LitmusFile.{litmus_content_of, litmus_line_added, litmus_line_read, litmus_lines_after}
 use Rattle.litmus_files.specs.LitmusFile.{litmus_lines_read, no_lines, numbered_command, place_past, plain_lines}
-use Rattle.litmus_files.specs.LitmusFile.{repeat_ended, reply_required, thread_command, thread_printed_as}
+use Rattle.litmus_files.specs.LitmusFile.{repeat_ended, reply_required, thread_command}
 use Rattle.litmus_files.specs.LitmusFile.{with_condition, within_of}
-use Rattle.litmus_files.specs.LitmusGrammar.{litmus_line_of, name_of_words}
+use Rattle.litmus_files.specs.LitmusGrammar.{litmus_line_of}
 use Rattle.litmus_files.proofs.LitmusForward.{forward_added, own_added, own_begun}
 
 -- ---- results
@@ -213,25 +213,24 @@ in_placed so_far new (Some repeat) numbered placed is =
     (same_ok (record so_far { repeat = Some (record repeat { body = repeat.body ++ numbered ∷ [] }) }) new _ refl is)
     placed
 
-line_placed : (n : ℕ) (so_far new : LitmusReading) (words : List (List ℕ)) (said : LitmusLine) → IsPlaced so_far
-    → litmus_line_added n so_far words said ≡ Ok new → IsPlaced new
-line_placed n so_far new words line.Nothing placed is = subst IsPlaced (same_ok so_far new _ refl is) placed
-line_placed n so_far new words (line.Row row) placed is =
+line_placed : (n : ℕ) (so_far new : LitmusReading) (said : Said) → IsPlaced so_far
+    → litmus_line_added n so_far said ≡ Ok new → IsPlaced new
+line_placed n so_far new line.Nothing placed is = subst IsPlaced (same_ok so_far new _ refl is) placed
+line_placed n so_far new (line.Declares row) placed is =
     subst IsPlaced
     (unless_ok (roster_cause (push_fault so_far.rows row)) (record so_far { rows = so_far.rows ++ row ∷ [] }) new is)
     placed
-line_placed n so_far new words (line.Thread voice) placed is =
-    thread_placed so_far new voice (name_of_words words) (nat_le MOST_THREADS (length so_far.names))
+line_placed n so_far new (line.Thread voice name) placed is =
+    thread_placed so_far new voice name (nat_le MOST_THREADS (length so_far.names))
     (is_some so_far.repeat) placed is
-line_placed n so_far new words (line.Repeat times) placed is =
+line_placed n so_far new (line.Repeat times) placed is =
     subst IsPlaced
     (same_ok (record so_far { repeat = Some (record { times = times; body = [] }) }) new _ refl is) placed
-line_placed n so_far new words line.End placed is = ended_placed so_far new so_far.repeat placed is
-line_placed n so_far new words (line.Only asked) placed is =
-    let made = bind_ok (condition_of so_far.rows (thread_printed_as so_far.names (nth_word words 2)) asked)
-    (λ c. Ok (with_condition n so_far c)) new is in
+line_placed n so_far new line.End placed is = ended_placed so_far new so_far.repeat placed is
+line_placed n so_far new (line.Only asked) placed is =
+    let made = bind_ok (condition_of so_far.rows so_far.names asked) (λ c. Ok (with_condition n so_far c)) new is in
     subst IsPlaced (same_ok (with_condition n so_far made.0) new _ refl made.2) placed
-line_placed n so_far new words (line.Command command) placed is =
+line_placed n so_far new (line.Command command) placed is =
     let made = bind_ok (thread_command so_far.rows command)
     (λ c. command_in (reply_required n so_far c) so_far.repeat (numbered_command so_far c)) new is in
     in_placed (reply_required n so_far made.0) new so_far.repeat (numbered_command so_far made.0) placed made.2
@@ -240,8 +239,8 @@ read_placed : (n : ℕ) (so_far new : LitmusReading) (text : List ℕ) → IsPla
     → litmus_line_read n so_far text ≡ Ok new → IsPlaced new
 read_placed n so_far new text placed is =
     let said = bind_ok (with_cause (litmus_line_of (within_of so_far) (words_in text)))
-    (litmus_line_added n so_far (words_in text)) new is in
-    line_placed n so_far new (words_in text) said.0 placed said.2
+    (litmus_line_added n so_far) new is in
+    line_placed n so_far new said.0 placed said.2
 
 -- ---- the whole file
 

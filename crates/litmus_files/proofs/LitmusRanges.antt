@@ -9,25 +9,24 @@ use Rattle.stop_explorer.specs.declared.command.ThreadCommand.{ThreadCommand}
 use Rattle.stop_explorer.specs.declared.voice.Voice.{Voice}
 use Rattle.stop_history.specs.Roster.{push_fault}
 use Rattle.stop_history.specs.declared.roster.Row.{Row}
-use Rattle.text_lines.specs.Lines.{nth_word}
 use Rattle.text_lines.specs.Ranges.{◌>>=◌}
 use Rattle.trace_script.specs.CaseFile.{roster_cause}
 use Rattle.trace_script.specs.Reading.{TakesLine}
 use Rattle.trace_script.specs.declared.cause.Cause.{Cause}
 use Rattle.trace_script.specs.declared.cause.Cause.TheVariants.{NoEnd, TooMany, UnknownWord}
-use Rattle.litmus_files.specs.declared.condition.LitmusCondition.{LitmusCondition}
 use Rattle.litmus_files.specs.declared.draft.TheConstants.{MOST_THREADS}
 use Rattle.litmus_files.specs.declared.line.LitmusCommand.{LitmusCommand}
-use Rattle.litmus_files.specs.declared.line.LitmusLine.{LitmusLine}
-use Rattle.litmus_files.specs.declared.line.LitmusLine.TheVariants as line
+use Rattle.litmus_files.specs.LitmusCondition.{Asked}
+use Rattle.litmus_files.specs.LitmusLine.{Said}
+use Rattle.litmus_files.specs.LitmusLine as line
 use Rattle.litmus_files.specs.declared.required.NumberedCommand.{NumberedCommand}
 use Rattle.litmus_files.specs.declared.required.NumberedLine.{NumberedLine}
 use Rattle.litmus_files.specs.LitmusFile.{AreLitmusCalls, IsLitmusReading, LitmusReading, OpenRepeat, command_in}
 use Rattle.litmus_files.specs.LitmusFile.{commands_added, copies_of, leaving_line, litmus_line_added, no_lines}
 use Rattle.litmus_files.specs.LitmusFile.{condition_added, condition_of, litmus_row_added, numbered_command}
 use Rattle.litmus_files.specs.LitmusFile.{repeat_ended, reply_required, thread_added, thread_command}
-use Rattle.litmus_files.specs.LitmusFile.{thread_printed_as, wanted_of, which_of, with_condition}
-use Rattle.litmus_files.specs.LitmusGrammar.{IsLitmusCall, IsLitmusLine, IsNamedLine, name_of_words}
+use Rattle.litmus_files.specs.LitmusFile.{wanted_of, which_of, with_condition}
+use Rattle.litmus_files.specs.LitmusGrammar.{IsLitmusCall, IsLitmusLine}
 use Rattle.litmus_files.proofs.LitmusCopies.{copies_asked}
 use Rattle.litmus_files.proofs.LitmusPlaces.{IsAdded, IsPlaced, begun_placed, bind_ok, is_added, lines_placed}
 use Rattle.litmus_files.proofs.LitmusPlaces.{nothing_placed, same_ok, unless_ok, with_commands, with_thread}
@@ -181,11 +180,10 @@ required_kept n so_far command known = record {
   body = known.body;
 }
 
-condition_kept : (n : ℕ) (so_far new : LitmusReading) (word : List ℕ) (asked : LitmusCondition) → IsLitmusReading so_far
-    → condition_added n so_far word asked ≡ Ok new → IsLitmusReading new
-condition_kept n so_far new word asked known is =
-    let made = bind_ok (condition_of so_far.rows (thread_printed_as so_far.names word) asked)
-    (λ c. Ok (with_condition n so_far c)) new is in
+condition_kept : (n : ℕ) (so_far new : LitmusReading) (asked : Asked) → IsLitmusReading so_far
+    → condition_added n so_far asked ≡ Ok new → IsLitmusReading new
+condition_kept n so_far new asked known is =
+    let made = bind_ok (condition_of so_far.rows so_far.names asked) (λ c. Ok (with_condition n so_far c)) new is in
     subst IsLitmusReading (same_ok (with_condition n so_far made.0) new _ refl made.2)
     (record {
       few = known.few;
@@ -198,13 +196,12 @@ condition_kept n so_far new word asked known is =
       body = known.body;
     })
 
-kept : (n : ℕ) (so_far new : LitmusReading) (words : List (List ℕ)) (said : LitmusLine) → IsLitmusReading so_far
-    → IsLitmusLine said → IsNamedLine words said → litmus_line_added n so_far words said ≡ Ok new → IsLitmusReading new
-kept n so_far new words line.Nothing known fits named is = subst IsLitmusReading (same_ok so_far new _ refl is) known
-kept n so_far new words (line.Row row) known fits named is = row_kept so_far new row known is
-kept n so_far new words (line.Thread voice) known fits named is =
-    thread_kept so_far new voice (name_of_words words) known named is
-kept n so_far new words (line.Repeat times) known fits named is =
+kept : (n : ℕ) (so_far new : LitmusReading) (said : Said) → IsLitmusReading so_far
+    → IsLitmusLine said → litmus_line_added n so_far said ≡ Ok new → IsLitmusReading new
+kept n so_far new line.Nothing known fits is = subst IsLitmusReading (same_ok so_far new _ refl is) known
+kept n so_far new (line.Declares row) known fits is = row_kept so_far new row known is
+kept n so_far new (line.Thread voice name) known fits is = thread_kept so_far new voice name known fits is
+kept n so_far new (line.Repeat times) known fits is =
     subst IsLitmusReading
     (same_ok (record so_far { repeat = Some (record { times = times; body = [] }) }) new _ refl is)
     (record {
@@ -217,22 +214,20 @@ kept n so_far new words (line.Repeat times) known fits named is =
       own = known.own;
       body = All-nil (λ (c : NumberedCommand). IsLitmusCall c.command.call);
     })
-kept n so_far new words line.End known fits named is = ended_kept so_far new so_far.repeat known known.body is
-kept n so_far new words (line.Only asked) known fits named is =
-    condition_kept n so_far new (nth_word words 2) asked known is
-kept n so_far new words (line.Command command) known fits named is =
+kept n so_far new line.End known fits is = ended_kept so_far new so_far.repeat known known.body is
+kept n so_far new (line.Only asked) known fits is = condition_kept n so_far new asked known is
+kept n so_far new (line.Command command) known fits is =
     let made = bind_ok (thread_command so_far.rows command)
     (λ c. command_in (reply_required n so_far c) so_far.repeat (numbered_command so_far c)) new is in
     in_kept (reply_required n so_far made.0) new so_far.repeat (numbered_command so_far made.0)
     (required_kept n so_far made.0 known) known.body
     (asks_so so_far.rows command made.0 made.1 fits) made.2
 
-pub taken_kept : (result : Result (Unit {0}) Cause) (n : ℕ) (so_far new : LitmusReading) (words : List (List ℕ))
-    (said : LitmusLine) → IsLitmusReading so_far → IsLitmusLine said → IsNamedLine words said
-    → TakesLine result new (litmus_line_added n so_far words said) → OnOk result (IsLitmusReading new)
-taken_kept (Ok done) n so_far new words said known fits named takes =
-    kept n so_far new words said known fits named takes
-taken_kept (Err cause) n so_far new words said known fits named takes = tt
+pub taken_kept : (result : Result (Unit {0}) Cause) (n : ℕ) (so_far new : LitmusReading) (said : Said) → IsLitmusReading so_far → IsLitmusLine said
+    → TakesLine result new (litmus_line_added n so_far said) → OnOk result (IsLitmusReading new)
+taken_kept (Ok done) n so_far new said known fits takes =
+    kept n so_far new said known fits takes
+taken_kept (Err cause) n so_far new said known fits takes = tt
 
 -- ---- before the first line
 

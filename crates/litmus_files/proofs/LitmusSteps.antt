@@ -13,24 +13,20 @@ use Rattle.text_lines.specs.Ranges.{◌>>=◌}
 use Rattle.trace_script.specs.Reading.{TakesLine}
 use Rattle.trace_script.specs.declared.cause.Cause.{Cause}
 use Rattle.trace_script.specs.declared.cause.Cause.TheVariants.{NoEnd, NoMemory, NoSuchTracee, TooMany, UnknownWord}
-use Rattle.litmus_files.specs.declared.condition.LitmusCondition.{LitmusCondition}
-use Rattle.litmus_files.specs.declared.condition.LitmusCondition.TheVariants as said
 use Rattle.litmus_files.specs.declared.draft.TheConstants.{MOST_COMMANDS, MOST_THREADS}
 use Rattle.litmus_files.specs.declared.line.Aim.{Aim}
 use Rattle.litmus_files.specs.declared.line.Aim.TheVariants as aim
 use Rattle.litmus_files.specs.declared.line.LitmusCommand.{LitmusCommand}
 use Rattle.litmus_files.specs.declared.line.LitmusReply.{LitmusReply}
-use Rattle.litmus_files.specs.declared.required.Condition.{Condition}
-use Rattle.litmus_files.specs.declared.required.Condition.TheVariants as condition
 use Rattle.litmus_files.specs.declared.required.NumberedCommand.{NumberedCommand}
 use Rattle.litmus_files.specs.declared.required.NumberedLine.{NumberedLine}
 use Rattle.litmus_files.specs.LitmusDraft.{repeat_kept}
 use Rattle.std.proofs.lemmas.Option.{none-some, same_Some}
-use Rattle.litmus_files.specs.LitmusFile.{LitmusReading, OpenRepeat, command_in, commands_added, condition_added, condition_of}
+use Rattle.litmus_files.specs.LitmusFile.{LitmusReading, OpenRepeat, command_in, commands_added}
 use Rattle.litmus_files.specs.LitmusFile.{copies_of, current_thread, leaving_line, litmus_command_added}
 use Rattle.litmus_files.specs.LitmusFile.{numbered_command, place_past, repeat_ended, reply_required, row_named}
-use Rattle.litmus_files.specs.LitmusFile.{thread_added, thread_command, thread_printed_as, wanted_of, wanted_row}
-use Rattle.litmus_files.specs.LitmusFile.{which_of, with_condition}
+use Rattle.litmus_files.specs.LitmusFile.{thread_added, thread_command, wanted_of, wanted_row}
+use Rattle.litmus_files.specs.LitmusFile.{which_of}
 use Rattle.litmus_files.proofs.LitmusCopies.{length_copies}
 
 -- ---- out of memory is found by no test
@@ -210,33 +206,6 @@ taken_in_repeat n so_far required command made numbered times t old new is open_
     ∙ ap (λ c. command_in required (Some (record { times = t; body = old })) c) (sym numbered_is)
     ∙ ap (λ b. Ok (record required { repeat = Some (record { times = t; body = b }) })) (sym pushed)
     ∙ ap (λ t. Ok (record required { repeat = repeat_kept t new })) (sym open_is)
-
--- ---- one more condition
-
-condition_found : (rows : List Row) (thread : Option ℕ) (asked : LitmusCondition)
-    → IfErr (condition_of rows thread asked) IsFound
-condition_found rows thread (said.Tid tid sense named) =
-    bind_found (row_named rows tid) (λ row. Ok (condition.Tracee row sense named)) (named_found (row_of rows tid))
-    (λ row. tt)
-condition_found rows thread (said.Any sense named) = tt
-condition_found rows None (said.Thread sense) = tt
-condition_found rows (Some thread) (said.Thread sense) = tt
-
-pub condition_refused : (n : ℕ) (so_far new : LitmusReading) (word : List ℕ) (asked : LitmusCondition) (cause : Cause)
-    (thread : Option ℕ) → thread ≡ thread_printed_as so_far.names word
-    → Err cause ≡ condition_of so_far.rows thread asked
-    → TakesLine (Err cause) new (condition_added n so_far word asked)
-condition_refused n so_far new word asked cause thread named is =
-    let found : Option ℕ = thread_printed_as so_far.names word in
-    found_first cause new (condition_of so_far.rows found asked) (λ c. Ok (with_condition n so_far c))
-    (condition_found so_far.rows found asked) (is ∙ ap (λ t. condition_of so_far.rows t asked) named)
-
-pub condition_taken : (n : ℕ) (so_far : LitmusReading) (word : List ℕ) (asked : LitmusCondition) (made : Condition)
-    (thread : Option ℕ) → thread ≡ thread_printed_as so_far.names word → Ok made ≡ condition_of so_far.rows thread asked
-    → condition_added n so_far word asked ≡ Ok (with_condition n so_far made)
-condition_taken n so_far word asked made thread named is =
-    ap (λ r. r >>= λ c. Ok (with_condition n so_far c))
-    (sym (is ∙ ap (λ t. condition_of so_far.rows t asked) named))
 
 pub at_ok : {T E P : Type 0} (r : Result T E) → is_ok r ≡ true → OnOk r P → P
 at_ok (Ok x) is holds = holds

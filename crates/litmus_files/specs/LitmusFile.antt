@@ -15,21 +15,17 @@ use Rattle.stop_explorer.specs.Program.{Program, own_commands}
 use Rattle.stop_explorer.specs.Replies.{GoForward}
 use Rattle.stop_history.specs.Roster.{push_fault, row_of}
 use Rattle.stop_history.specs.declared.roster.Row.{Row}
-use Rattle.text_lines.specs.Lines.{last_line, nth_word, words_in}
+use Rattle.text_lines.specs.Lines.{last_line, words_in}
 use Rattle.text_lines.specs.Ranges.{◌>>=◌}
 use Rattle.trace_script.specs.CaseFile.{roster_cause, unless_fault}
 use Rattle.trace_script.specs.Reading.{read_after, read_file, with_cause}
 use Rattle.trace_script.specs.declared.cause.CaseError.{CaseError}
 use Rattle.trace_script.specs.declared.cause.Cause.{Cause}
 use Rattle.trace_script.specs.declared.cause.Cause.TheVariants.{NoEnd, NoSuchTracee, TooMany, UnknownWord}
-use Rattle.litmus_files.specs.declared.condition.LitmusCondition.{LitmusCondition}
-use Rattle.litmus_files.specs.declared.condition.LitmusCondition.TheVariants as said
 use Rattle.litmus_files.specs.declared.draft.TheConstants.{MOST_COMMANDS, MOST_THREADS}
 use Rattle.litmus_files.specs.declared.line.Aim.{Aim}
 use Rattle.litmus_files.specs.declared.line.Aim.TheVariants as aim
 use Rattle.litmus_files.specs.declared.line.LitmusCommand.{LitmusCommand}
-use Rattle.litmus_files.specs.declared.line.LitmusLine.{LitmusLine}
-use Rattle.litmus_files.specs.declared.line.LitmusLine.TheVariants as line
 use Rattle.litmus_files.specs.declared.line.LitmusReply.{LitmusReply}
 use Rattle.litmus_files.specs.declared.line.Within.{Within}
 use Rattle.litmus_files.specs.declared.line.Within.TheVariants as within
@@ -38,7 +34,11 @@ use Rattle.litmus_files.specs.declared.required.Condition.TheVariants as conditi
 use Rattle.litmus_files.specs.declared.required.NumberedCommand.{NumberedCommand}
 use Rattle.litmus_files.specs.declared.required.NumberedCondition.{NumberedCondition}
 use Rattle.litmus_files.specs.declared.required.NumberedLine.{NumberedLine}
-use Rattle.litmus_files.specs.LitmusGrammar.{IsLitmusCall, litmus_line_of, name_of_words}
+use Rattle.litmus_files.specs.LitmusCondition.{Asked}
+use Rattle.litmus_files.specs.LitmusCondition as asked
+use Rattle.litmus_files.specs.LitmusGrammar.{IsLitmusCall, litmus_line_of}
+use Rattle.litmus_files.specs.LitmusLine.{Said}
+use Rattle.litmus_files.specs.LitmusLine as line
 
 -- the rows, the name of each thread, if it has one, whether it is loud or quiet, the commands of all
 -- threads, and the conditions, each in the order of the file
@@ -210,42 +210,40 @@ abbrev pub thread_printed_as : (names : List (Option (List ℕ))) → (word : Li
 thread_printed_as names word =
     find (λ thread. is_printed_as thread (slice_index_or names thread None) word) (range_with_len 0 (length names))
 
--- with the row of its thread id, and the thread that its word names, if there is one
-abbrev pub condition_of : List Row → (thread : Option ℕ) → LitmusCondition → Result Condition Cause
-condition_of rows thread (said.Tid tid sense named) =
-    row_named rows tid >>= λ row. Ok (condition.Tracee row sense named)
-condition_of rows thread (said.Any sense named) = Ok (condition.SomeTracee sense named)
-condition_of rows thread (said.Thread sense) = ok_or thread UnknownWord >>= λ t. Ok (condition.Thread t sense)
+-- with the row of its thread id, and the thread of its name, if there is one
+abbrev pub condition_of : List Row → (names : List (Option (List ℕ))) → Asked → Result Condition Cause
+condition_of rows names (asked.Tid tid sense state) =
+    row_named rows tid >>= λ row. Ok (condition.Tracee row sense state)
+condition_of rows names (asked.Any sense state) = Ok (condition.SomeTracee sense state)
+condition_of rows names (asked.Thread name sense) =
+    ok_or (thread_printed_as names name) UnknownWord >>= λ t. Ok (condition.Thread t sense)
 
--- a condition of the line of number n; `word` is in the place of a thread's name
+-- a condition of the line of number n
 abbrev pub with_condition : (n : ℕ) → LitmusReading → Condition → LitmusReading
 with_condition n so_far found = record so_far {
   requirements = so_far.requirements ++ n ∷ [];
   conditions = so_far.conditions ++ (record { condition = found; number = length so_far.requirements + 1 }) ∷ [];
 }
 
-abbrev pub condition_added : (n : ℕ) → LitmusReading → (word : List ℕ) → LitmusCondition → Result LitmusReading Cause
-condition_added n so_far word asked =
-    condition_of so_far.rows (thread_printed_as so_far.names word) asked
-    >>= λ found. Ok (with_condition n so_far found)
+abbrev pub condition_added : (n : ℕ) → LitmusReading → Asked → Result LitmusReading Cause
+condition_added n so_far asked =
+    condition_of so_far.rows so_far.names asked >>= λ found. Ok (with_condition n so_far found)
 
 -- ---- lines
 
--- the words of a line are asked for the name of a thread alone
-abbrev pub litmus_line_added : (n : ℕ) → LitmusReading → (words : List (List ℕ)) → LitmusLine
-    → Result LitmusReading Cause
-litmus_line_added n so_far words line.Nothing = Ok so_far
-litmus_line_added n so_far words (line.Row row) = litmus_row_added so_far row
-litmus_line_added n so_far words (line.Thread voice) = thread_added so_far voice (name_of_words words)
-litmus_line_added n so_far words (line.Repeat times) = Ok (repeat_opened so_far times)
-litmus_line_added n so_far words line.End = repeat_ended so_far so_far.repeat
-litmus_line_added n so_far words (line.Command command) = litmus_command_added n so_far command
-litmus_line_added n so_far words (line.Only condition) = condition_added n so_far (nth_word words 2) condition
+abbrev pub litmus_line_added : (n : ℕ) → LitmusReading → Said → Result LitmusReading Cause
+litmus_line_added n so_far line.Nothing = Ok so_far
+litmus_line_added n so_far (line.Declares row) = litmus_row_added so_far row
+litmus_line_added n so_far (line.Thread voice name) = thread_added so_far voice name
+litmus_line_added n so_far (line.Repeat times) = Ok (repeat_opened so_far times)
+litmus_line_added n so_far line.End = repeat_ended so_far so_far.repeat
+litmus_line_added n so_far (line.Command command) = litmus_command_added n so_far command
+litmus_line_added n so_far (line.Only asked) = condition_added n so_far asked
 
 -- what one more line, of number n, makes of what was read before it, or its first fault
 abbrev pub litmus_line_read : (n : ℕ) → LitmusReading → List ℕ → Result LitmusReading Cause
 litmus_line_read n so_far line =
-    with_cause (litmus_line_of (within_of so_far) (words_in line)) >>= litmus_line_added n so_far (words_in line)
+    with_cause (litmus_line_of (within_of so_far) (words_in line)) >>= litmus_line_added n so_far
 
 -- ---- files
 

@@ -1,9 +1,8 @@
 -- What a line of a litmus file says, by its words and by where it is: what it says, or its first fault in the order of
 -- causes. All words are tested (UnknownWord) before any number (BadNumber). What only the lines before it can refuse
 -- is left to the file.
-use Rattle.std.specs.Prelude.{◌==◌, ◌&&◌, ◌||◌, ◌<◌, ◌+◌, ◌∷◌, [], ℕ, Bool, true, false, nat_le, List, length}
-use Rattle.std.specs.Prelude.{IfSome, IsUtf8, Option, Some, None, codes, drop, position, Result, Ok, Err, slice_get}
-use Rattle.std.specs.Prelude.{slice_index, take, if◌then◌else◌}
+use Rattle.std.specs.Prelude.{◌==◌, ◌&&◌, ◌||◌, ◌<◌, ◌∷◌, [], ℕ, Bool, true, false, nat_le, List, length}
+use Rattle.std.specs.Prelude.{IfSome, IsUtf8, Option, Some, None, codes, Result, Ok, Err, slice_index, if◌then◌else◌}
 use Rattle.std.specs.Char.{is_ascii_alphabetic, is_ascii_alphanumeric}
 use Rattle.std.specs.List.{list_all}
 use Rattle.stop_explorer.specs.BoardCall.{IsBoardCall}
@@ -17,8 +16,8 @@ use Rattle.text_lines.specs.declared.fault.LineFault.TheVariants.{UnknownWord}
 use Rattle.text_lines.specs.Keywords.{value_beside}
 use Rattle.text_lines.specs.Lines.{nth_word}
 use Rattle.text_lines.specs.Ranges.{◌>>=◌, number_between}
+use Rattle.text_lines.specs.Words.{split_at}
 use Rattle.trace_options.specs.declared.signal.TheConstants.{LAST_SIGNAL}
-use Rattle.trace_script.specs.CaseLine.{is_equals}
 use Rattle.trace_script.specs.RowWords.{id_of, row_of_words}
 use Rattle.replay_files.specs.declared.command.Command.TheVariants as command
 use Rattle.replay_files.specs.declared.grammar.Line.{Line}
@@ -33,13 +32,13 @@ use Rattle.litmus_files.specs.declared.keyword.LitmusKeyword.TheVariants as keyw
 use Rattle.litmus_files.specs.declared.line.Aim.{Aim}
 use Rattle.litmus_files.specs.declared.line.Aim.TheVariants as aim
 use Rattle.litmus_files.specs.declared.line.LitmusCommand.{LitmusCommand}
-use Rattle.litmus_files.specs.declared.line.LitmusLine.{LitmusLine}
-use Rattle.litmus_files.specs.declared.line.LitmusLine.TheVariants as line
 use Rattle.litmus_files.specs.declared.line.LitmusReply.{LitmusReply}
 use Rattle.litmus_files.specs.declared.line.Within.{Within}
 use Rattle.litmus_files.specs.declared.line.Within.TheVariants as within
 use Rattle.replay_files.specs.Grammar.{kind_of, replay_rest_of, tracer_number}
 use Rattle.litmus_files.specs.LitmusCondition.{condition_of_words}
+use Rattle.litmus_files.specs.LitmusLine.{Said}
+use Rattle.litmus_files.specs.LitmusLine as line
 use Rattle.litmus_files.specs.LitmusReply.{is_any_word, is_group_word, is_it_word, reply_of_words}
 
 -- ---- the first words of lines, and where each may come
@@ -84,18 +83,14 @@ is_thread_name word =
     is_ascii_alphabetic (slice_index word 0) && (nat_le (length word) LONGEST_NAME && list_all is_name_byte word)
 
 -- thread, thread NAME, and so of quiet
-abbrev pub thread_line : Voice → List (List ℕ) → Result LitmusLine LineFault
+abbrev pub thread_line : Voice → List (List ℕ) → Result Said LineFault
 thread_line voice words =
-    if length words == 0 then Ok (line.Thread voice)
-    else if length words == 1 && is_thread_name (nth_word words 0) then Ok (line.Thread voice)
+    if length words == 0 then Ok (line.Thread voice None)
+    else if length words == 1 && is_thread_name (nth_word words 0) then Ok (line.Thread voice (Some (nth_word words 0)))
     else Err UnknownWord
 
--- the name that a thread's line gives it
-abbrev pub name_of_words : List (List ℕ) → Option (List ℕ)
-name_of_words words = slice_get words 1
-
 -- repeat N
-abbrev pub repeat_line : (count : List ℕ) → Result LitmusLine LineFault
+abbrev pub repeat_line : (count : List ℕ) → Result Said LineFault
 repeat_line count = number_between 1 MOST_REPEATS count >>= λ n. Ok (line.Repeat n)
 
 -- ---- commands without a reply
@@ -194,21 +189,22 @@ replied_command keyword words reply =
     so_answered (reply_of_words keyword (nth_word words 0) reply) (bare_command_of keyword words)
 
 -- the reply follows the first `=`, where there is one
-abbrev pub command_parted : CommandKeyword → List (List ℕ) → Option ℕ → Result LitmusCommand LineFault
+abbrev pub command_parted : CommandKeyword → List (List ℕ) → Option (List (List ℕ) × List (List ℕ))
+    → Result LitmusCommand LineFault
 command_parted keyword words None = bare_command_of keyword words
-command_parted keyword words (Some place) = replied_command keyword (take place words) (drop (place + 1) words)
+command_parted keyword words (Some parts) = replied_command keyword parts.0 parts.1
 
 abbrev pub command_of_words : CommandKeyword → List (List ℕ) → Result LitmusCommand LineFault
-command_of_words keyword words = command_parted keyword words (position is_equals words)
+command_of_words keyword words = command_parted keyword words (split_at (codes "=") words)
 
 -- ---- lines
 
 -- what follows the first word of a line
-abbrev pub litmus_rest_of : LitmusKeyword → List (List ℕ) → Result LitmusLine LineFault
+abbrev pub litmus_rest_of : LitmusKeyword → List (List ℕ) → Result Said LineFault
 litmus_rest_of keyword.Row words =
     if length words == 4
     then (row_of_words (nth_word words 0) (nth_word words 1) (nth_word words 2) (nth_word words 3)
-    >>= λ row. Ok (line.Row row))
+    >>= λ row. Ok (line.Declares row))
     else Err UnknownWord
 litmus_rest_of (keyword.Thread voice) words = thread_line voice words
 litmus_rest_of keyword.Repeat words = if length words == 1 then repeat_line (nth_word words 0) else Err UnknownWord
@@ -217,7 +213,7 @@ litmus_rest_of keyword.Only words = condition_of_words words >>= λ condition. O
 litmus_rest_of (keyword.Command word) words = command_of_words word words >>= λ command. Ok (line.Command command)
 
 -- a line without words, and one whose first word begins with #, says nothing
-abbrev pub litmus_line_of : Within → List (List ℕ) → Result LitmusLine LineFault
+abbrev pub litmus_line_of : Within → List (List ℕ) → Result Said LineFault
 litmus_line_of within [] = Ok line.Nothing
 litmus_line_of within (first ∷ words) = if slice_index first 0 == 35 then Ok line.Nothing else do
   k ← litmus_keyword_in within first
@@ -237,11 +233,8 @@ IsLitmusCall asked = IsBoardCall asked × HasTracer asked
 abbrev pub IsLitmusCommand : LitmusCommand → Type 0
 IsLitmusCommand command = IsLitmusCall command.call
 
-abbrev pub IsLitmusLine : LitmusLine → Type 0
+-- the name of a thread is text
+abbrev pub IsLitmusLine : Said → Type 0
+IsLitmusLine (line.Thread voice name) = IfSome name IsUtf8
 IsLitmusLine (line.Command command) = IsLitmusCommand command
 IsLitmusLine other = Unit {0}
-
--- a line that begins a thread names it by text, if it names it
-abbrev pub IsNamedLine : List (List ℕ) → LitmusLine → Type 0
-IsNamedLine words (line.Thread voice) = IfSome (name_of_words words) IsUtf8
-IsNamedLine words other = Unit {0}

@@ -1,6 +1,7 @@
 //! Commands and conditions of litmus files, with the rows of a roster in place of thread ids.
 
 ghost use Rattle.std.specs.Prelude.{◌≡◌, ◌<◌, ◌^◌, length, slice_index_or, None};
+ghost use Rattle.litmus_files.specs.LitmusCondition.{condition_asked};
 ghost use Rattle.litmus_files.specs.LitmusDraft.{names_kept};
 ghost use Rattle.litmus_files.specs.LitmusFile.{condition_of, is_printed_as, row_named, thread_command};
 ghost use Rattle.litmus_files.specs.LitmusFile.{thread_printed_as, wanted_of, wanted_row, which_of};
@@ -82,21 +83,22 @@ fn wanted_row<A: Allocator>(
     }
 }
 
-/// A line's condition. `thread` is what the word in the place of a thread's name says.
+/// A line's condition, where the threads that have begun have these names.
 pub(crate) fn condition_of<A: Allocator>(
     rows: &Roster<A>,
     guesses: &mut [u32; GUESSES],
-    thread: Option<u32>,
-    condition: LitmusCondition,
+    names: &[Option<&[u8]>],
+    condition: LitmusCondition<'_>,
 ) -> Result<Condition, Cause>
-    ensures { result ≡ condition_of rows.now thread condition }
+    requires { length names.now < 2 ^ 32 }
+    ensures { result ≡ condition_of rows.now (names_kept names.now) (condition_asked condition.entry) }
 {
     match condition {
         LitmusCondition::Tid(tid, sense, state) => {
             Ok(Condition::Tracee(row_named(rows, guesses, tid)?, sense, state))
         }
         LitmusCondition::Any(sense, state) => Ok(Condition::SomeTracee(sense, state)),
-        LitmusCondition::Thread(sense) => match thread {
+        LitmusCondition::Thread(name, sense) => match thread_printed_as(names, name) {
             Some(thread) => Ok(Condition::Thread(thread, sense)),
             None => Err(Cause::UnknownWord),
         },
@@ -106,7 +108,7 @@ pub(crate) fn condition_of<A: Allocator>(
 /// The thread that is printed as this word, by its place among all threads: the first of that name, or the one without
 /// a name that has this number.
 #[tactic(auto, using(crate::proofs::FirstOf::first_steps))]
-pub(crate) fn thread_printed_as(names: &[Option<&[u8]>], word: &[u8]) -> Option<u32>
+fn thread_printed_as(names: &[Option<&[u8]>], word: &[u8]) -> Option<u32>
     requires { length names.now < 2 ^ 32 }
     ensures { result ≡ thread_printed_as (names_kept names.now) word.now }
 {

@@ -1,13 +1,16 @@
 //! Conditions: what has to hold where an outcome ends. Each is a line after the last command.
 
-ghost use Rattle.std.specs.Prelude.{◌≡◌, map};
-ghost use Rattle.text_lines.specs.Lines.{nth_word, words_in};
-ghost use Rattle.litmus_files.specs.LitmusCondition.{condition_of_words, is_not_word, is_thread_word, is_waits_word};
-ghost use Rattle.litmus_files.specs.LitmusCondition.{thread_condition, tracee_aim, tracee_condition, tracee_in_state};
+ghost use Rattle.std.specs.Prelude.{◌≡◌, Err, Ok, if◌then◌else◌};
+ghost use Rattle.text_lines.specs.declared.fault.LineFault.TheVariants.{UnknownWord};
+ghost use Rattle.text_lines.specs.Ranges.{if_said};
+ghost use Rattle.text_lines.specs.Words.{words_left};
+ghost use Rattle.litmus_files.specs.LitmusCondition.{condition_asked, condition_of_words, is_not_word, is_thread_word};
+ghost use Rattle.litmus_files.specs.LitmusCondition.{is_waits_word, thread_condition, tracee_aim, tracee_condition};
+ghost use Rattle.litmus_files.specs.LitmusCondition.{Thread, tracee_in_state};
 
 use crate::keyword::is_any_word;
 use replay_files::{STATE_NAMES, StateName};
-use text_lines::{LineFault, first_words, keyword};
+use text_lines::{LineFault, Words, keyword};
 use trace_script::id;
 
 /// Whether a condition asks that something is so, or that it is not.
@@ -18,60 +21,85 @@ pub enum Sense {
 }
 
 /// A condition, as its line says it.
-#[derive(Clone, Copy, Debug, PartialEq, Eq)]
-pub(crate) enum LitmusCondition {
+#[derive(Clone, Copy)]
+pub(crate) enum LitmusCondition<'t> {
     /// The tracee of this thread id is in this state at the end, or is not.
     Tid(u32, Sense, StateName),
     /// Some tracee is, or some is not.
     Any(Sense, StateName),
-    /// The thread that the third word of the line names waits at the end, or does not.
-    Thread(Sense),
+    /// The thread of this name waits at the end, or does not.
+    Thread(&'t [u8], Sense),
 }
 
 /// A condition, by the words after `only`. All words are looked at before any number.
-pub(crate) fn condition_of(words: &[&[u8]]) -> Result<LitmusCondition, LineFault>
-    ensures { result ≡ condition_of_words (map (λ w. w.now) words.now) }
+pub(crate) fn condition_of<'t>(words: Words<'t>) -> Result<LitmusCondition<'t>, LineFault>
+    ensures { if_said condition_asked result ≡ condition_of_words (words_left words.entry) }
 {
-    match words {
-        [first, ..] if is_thread_word(first) => thread_condition(words),
+    let mut rest = words;
+    match rest.next_word() {
+        Some(first) if is_thread_word(first) => thread_condition(words),
         _ => tracee_condition(words),
     }
 }
 
-/// `thread NAME waits`, `thread NAME not waits`. What its second word names is for the file to find.
-fn thread_condition(words: &[&[u8]]) -> Result<LitmusCondition, LineFault>
-    ensures { result ≡ thread_condition (map (λ w. w.now) words.now) }
+/// `thread NAME waits`, `thread NAME not waits`. Which thread has this name is for the file to find.
+fn thread_condition<'t>(words: Words<'t>) -> Result<LitmusCondition<'t>, LineFault>
+    ensures { if_said condition_asked result ≡ thread_condition (words_left words.entry) }
 {
-    match words {
-        [_, _, waits] if is_waits_word(waits) => Ok(LitmusCondition::Thread(Sense::Is)),
-        [_, _, not, waits] if is_not_word(not) && is_waits_word(waits) => {
-            Ok(LitmusCondition::Thread(Sense::IsNot))
-        }
-        _ => Err(LineFault::UnknownWord),
+    if let Ok((_, name, waits)) = words.three() {
+        return thread_sense(name, Sense::Is, is_waits_word(waits));
+    }
+    let (_, name, not, waits) = words.four()?;
+    thread_sense(name, Sense::IsNot, is_not_word(not) && is_waits_word(waits))
+}
+
+/// What is asked of a thread, where the other words of the line are known.
+fn thread_sense<'t>(
+    name: &'t [u8],
+    sense: Sense,
+    known: bool,
+) -> Result<LitmusCondition<'t>, LineFault>
+    ensures { if_said condition_asked result ≡ (if known then Ok (Thread name.now sense) else Err UnknownWord) }
+{
+    if known {
+        Ok(LitmusCondition::Thread(name, sense))
+    } else {
+        Err(LineFault::UnknownWord)
     }
 }
 
 /// `TID STATE`, `TID not STATE`, and so of `any`.
-fn tracee_condition(words: &[&[u8]]) -> Result<LitmusCondition, LineFault>
-    ensures { result ≡ tracee_condition (map (λ w. w.now) words.now) }
+fn tracee_condition<'t>(words: Words<'_>) -> Result<LitmusCondition<'t>, LineFault>
+    ensures { if_said condition_asked result ≡ tracee_condition (words_left words.entry) }
 {
-    match words {
-        [named, state] => tracee_in_state(named, Sense::Is, state),
-        [named, not, state] if is_not_word(not) => tracee_in_state(named, Sense::IsNot, state),
-        _ => Err(LineFault::UnknownWord),
+    if let Ok((named, state)) = words.two() {
+        return tracee_in_state(named, Sense::Is, state);
     }
+    let (named, not, state) = words.three()?;
+    if !is_not_word(not) {
+        return Err(LineFault::UnknownWord);
+    }
+    tracee_in_state(named, Sense::IsNot, state)
 }
 
-fn tracee_in_state(named: &[u8], sense: Sense, state: &[u8]) -> Result<LitmusCondition, LineFault>
-    ensures { result ≡ tracee_in_state named.now sense state.now }
+fn tracee_in_state<'t>(
+    named: &[u8],
+    sense: Sense,
+    state: &[u8],
+) -> Result<LitmusCondition<'t>, LineFault>
+    ensures { if_said condition_asked result ≡ tracee_in_state named.now sense state.now }
 {
     let state = keyword(&STATE_NAMES, state)?;
     tracee_aim(named, sense, state)
 }
 
 /// Some tracee, or that of a thread id.
-fn tracee_aim(named: &[u8], sense: Sense, state: StateName) -> Result<LitmusCondition, LineFault>
-    ensures { result ≡ tracee_aim named.now sense state }
+fn tracee_aim<'t>(
+    named: &[u8],
+    sense: Sense,
+    state: StateName,
+) -> Result<LitmusCondition<'t>, LineFault>
+    ensures { if_said condition_asked result ≡ tracee_aim named.now sense state }
 {
     if is_any_word(named) {
         return Ok(LitmusCondition::Any(sense, state));
@@ -98,13 +126,4 @@ fn is_waits_word(word: &[u8]) -> bool
     ensures { result ≡ is_waits_word word.now }
 {
     word == b"waits".as_slice()
-}
-
-/// The word that names the thread of a condition, of the condition's line: its third one.
-pub(crate) fn thread_named<'a>(line: &'a [u8]) -> &'a [u8]
-    ensures { result.now ≡ nth_word (words_in line.now) 2 }
-{
-    let mut words: [&[u8]; 3] = [&[]; 3];
-    first_words(line, &mut words);
-    words[2]
 }

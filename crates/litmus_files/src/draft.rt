@@ -1,25 +1,27 @@
 //! What was read of a litmus file so far, and what one more line makes of it.
 
-ghost use Rattle.std.specs.Prelude.{◌≡◌, ◌*◌, ◌∷◌, [], IfErr, IfOk, OnOk};
-ghost use Rattle.text_lines.specs.Lines.{nth_word, words_in};
+ghost use Rattle.std.specs.Prelude.{◌≡◌, ◌*◌, ◌∷◌, [], IfErr, IfOk, OnOk, option_map};
 ghost use Rattle.trace_script.specs.Reading.{TakesLine};
 ghost use Rattle.litmus_files.specs.LitmusDraft.{litmus_reading_of};
 ghost use Rattle.litmus_files.specs.LitmusFile.{IsLitmusReading, commands_added, condition_added, current_thread};
 ghost use Rattle.litmus_files.specs.LitmusFile.{litmus_command_added, litmus_line_added, litmus_line_read};
 ghost use Rattle.litmus_files.specs.LitmusFile.{litmus_row_added, no_lines, numbered_command, place_past, repeat_ended};
 ghost use Rattle.litmus_files.specs.LitmusFile.{repeat_opened, reply_required, thread_added, within_of};
-ghost use Rattle.litmus_files.specs.LitmusGrammar.{IsLitmusLine, IsNamedLine, name_of_words};
+ghost use Rattle.litmus_files.specs.LitmusCondition.{condition_asked};
+ghost use Rattle.litmus_files.specs.LitmusGrammar.{IsLitmusLine};
+ghost use Rattle.litmus_files.specs.LitmusLine.{litmus_said};
 
-use crate::command::{condition_of, thread_command, thread_printed_as};
-use crate::condition::{LitmusCondition, thread_named};
+use crate::command::{condition_of, thread_command};
+use crate::condition::LitmusCondition;
 use crate::copies::{add_copies, leaving_line};
-use crate::grammar::{read_litmus_line, thread_name};
+use crate::grammar::read_words;
 use crate::line::{LitmusCommand, LitmusLine, Within};
 use crate::required::{NumberedCommand, NumberedCondition, NumberedLine};
 use replay_files::GUESSES;
 use std::alloc::Allocator;
 use stop_board::{Roster, Row};
 use stop_explorer::{ThreadCommand, Voice};
+use text_lines::Words;
 use trace_script::Cause;
 
 /// How many threads a file has at most.
@@ -80,8 +82,8 @@ pub(crate) fn take_line<'t, A: Allocator>(
         (litmus_line_read number (litmus_reading_of draft.old) line.now) }
     ensures range { OnOk result (IsLitmusReading (litmus_reading_of draft.new)) }
 {
-    let said = read_litmus_line(within(draft), line)?;
-    take_said(draft, number, line, said)
+    let said = read_words(within(draft), Words::of(line))?;
+    take_said(draft, number, said)
 }
 
 /// Where the next line is.
@@ -100,26 +102,24 @@ fn within<A: Allocator>(draft: &LitmusDraft<'_, A>) -> Within
 fn take_said<'t, A: Allocator>(
     draft: &mut LitmusDraft<'t, A>,
     number: u32,
-    line: &'t [u8],
-    said: LitmusLine,
+    said: LitmusLine<'t>,
 ) -> Result<(), Cause>
     requires draft { IsLitmusReading (litmus_reading_of draft.old) }
-    requires said { IsLitmusLine said }
-    requires named { IsNamedLine (words_in line.now) said }
+    requires said { IsLitmusLine (litmus_said said) }
     ensures line { TakesLine result (litmus_reading_of draft.new)
-        (litmus_line_added number (litmus_reading_of draft.old) (words_in line.now) said) }
+        (litmus_line_added number (litmus_reading_of draft.old) (litmus_said said.entry)) }
     ensures range { OnOk result (IsLitmusReading (litmus_reading_of draft.new)) }
 {
     match said {
         LitmusLine::Nothing => Ok(()),
         LitmusLine::Row(row) => take_row(draft, row),
-        LitmusLine::Thread(voice) => take_thread(draft, line, voice),
+        LitmusLine::Thread(voice, name) => take_thread(draft, voice, name),
         LitmusLine::Repeat(times) => {
             open_repeat(draft, times);
             Ok(())
         }
         LitmusLine::End => end_repeat(draft),
-        LitmusLine::Only(condition) => take_condition(draft, number, line, condition),
+        LitmusLine::Only(condition) => take_condition(draft, number, condition),
         LitmusLine::Command(command) => take_command(draft, number, command),
     }
 }
@@ -135,11 +135,11 @@ fn take_row<A: Allocator>(draft: &mut LitmusDraft<'_, A>, row: Row) -> Result<()
 /// Begins the next thread.
 fn take_thread<'t, A: Allocator>(
     draft: &mut LitmusDraft<'t, A>,
-    line: &'t [u8],
     voice: Voice,
+    name: Option<&'t [u8]>,
 ) -> Result<(), Cause>
     ensures { TakesLine result (litmus_reading_of draft.new)
-        (thread_added (litmus_reading_of draft.old) voice (name_of_words (words_in line.now))) }
+        (thread_added (litmus_reading_of draft.old) voice (option_map (λ n. n.now) name.entry)) }
 {
     if draft.names.len() >= MOST_THREADS as usize {
         return Err(Cause::TooMany);
@@ -147,7 +147,7 @@ fn take_thread<'t, A: Allocator>(
     if draft.times.is_some() {
         return Err(Cause::NoEnd);
     }
-    if draft.names.push(thread_name(line)).is_err() {
+    if draft.names.push(name).is_err() {
         return Err(Cause::NoMemory);
     }
     if draft.voices.push(voice).is_err() {
@@ -236,15 +236,14 @@ fn require_reply<A: Allocator>(
 fn take_condition<A: Allocator>(
     draft: &mut LitmusDraft<'_, A>,
     number: u32,
-    line: &[u8],
-    condition: LitmusCondition,
+    condition: LitmusCondition<'_>,
 ) -> Result<(), Cause>
     requires { IsLitmusReading (litmus_reading_of draft.old) }
     ensures { TakesLine result (litmus_reading_of draft.new)
-        (condition_added number (litmus_reading_of draft.old) (nth_word (words_in line.now) 2) condition) }
+        (condition_added number (litmus_reading_of draft.old) (condition_asked condition.entry)) }
 {
-    let thread = thread_printed_as(draft.names.as_slice(), thread_named(line));
-    let condition = condition_of(&draft.rows, &mut draft.guesses, thread, condition)?;
+    let names = draft.names.as_slice();
+    let condition = condition_of(&draft.rows, &mut draft.guesses, names, condition)?;
     if draft.requirements.push(number).is_err() {
         return Err(Cause::NoMemory);
     }

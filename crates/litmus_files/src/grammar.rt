@@ -1,18 +1,20 @@
 //! What a line of a litmus file says, by its words and by where it is. All words are looked at before any number.
 
-ghost use Rattle.std.specs.Prelude.{◌≡◌, ◌<◌, IfOk, IfSome, length, map, option_map, position};
+ghost use Rattle.std.specs.Prelude.{◌≡◌, ◌<◌, IfOk};
 ghost use Rattle.std.specs.List.{list_all};
 ghost use Rattle.stop_history.specs.declared.limits.TheConstants.{TRACERS};
-ghost use Rattle.text_lines.specs.Lines.{nth_word, words_in};
-ghost use Rattle.trace_script.specs.CaseLine.{is_equals};
+ghost use Rattle.text_lines.specs.Lines.{nth_word};
+ghost use Rattle.text_lines.specs.Ranges.{if_said};
+ghost use Rattle.text_lines.specs.Words.{words_left};
 ghost use Rattle.replay_files.specs.Command.{IsCommand};
 ghost use Rattle.replay_files.specs.Grammar.{IsLine};
 ghost use Rattle.litmus_files.specs.LitmusGrammar.{IsLitmusCall, IsLitmusCommand, IsLitmusLine, any_or_tid};
 ghost use Rattle.litmus_files.specs.LitmusGrammar.{as_in_replay, asking, bare_command_of, claim_call, claim_command};
 ghost use Rattle.litmus_files.specs.LitmusGrammar.{claim_of_words, command_of_words, does_wait, group_aim};
 ghost use Rattle.litmus_files.specs.LitmusGrammar.{is_name_byte, is_thread_name, it_or_tid, litmus_line_of};
-ghost use Rattle.litmus_files.specs.LitmusGrammar.{litmus_rest_of, name_of_words, repeat_line, replied_command};
+ghost use Rattle.litmus_files.specs.LitmusGrammar.{litmus_rest_of, repeat_line, replied_command};
 ghost use Rattle.litmus_files.specs.LitmusGrammar.{resume_command, resume_of_words, thread_line};
+ghost use Rattle.litmus_files.specs.LitmusLine.{litmus_said};
 
 use crate::condition::condition_of;
 use crate::keyword::{
@@ -22,14 +24,10 @@ use crate::line::{Aim, LitmusCommand, LitmusLine, Within};
 use crate::reply::reply_of;
 use replay_files::{Command, KINDS, Line, ReplayKeyword, rest_of, tracer_of};
 use stop_explorer::{BoardCall, Voice};
-use text_lines::{LineFault, first_words, keyword, number_between};
+use text_lines::{LineFault, Words, keyword, number_between};
 use trace_options::LAST_SIGNAL;
 use trace_record::Resume;
 use trace_script::{id, row_of_words};
-
-/// How many words of a line are looked at: one more than the five of the longest command, its `=` and the four of the
-/// longest reply.
-const WORDS_LOOKED_AT: usize = 11;
 
 /// How many bytes the name of a thread has at most.
 const LONGEST_NAME: usize = 32;
@@ -37,75 +35,56 @@ const LONGEST_NAME: usize = 32;
 /// How many times the commands of a repeat are done at most.
 const MOST_REPEATS: u32 = 64;
 
-/// What a line says, by where it is, or its first fault.
-pub(crate) fn read_litmus_line(within: Within, line: &[u8]) -> Result<LitmusLine, LineFault>
-    ensures line { result ≡ litmus_line_of within (words_in line.now) }
-    ensures range { IfOk result IsLitmusLine }
+/// What the words of a line say, by where it is, or its first fault.
+pub(crate) fn read_words<'t>(within: Within, words: Words<'t>) -> Result<LitmusLine<'t>, LineFault>
+    ensures line { if_said litmus_said result ≡ litmus_line_of within (words_left words.entry) }
+    ensures range { IfOk result (λ said. IsLitmusLine (litmus_said said)) }
 {
-    let mut words: [&[u8]; WORDS_LOOKED_AT] = [&[]; WORDS_LOOKED_AT];
-    let count = first_words(line, &mut words);
-    read_words(within, &words[..count])
-}
-
-/// The name of a thread, of the line that begins it: its second word, if it has one.
-pub(crate) fn thread_name<'a>(line: &'a [u8]) -> Option<&'a [u8]>
-    ensures { option_map (λ name. name.now) result ≡ name_of_words (words_in line.now) }
-{
-    let mut words: [&[u8]; 2] = [&[]; 2];
-    let count = first_words(line, &mut words);
-    words[..count].get(1).copied()
-}
-
-/// What the words of a line say, by where it is.
-fn read_words(within: Within, words: &[&[u8]]) -> Result<LitmusLine, LineFault>
-    ensures line { result ≡ litmus_line_of within (map (λ w. w.now) words.now) }
-    ensures range { IfOk result IsLitmusLine }
-{
-    match words {
-        [] => Ok(LitmusLine::Nothing),
-        [first, ..] if first.first() == Some(&b'#') => Ok(LitmusLine::Nothing),
-        [first, words @ ..] => {
-            let keyword = keyword_in(within, first)?;
-            litmus_rest_of(keyword, words)
-        }
+    let mut rest = words;
+    let Some(first) = rest.next_word() else {
+        return Ok(LitmusLine::Nothing);
+    };
+    if first.first() == Some(&b'#') {
+        return Ok(LitmusLine::Nothing);
     }
+    let keyword = keyword_in(within, first)?;
+    litmus_rest_of(keyword, rest)
 }
 
 /// What a line says, by the words after its first one.
-fn litmus_rest_of(keyword: LitmusKeyword, words: &[&[u8]]) -> Result<LitmusLine, LineFault>
-    ensures line { result ≡ litmus_rest_of keyword (map (λ w. w.now) words.now) }
-    ensures range { IfOk result IsLitmusLine }
+fn litmus_rest_of<'t>(keyword: LitmusKeyword, words: Words<'t>) -> Result<LitmusLine<'t>, LineFault>
+    ensures line { if_said litmus_said result ≡ litmus_rest_of keyword (words_left words.entry) }
+    ensures range { IfOk result (λ said. IsLitmusLine (litmus_said said)) }
 {
     match keyword {
-        LitmusKeyword::Row => match words {
-            [tid, tgid, pgid, parent] => {
-                Ok(LitmusLine::Row(row_of_words(tid, tgid, pgid, parent)?))
-            }
-            _ => Err(LineFault::UnknownWord),
-        },
+        LitmusKeyword::Row => {
+            let (tid, tgid, pgid, parent) = words.four()?;
+            Ok(LitmusLine::Row(row_of_words(tid, tgid, pgid, parent)?))
+        }
         LitmusKeyword::Thread(voice) => thread_line(voice, words),
-        LitmusKeyword::Repeat => match words {
-            [count] => repeat_line(count),
-            _ => Err(LineFault::UnknownWord),
-        },
-        LitmusKeyword::End => match words {
-            [] => Ok(LitmusLine::End),
-            _ => Err(LineFault::UnknownWord),
-        },
+        LitmusKeyword::Repeat => repeat_line(words.one()?),
+        LitmusKeyword::End => {
+            words.end()?;
+            Ok(LitmusLine::End)
+        }
         LitmusKeyword::Only => Ok(LitmusLine::Only(condition_of(words)?)),
         LitmusKeyword::Command(keyword) => Ok(LitmusLine::Command(command_of(keyword, words)?)),
     }
 }
 
-fn thread_line(voice: Voice, words: &[&[u8]]) -> Result<LitmusLine, LineFault>
-    ensures line { result ≡ thread_line voice (map (λ w. w.now) words.now) }
-    ensures range { IfOk result IsLitmusLine }
+#[tactic(auto, using(crate::proofs::ThreadNames::name_is_text))]
+fn thread_line<'t>(voice: Voice, words: Words<'t>) -> Result<LitmusLine<'t>, LineFault>
+    ensures line { if_said litmus_said result ≡ thread_line voice (words_left words.entry) }
+    ensures range { IfOk result (λ said. IsLitmusLine (litmus_said said)) }
 {
-    match words {
-        [] => Ok(LitmusLine::Thread(voice)),
-        [name] if is_thread_name(name) => Ok(LitmusLine::Thread(voice)),
-        _ => Err(LineFault::UnknownWord),
+    if words.is_empty() {
+        return Ok(LitmusLine::Thread(voice, None));
     }
+    let name = words.one()?;
+    if !is_thread_name(name) {
+        return Err(LineFault::UnknownWord);
+    }
+    Ok(LitmusLine::Thread(voice, Some(name)))
 }
 
 /// Whether a word can name a thread: a letter, then letters, digits, `_` and `-`.
@@ -129,41 +108,32 @@ fn is_name_byte(c: u8) -> bool
     c.is_ascii_alphanumeric() || c == b'_' || c == b'-'
 }
 
-fn repeat_line(count: &[u8]) -> Result<LitmusLine, LineFault>
-    ensures line { result ≡ repeat_line count.now }
-    ensures range { IfOk result IsLitmusLine }
+fn repeat_line<'t>(count: &[u8]) -> Result<LitmusLine<'t>, LineFault>
+    ensures line { if_said litmus_said result ≡ repeat_line count.now }
+    ensures range { IfOk result (λ said. IsLitmusLine (litmus_said said)) }
 {
     let count = number_between(1, u64::from(MOST_REPEATS), count)? as u32;
     Ok(LitmusLine::Repeat(count))
 }
 
 /// A command, by the words after its first one. Its reply comes after the first `=`.
-fn command_of(keyword: CommandKeyword, words: &[&[u8]]) -> Result<LitmusCommand, LineFault>
-    ensures command { result ≡ command_of_words keyword (map (λ w. w.now) words.now) }
+fn command_of(keyword: CommandKeyword, words: Words<'_>) -> Result<LitmusCommand, LineFault>
+    ensures command { result ≡ command_of_words keyword (words_left words.entry) }
     ensures range { IfOk result IsLitmusCommand }
 {
-    match equals(words) {
+    match words.split_at(b"=") {
         None => bare_command(keyword, words),
-        Some(place) => replied_command(keyword, &words[..place], &words[place + 1..]),
+        Some((asked, reply)) => replied_command(keyword, asked, reply),
     }
-}
-
-/// The place of the first `=`.
-fn equals(words: &[&[u8]]) -> Option<usize>
-    ensures place { result ≡ position (λ w. is_equals w.now) words.now }
-    ensures within { IfSome result (λ place. place < length words.now) }
-{
-    words.iter().position(|word| *word == b"=".as_slice())
 }
 
 /// A command with its reply. An unknown word of the reply comes before a wrong number of the command.
 fn replied_command(
     keyword: CommandKeyword,
-    words: &[&[u8]],
-    reply: &[&[u8]],
+    words: Words<'_>,
+    reply: Words<'_>,
 ) -> Result<LitmusCommand, LineFault>
-    ensures command { result
-        ≡ replied_command keyword (map (λ w. w.now) words.now) (map (λ w. w.now) reply.now) }
+    ensures command { result ≡ replied_command keyword (words_left words.entry) (words_left reply.entry) }
     ensures range { IfOk result IsLitmusCommand }
 {
     match reply_of(keyword, first_of(words), reply) {
@@ -179,18 +149,19 @@ fn replied_command(
 }
 
 /// The first of some words; without letters where there is none.
-fn first_of<'a>(words: &[&'a [u8]]) -> &'a [u8]
-    ensures { result.now ≡ nth_word (map (λ w. w.now) words.now) 0 }
+fn first_of<'t>(words: Words<'t>) -> &'t [u8]
+    ensures { result.now ≡ nth_word (words_left words.entry) 0 }
 {
-    match words {
-        [first, ..] => first,
-        [] => &[],
+    let mut rest = words;
+    match rest.next_word() {
+        Some(first) => first,
+        None => &[],
     }
 }
 
 /// A command without a reply.
-fn bare_command(keyword: CommandKeyword, words: &[&[u8]]) -> Result<LitmusCommand, LineFault>
-    ensures command { result ≡ bare_command_of keyword (map (λ w. w.now) words.now) }
+fn bare_command(keyword: CommandKeyword, words: Words<'_>) -> Result<LitmusCommand, LineFault>
+    ensures command { result ≡ bare_command_of keyword (words_left words.entry) }
     ensures range { IfOk result IsLitmusCommand }
 {
     match keyword {
@@ -251,17 +222,18 @@ fn does_wait(keyword: CommandKeyword) -> bool
 }
 
 /// A claim, a wait, a look or a peek, by the words after its first one.
-fn claim_of(keyword: CommandKeyword, words: &[&[u8]]) -> Result<LitmusCommand, LineFault>
-    ensures command { result ≡ claim_of_words keyword (map (λ w. w.now) words.now) }
+fn claim_of(keyword: CommandKeyword, words: Words<'_>) -> Result<LitmusCommand, LineFault>
+    ensures command { result ≡ claim_of_words keyword (words_left words.entry) }
     ensures range { IfOk result IsLitmusCommand }
 {
-    match words {
-        [named, tracer] => claim_command(keyword, any_or_tid(named), tracer),
-        [word, pgid, tracer] if is_group_word(word) => {
-            claim_command(keyword, group_aim(pgid), tracer)
-        }
-        _ => Err(LineFault::UnknownWord),
+    if let Ok((named, tracer)) = words.two() {
+        return claim_command(keyword, any_or_tid(named), tracer);
     }
+    let (word, pgid, tracer) = words.three()?;
+    if !is_group_word(word) {
+        return Err(LineFault::UnknownWord);
+    }
+    claim_command(keyword, group_aim(pgid), tracer)
 }
 
 fn claim_command(
@@ -306,14 +278,12 @@ fn group_aim(pgid: &[u8]) -> Result<Aim, LineFault>
 }
 
 /// A resume, by the words after its first one.
-fn resume_of(words: &[&[u8]]) -> Result<LitmusCommand, LineFault>
-    ensures command { result ≡ resume_of_words (map (λ w. w.now) words.now) }
+fn resume_of(words: Words<'_>) -> Result<LitmusCommand, LineFault>
+    ensures command { result ≡ resume_of_words (words_left words.entry) }
     ensures range { IfOk result IsLitmusCommand }
 {
-    match words {
-        [named, tracer, kind, signal] => resume_command(named, tracer, kind, signal),
-        _ => Err(LineFault::UnknownWord),
-    }
+    let (named, tracer, kind, signal) = words.four()?;
+    resume_command(named, tracer, kind, signal)
 }
 
 fn resume_command(

@@ -48,19 +48,19 @@ pub(crate) struct LitmusCommand {
 }
 
 /// What a line says.
-#[derive(Clone, Copy, Debug, PartialEq, Eq)]
-pub(crate) enum LitmusLine {
+#[derive(Clone, Copy)]
+pub(crate) enum LitmusLine<'t> {
     /// It is empty or a comment.
     Nothing,
     /// A row of the roster.
     Row(Row),
-    /// A thread begins, which is loud or quiet. Its name, if it has one, is the second word.
-    Thread(Voice),
+    /// A thread begins, which is loud or quiet, with its name, if it has one.
+    Thread(Voice, Option<&'t [u8]>),
     /// The commands to the next `end` are done this many times, 1 to 64.
     Repeat(u32),
     /// The end of a repeat.
     End,
     /// A condition.
-    Only(LitmusCondition),
+    Only(LitmusCondition<'t>),
     Command(LitmusCommand),
 }

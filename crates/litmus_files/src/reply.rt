@@ -1,6 +1,7 @@
 //! The reply after a command's `=`, by its words and by the command. All words are looked at before any number.
 
 ghost use Rattle.std.specs.Prelude.{◌≡◌, map};
+ghost use Rattle.text_lines.specs.Words.{words_left};
 ghost use Rattle.litmus_files.specs.LitmusReply.{bare_reply, claim_row_reply, exit_reply, got_of_words, got_reply};
 ghost use Rattle.litmus_files.specs.LitmusReply.{got_told, got_with_numbers, is_star, names_several, no_child_reply};
 ghost use Rattle.litmus_files.specs.LitmusReply.{none_reply, nothing_reply, numbered_state, or_else, plain_state};
@@ -15,7 +16,7 @@ use crate::line::LitmusReply;
 use replay_files::{STATE_NAMES, StateName, tracer_of};
 use stop_board::{LAST_NUMBER, Refused};
 use stop_explorer::{WantedAnswer, WantedGot, WantedState};
-use text_lines::{LineFault, keyword, number_between};
+use text_lines::{LineFault, Words, keyword, number_between};
 use trace_script::id;
 
 /// The word of what a claim got.
@@ -51,9 +52,9 @@ const RESUME_REFUSALS: [(&str, Refused); 3] = [
 pub(crate) fn reply_of(
     keyword: CommandKeyword,
     named: &[u8],
-    words: &[&[u8]],
+    words: Words<'_>,
 ) -> Result<LitmusReply, LineFault>
-    ensures { result ≡ reply_of_words keyword named.now (map (λ w. w.now) words.now) }
+    ensures { result ≡ reply_of_words keyword named.now (words_left words.entry) }
 {
     let none = without_tid(none_reply(keyword, named, words));
     let bare = without_tid(bare_reply(keyword, named, words));
@@ -101,9 +102,9 @@ fn tid_before(tid: &[u8], answer: Result<WantedAnswer, LineFault>) -> Result<Lit
 fn bare_reply(
     keyword: CommandKeyword,
     named: &[u8],
-    words: &[&[u8]],
+    words: Words<'_>,
 ) -> Result<WantedAnswer, LineFault>
-    ensures { result ≡ bare_reply keyword named.now (map (λ w. w.now) words.now) }
+    ensures { result ≡ bare_reply keyword named.now (words_left words.entry) }
 {
     if names_several(keyword, named) {
         return Err(LineFault::UnknownWord);
@@ -115,14 +116,13 @@ fn bare_reply(
 fn tid_reply(
     keyword: CommandKeyword,
     named: &[u8],
-    words: &[&[u8]],
+    words: Words<'_>,
 ) -> Result<LitmusReply, LineFault>
-    ensures { result ≡ tid_reply keyword named.now (map (λ w. w.now) words.now) }
+    ensures { result ≡ tid_reply keyword named.now (words_left words.entry) }
 {
-    match words {
-        [tid, words @ ..] => tid_before(tid, row_reply(keyword, named, words)),
-        [] => Err(LineFault::UnknownWord),
-    }
+    let mut rest = words;
+    let tid = rest.word()?;
+    tid_before(tid, row_reply(keyword, named, rest))
 }
 
 /// Whether a command takes any of several tracees, by the word in the place of its TID.
@@ -147,9 +147,9 @@ fn names_several(keyword: CommandKeyword, named: &[u8]) -> bool
 fn row_reply(
     keyword: CommandKeyword,
     named: &[u8],
-    words: &[&[u8]],
+    words: Words<'_>,
 ) -> Result<WantedAnswer, LineFault>
-    ensures { result ≡ row_reply keyword named.now (map (λ w. w.now) words.now) }
+    ensures { result ≡ row_reply keyword named.now (words_left words.entry) }
 {
     match keyword {
         CommandKeyword::Publish => publish_reply(words),
@@ -163,28 +163,28 @@ fn row_reply(
     }
 }
 
-fn publish_reply(words: &[&[u8]]) -> Result<WantedAnswer, LineFault>
-    ensures { result ≡ publish_reply (map (λ w. w.now) words.now) }
+fn publish_reply(words: Words<'_>) -> Result<WantedAnswer, LineFault>
+    ensures { result ≡ publish_reply (words_left words.entry) }
 {
-    match words {
-        [word, number] if *word == b"published".as_slice() => {
+    match words.two() {
+        Ok((word, number)) if word == b"published".as_slice() => {
             Ok(WantedAnswer::Number(wanted_stop(number)?))
         }
         _ => refused_reply(&PUBLISH_REFUSALS, words),
     }
 }
 
-fn exit_reply(words: &[&[u8]]) -> Result<WantedAnswer, LineFault>
-    ensures { result ≡ exit_reply (map (λ w. w.now) words.now) }
+fn exit_reply(words: Words<'_>) -> Result<WantedAnswer, LineFault>
+    ensures { result ≡ exit_reply (words_left words.entry) }
 {
-    match words {
-        [word] if *word == b"exited".as_slice() => Ok(WantedAnswer::Done),
+    match words.one() {
+        Ok(word) if word == b"exited".as_slice() => Ok(WantedAnswer::Done),
         _ => Err(LineFault::UnknownWord),
     }
 }
 
-fn state_reply(words: &[&[u8]]) -> Result<WantedAnswer, LineFault>
-    ensures { result ≡ state_reply (map (λ w. w.now) words.now) }
+fn state_reply(words: Words<'_>) -> Result<WantedAnswer, LineFault>
+    ensures { result ≡ state_reply (words_left words.entry) }
 {
     Ok(WantedAnswer::State(state_of(words)?))
 }
@@ -193,43 +193,43 @@ fn state_reply(words: &[&[u8]]) -> Result<WantedAnswer, LineFault>
 fn claim_row_reply(
     keyword: CommandKeyword,
     named: &[u8],
-    words: &[&[u8]],
+    words: Words<'_>,
 ) -> Result<WantedAnswer, LineFault>
-    ensures { result ≡ claim_row_reply keyword named.now (map (λ w. w.now) words.now) }
+    ensures { result ≡ claim_row_reply keyword named.now (words_left words.entry) }
 {
-    match words {
-        [_, _, _] => got_reply(keyword, words),
-        _ if names_several(keyword, named) => Err(LineFault::UnknownWord),
-        _ => refused_reply(&CLAIM_REFUSALS, words),
+    if words.three().is_ok() {
+        return got_reply(keyword, words);
     }
+    if names_several(keyword, named) {
+        return Err(LineFault::UnknownWord);
+    }
+    refused_reply(&CLAIM_REFUSALS, words)
 }
 
 /// A stop or a death.
-fn got_reply(keyword: CommandKeyword, words: &[&[u8]]) -> Result<WantedAnswer, LineFault>
-    ensures { result ≡ got_reply keyword (map (λ w. w.now) words.now) }
+fn got_reply(keyword: CommandKeyword, words: Words<'_>) -> Result<WantedAnswer, LineFault>
+    ensures { result ≡ got_reply keyword (words_left words.entry) }
 {
-    match words {
-        [name, number, status] => Ok(got_told(keyword, got_of(name, number, status)?)),
-        _ => Err(LineFault::UnknownWord),
-    }
+    let (name, number, status) = words.three()?;
+    Ok(got_told(keyword, got_of(name, number, status)?))
 }
 
-fn resume_reply(words: &[&[u8]]) -> Result<WantedAnswer, LineFault>
-    ensures { result ≡ resume_reply (map (λ w. w.now) words.now) }
+fn resume_reply(words: Words<'_>) -> Result<WantedAnswer, LineFault>
+    ensures { result ≡ resume_reply (words_left words.entry) }
 {
-    match words {
-        [word] if *word == b"resumed".as_slice() => Ok(WantedAnswer::Done),
+    match words.one() {
+        Ok(word) if word == b"resumed".as_slice() => Ok(WantedAnswer::Done),
         _ => refused_reply(&RESUME_REFUSALS, words),
     }
 }
 
 /// A refusal that is one of these, or any.
-fn refused_reply(refusals: &[(&str, Refused)], words: &[&[u8]]) -> Result<WantedAnswer, LineFault>
+fn refused_reply(refusals: &[(&str, Refused)], words: Words<'_>) -> Result<WantedAnswer, LineFault>
     ensures { result
-        ≡ refused_reply (map (λ row. (row.0.now, row.1)) refusals.now) (map (λ w. w.now) words.now) }
+        ≡ refused_reply (map (λ row. (row.0.now, row.1)) refusals.now) (words_left words.entry) }
 {
-    match words {
-        [word, name] if *word == b"refused".as_slice() => {
+    match words.two() {
+        Ok((word, name)) if word == b"refused".as_slice() => {
             Ok(WantedAnswer::Refused(wanted_refusal(refusals, name)?))
         }
         _ => Err(LineFault::UnknownWord),
@@ -252,9 +252,9 @@ fn wanted_refusal(refusals: &[(&str, Refused)], word: &[u8]) -> Result<Option<Re
 fn none_reply(
     keyword: CommandKeyword,
     named: &[u8],
-    words: &[&[u8]],
+    words: Words<'_>,
 ) -> Result<WantedAnswer, LineFault>
-    ensures { result ≡ none_reply keyword named.now (map (λ w. w.now) words.now) }
+    ensures { result ≡ none_reply keyword named.now (words_left words.entry) }
 {
     match keyword {
         CommandKeyword::Publish => Err(LineFault::UnknownWord),
@@ -273,33 +273,33 @@ fn none_reply(
 fn scan_reply(
     keyword: CommandKeyword,
     named: &[u8],
-    words: &[&[u8]],
+    words: Words<'_>,
 ) -> Result<WantedAnswer, LineFault>
-    ensures { result ≡ scan_reply keyword named.now (map (λ w. w.now) words.now) }
+    ensures { result ≡ scan_reply keyword named.now (words_left words.entry) }
 {
     if !names_several(keyword, named) {
         return Err(LineFault::UnknownWord);
     }
-    match words {
-        [_] => nothing_reply(words),
-        _ => no_child_reply(words),
+    if words.one().is_ok() {
+        return nothing_reply(words);
     }
+    no_child_reply(words)
 }
 
-fn nothing_reply(words: &[&[u8]]) -> Result<WantedAnswer, LineFault>
-    ensures { result ≡ nothing_reply (map (λ w. w.now) words.now) }
+fn nothing_reply(words: Words<'_>) -> Result<WantedAnswer, LineFault>
+    ensures { result ≡ nothing_reply (words_left words.entry) }
 {
-    match words {
-        [word] if *word == b"nothing".as_slice() => Ok(WantedAnswer::Nothing),
+    match words.one() {
+        Ok(word) if word == b"nothing".as_slice() => Ok(WantedAnswer::Nothing),
         _ => Err(LineFault::UnknownWord),
     }
 }
 
-fn no_child_reply(words: &[&[u8]]) -> Result<WantedAnswer, LineFault>
-    ensures { result ≡ no_child_reply (map (λ w. w.now) words.now) }
+fn no_child_reply(words: Words<'_>) -> Result<WantedAnswer, LineFault>
+    ensures { result ≡ no_child_reply (words_left words.entry) }
 {
-    match words {
-        [first, second] if *first == b"no".as_slice() && *second == b"child".as_slice() => {
+    match words.two() {
+        Ok((first, second)) if first == b"no".as_slice() && second == b"child".as_slice() => {
             Ok(WantedAnswer::NoChild)
         }
         _ => Err(LineFault::UnknownWord),
@@ -336,14 +336,14 @@ fn got_with_numbers(word: GotWord, number: Option<u32>, status: Option<u32>) -> 
     }
 }
 
-fn state_of(words: &[&[u8]]) -> Result<WantedState, LineFault>
-    ensures { result ≡ state_of_words (map (λ w. w.now) words.now) }
+fn state_of(words: Words<'_>) -> Result<WantedState, LineFault>
+    ensures { result ≡ state_of_words (words_left words.entry) }
 {
-    match words {
-        [name] => plain_state(keyword(&STATE_NAMES, name)?),
-        [name, number, last] => numbered_state(keyword(&STATE_NAMES, name)?, number, last),
-        _ => Err(LineFault::UnknownWord),
+    if let Ok(name) = words.one() {
+        return plain_state(keyword(&STATE_NAMES, name)?);
     }
+    let (name, number, last) = words.three()?;
+    numbered_state(keyword(&STATE_NAMES, name)?, number, last)
 }
 
 /// A state that is one word.

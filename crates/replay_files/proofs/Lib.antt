@@ -1,6 +1,5 @@
 pub mod Guesses
 pub mod LinesBack
 pub mod ReadBack
-pub mod SixWords
 pub mod Tables
 pub mod Written

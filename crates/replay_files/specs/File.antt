@@ -14,12 +14,17 @@ use Rattle.replay_files.specs.declared.command.Command.{Command}
 use Rattle.replay_files.specs.declared.order.Order.{Order}
 use Rattle.replay_files.specs.declared.grammar.Line.{Line}
 use Rattle.replay_files.specs.declared.grammar.Line.TheVariants as line
+use Rattle.replay_files.specs.declared.reading.ReplayFile.{ReplayFile}
 use Rattle.replay_files.specs.Grammar.{replay_line_of}
 
 -- the rows, and the commands to them, each in the order of the file
 pub record ReplayContent : Type 0 where
   pub rows : List Row
   pub orders : List Order
+
+-- what was read of a file, as the program keeps it
+abbrev pub replay_content_in : {Z : Type 0} → ReplayFile Z → ReplayContent
+replay_content_in file = record { rows = file.rows; orders = file.orders.items }
 
 abbrev pub nothing : ReplayContent
 nothing = record { rows = []; orders = [] }
@@ -50,12 +55,9 @@ line_added so_far line.Nothing = Ok so_far
 line_added so_far (line.Row row) = row_added so_far row (push_fault so_far.rows row)
 line_added so_far (line.Command tid command) = order_added so_far command (row_of so_far.rows tid)
 
--- what one more line makes of the content so far, by its words, or its first fault
-abbrev pub replay_words_read : ReplayContent → List (List ℕ) → Result ReplayContent Cause
-replay_words_read so_far words = with_cause (replay_line_of (has_begun so_far) words) >>= line_added so_far
-
+-- what one more line makes of the content so far, or its first fault
 abbrev pub replay_line_read : ReplayContent → List ℕ → Result ReplayContent Cause
-replay_line_read so_far line = replay_words_read so_far (words_in line)
+replay_line_read so_far line = with_cause (replay_line_of (has_begun so_far) (words_in line)) >>= line_added so_far
 
 -- what lines make of the content before them, or their first fault; the first of them has number n
 abbrev pub replay_content_after : (n : ℕ) → ReplayContent → List (List ℕ) → Result ReplayContent CaseError

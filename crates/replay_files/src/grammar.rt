@@ -1,7 +1,8 @@
 //! What a line of a replay file says, by its words. All words are looked at before any number.
 
-ghost use Rattle.std.specs.Prelude.{◌≡◌, ◌<◌, map, IfOk};
+ghost use Rattle.std.specs.Prelude.{◌≡◌, ◌<◌, IfOk};
 ghost use Rattle.stop_history.specs.declared.limits.TheConstants.{TRACERS};
+ghost use Rattle.text_lines.specs.Words.{words_left};
 ghost use Rattle.trace_record.specs.Death.{IsDeath};
 ghost use Rattle.trace_record.specs.Stop.{IsStop};
 ghost use Rattle.replay_files.specs.Grammar.{IsLine, claim_line, death_with_number, exit_line, publish_line};
@@ -12,7 +13,7 @@ ghost use Rattle.replay_files.specs.Grammar.{tracer_number};
 
 use crate::command::Command;
 use stop_board::{Row, TRACERS};
-use text_lines::{LineFault, keyword, number_between};
+use text_lines::{LineFault, Words, keyword, number_between};
 use trace_options::LAST_SIGNAL;
 use trace_record::{Death, Kind, Resume, Stop};
 use trace_script::{id, row_of_words};
@@ -56,9 +57,6 @@ pub(crate) enum DeathWord {
     Killed,
 }
 
-/// How many words of a line are looked at: one more than any line may have.
-pub(crate) const WORDS_LOOKED_AT: usize = 6;
-
 /// The first words of lines.
 const KEYWORDS: [(&str, ReplayKeyword); 6] = [
     ("row", ReplayKeyword::Row),
@@ -97,20 +95,20 @@ const ENDINGS: [(&str, DeathWord); 2] = [
     ("killed", DeathWord::Killed),
 ];
 
-/// What the words of a line say, where commands have begun or not, or its first fault. Of more words than any line may
-/// have, one more is enough.
-pub(crate) fn read_words(begun: bool, words: &[&[u8]]) -> Result<Line, LineFault>
-    ensures line { result ≡ replay_line_of begun (map (λ w. w.now) words.now) }
+/// What the words of a line say, where commands have begun or not, or its first fault.
+pub(crate) fn read_words(begun: bool, words: Words<'_>) -> Result<Line, LineFault>
+    ensures line { result ≡ replay_line_of begun (words_left words.entry) }
     ensures range { IfOk result IsLine }
 {
-    match words {
-        [] => Ok(Line::Nothing),
-        [first, ..] if first.first() == Some(&b'#') => Ok(Line::Nothing),
-        [first, words @ ..] => {
-            let keyword = in_place(begun, keyword(&KEYWORDS, first)?)?;
-            rest_of(keyword, words)
-        }
+    let mut rest = words;
+    let Some(first) = rest.next_word() else {
+        return Ok(Line::Nothing);
+    };
+    if first.first() == Some(&b'#') {
+        return Ok(Line::Nothing);
     }
+    let keyword = in_place(begun, keyword(&KEYWORDS, first)?)?;
+    rest_of(keyword, rest)
 }
 
 /// Rows come before the first command.
@@ -124,45 +122,47 @@ fn in_place(begun: bool, keyword: ReplayKeyword) -> Result<ReplayKeyword, LineFa
 }
 
 /// What a line says, by the words after its first one.
-pub fn rest_of(keyword: ReplayKeyword, words: &[&[u8]]) -> Result<Line, LineFault>
-    ensures line { result ≡ replay_rest_of keyword (map (λ w. w.now) words.now) }
+pub fn rest_of(keyword: ReplayKeyword, words: Words<'_>) -> Result<Line, LineFault>
+    ensures line { result ≡ replay_rest_of keyword (words_left words.entry) }
     ensures range { IfOk result IsLine }
 {
     match keyword {
-        ReplayKeyword::Row => match words {
-            [tid, tgid, pgid, parent] => row_line(tid, tgid, pgid, parent),
-            _ => Err(LineFault::UnknownWord),
-        },
+        ReplayKeyword::Row => {
+            let (tid, tgid, pgid, parent) = words.four()?;
+            row_line(tid, tgid, pgid, parent)
+        }
         ReplayKeyword::Publish => publish_line(words),
-        ReplayKeyword::Claim => match words {
-            [tid, tracer] => claim_line(tid, tracer),
-            _ => Err(LineFault::UnknownWord),
-        },
-        ReplayKeyword::Resume => match words {
-            [tid, tracer, kind, signal] => resume_line(tid, tracer, kind, signal),
-            _ => Err(LineFault::UnknownWord),
-        },
-        ReplayKeyword::Exit => match words {
-            [tid, how, number] => exit_line(tid, how, number),
-            _ => Err(LineFault::UnknownWord),
-        },
-        ReplayKeyword::State => match words {
-            [tid] => state_line(tid),
-            _ => Err(LineFault::UnknownWord),
-        },
+        ReplayKeyword::Claim => {
+            let (tid, tracer) = words.two()?;
+            claim_line(tid, tracer)
+        }
+        ReplayKeyword::Resume => {
+            let (tid, tracer, kind, signal) = words.four()?;
+            resume_line(tid, tracer, kind, signal)
+        }
+        ReplayKeyword::Exit => {
+            let (tid, how, number) = words.three()?;
+            exit_line(tid, how, number)
+        }
+        ReplayKeyword::State => state_line(words.one()?),
     }
 }
 
-fn publish_line(words: &[&[u8]]) -> Result<Line, LineFault>
-    ensures line { result ≡ publish_line (map (λ w. w.now) words.now) }
+fn publish_line(words: Words<'_>) -> Result<Line, LineFault>
+    ensures line { result ≡ publish_line (words_left words.entry) }
     ensures range { IfOk result IsLine }
 {
-    match words {
-        [tid, name] => publish_plain(tid, name),
-        [tid, name, number] => publish_numbered(tid, name, number),
-        [tid, name, how, number] => publish_ending(tid, name, how, number),
-        _ => Err(LineFault::UnknownWord),
+    let mut rest = words;
+    let tid = rest.word()?;
+    let name = rest.word()?;
+    if rest.is_empty() {
+        return publish_plain(tid, name);
     }
+    if let Ok(number) = rest.one() {
+        return publish_numbered(tid, name, number);
+    }
+    let (how, number) = rest.two()?;
+    publish_ending(tid, name, how, number)
 }
 
 fn row_line(tid: &[u8], tgid: &[u8], pgid: &[u8], parent: &[u8]) -> Result<Line, LineFault>

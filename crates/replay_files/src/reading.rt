@@ -1,22 +1,21 @@
 //! A replay file read whole, before any command of it is run: no fault of a file depends on the board.
 
-ghost use Rattle.std.specs.Prelude.{◌≡◌, ◌≤◌, All, IfErr, IfOk, List, Ok, length, map};
+ghost use Rattle.std.specs.Prelude.{◌≡◌, All, IfErr, IfOk, List, Ok};
 ghost use Rattle.replay_files.specs.declared.order.Order.{Order};
 ghost use Rattle.replay_files.specs.Command.{IsCommand, IsOrder};
-ghost use Rattle.trace_script.specs.Reading.{Refuses, TakesLine, most_bytes};
-ghost use Rattle.replay_files.specs.File.{content_of, nothing, order_added, replay_content_after, replay_words_read};
+ghost use Rattle.replay_files.specs.File.{ReplayContent, replay_content_in, content_of, order_added, replay_line_read};
 ghost use Rattle.replay_files.specs.File.{row_added};
-ghost use Rattle.text_lines.specs.Lines.{lines_of};
 ghost use Rattle.stop_history.specs.declared.roster.Row.{Row};
 ghost use Rattle.stop_history.specs.Roster.{push_fault, row_of};
+ghost use Rattle.trace_script.specs.Reading.{Refuses, TakesLine};
 
 use crate::command::Command;
-use crate::grammar::{Line, WORDS_LOOKED_AT, read_words};
+use crate::grammar::{Line, read_words};
 use crate::order::Order;
 use std::alloc::Allocator;
 use stop_board::{Roster, Row};
-use text_lines::cut_words;
-use trace_script::{CaseError, Cause, MOST_BYTES};
+use text_lines::Words;
+use trace_script::{CaseError, Cause, TakesLines, read_file};
 
 /// The shortest line that is a command.
 const SHORTEST: usize = b"state 1\n".len();
@@ -24,31 +23,34 @@ const SHORTEST: usize = b"state 1\n".len();
 /// How many guesses at rows are kept: one for each remainder of a thread id.
 pub const GUESSES: usize = 256;
 
-/// What a file says: its rows, and the commands to them, each in the order of the file.
+/// What was read of a file: its rows, and the commands to them, each in the order of the file.
 #[derive(Drop)]
 pub(crate) struct ReplayFile<A: Allocator> {
     pub(crate) rows: Roster<A>,
     pub(crate) orders: Vec<Order, A>,
+    /// The rows that were found last.
+    guesses: [u32; GUESSES],
+    /// Room for how many commands is made with the first one.
+    room: usize,
 }
 
-/// Takes one more line, by its words, into the rows and the orders so far, or returns its first fault. The text has
-/// `left` bytes from this line on.
-fn take_line<A: Allocator>(
-    rows: &mut Roster<A>,
-    orders: &mut Vec<Order, A>,
-    guesses: &mut [u32; GUESSES],
-    words: &[&[u8]],
-    left: usize,
-) -> Result<(), Cause>
-    ensures line { TakesLine result (record { rows = rows.new; orders = orders.new.items })
-        (replay_words_read (record { rows = rows.old; orders = orders.old.items }) (map (λ w. w.now) words.now)) }
-    ensures range { All IsOrder orders.old.items → All IsOrder orders.new.items }
-{
-    match read_words(!orders.is_empty(), words)? {
-        Line::Nothing => Ok(()),
-        Line::Row(row) => take_row(rows, row),
-        Line::Command(tid, command) => {
-            take_order(orders, row_of(rows, guesses, tid), command, left)
+impl<'t, A: Allocator> TakesLines<'t> for ReplayFile<A> {
+    ghost Content = { ReplayContent };
+
+    ghost content = { replay_content_in };
+
+    ghost line_read = { λ n. replay_line_read };
+
+    ghost IsSound = { λ file. All IsOrder file.orders.items };
+
+    fn take_line(&mut self, _number: u32, line: &'t [u8]) -> Result<(), Cause> {
+        match read_words(!self.orders.is_empty(), Words::of(line))? {
+            Line::Nothing => Ok(()),
+            Line::Row(row) => take_row(&mut self.rows, row),
+            Line::Command(tid, command) => {
+                let row = row_of(&self.rows, &mut self.guesses, tid);
+                take_order(&mut self.orders, row, command, self.room)
+            }
         }
     }
 }
@@ -83,7 +85,7 @@ fn take_order<A: Allocator>(
     orders: &mut Vec<Order, A>,
     row: Option<u32>,
     command: Command,
-    left: usize,
+    room: usize,
 ) -> Result<(), Cause>
     requires { IsCommand command }
     ensures order { (rows : List Row) → TakesLine result (record { rows = rows; orders = orders.new.items })
@@ -93,7 +95,7 @@ fn take_order<A: Allocator>(
     let Some(row) = row else {
         return Err(Cause::NoSuchTracee);
     };
-    if orders.is_empty() && orders.reserve(left / SHORTEST + 1).is_err() {
+    if orders.is_empty() && orders.reserve(room).is_err() {
         return Err(Cause::NoMemory);
     }
     if orders.push(Order { row, command }).is_err() {
@@ -104,52 +106,16 @@ fn take_order<A: Allocator>(
 
 /// What a file says, or its first fault.
 pub(crate) fn read<A: Allocator + Copy>(alloc: A, text: &[u8]) -> Result<ReplayFile<A>, CaseError>
-    ensures ok { IfOk result (λ script. content_of text.now
-        ≡ Ok (record { rows = script.rows; orders = script.orders.items })) }
+    ensures ok { IfOk result (λ file. content_of text.now ≡ Ok (replay_content_in file)) }
     ensures err { let read = content_of text.now in
         IfErr result (λ error. Refuses text.now error.cause error.line read read) }
-    ensures range { IfOk result (λ script. All IsOrder script.orders.items) }
+    ensures range { IfOk result (λ file. All IsOrder file.orders.items) }
 {
-    if text.len() > MOST_BYTES {
-        return Err(CaseError {
-            line: 1,
-            cause: Cause::TooMany,
-        });
-    }
-    read_lines(alloc, text)
-}
-
-fn read_lines<A: Allocator + Copy>(alloc: A, text: &[u8]) -> Result<ReplayFile<A>, CaseError>
-    requires { length text.now ≤ most_bytes }
-    ensures ok { IfOk result (λ script. replay_content_after 1 nothing (lines_of text.now)
-        ≡ Ok (record { rows = script.rows; orders = script.orders.items })) }
-    ensures err { let read = replay_content_after 1 nothing (lines_of text.now) in
-        IfErr result (λ error. Refuses text.now error.cause error.line read read) }
-    ensures range { IfOk result (λ script. All IsOrder script.orders.items) }
-{
-    let mut rows = Roster::empty(alloc);
-    let mut orders = Vec::new(alloc);
-    let mut guesses = [0u32; GUESSES];
-    let mut words: [&[u8]; WORDS_LOOKED_AT] = [&[]; WORDS_LOOKED_AT];
-    let mut rest = text;
-    let mut number = 1u32;
-    while !rest.is_empty() {
-        let (count, after) = cut_words(rest, &mut words);
-        let taken = take_line(
-            &mut rows,
-            &mut orders,
-            &mut guesses,
-            &words[..count],
-            rest.len(),
-        );
-        if let Err(cause) = taken {
-            return Err(CaseError {
-                line: number,
-                cause,
-            });
-        }
-        rest = after;
-        number += 1;
-    }
-    Ok(ReplayFile { rows, orders })
+    let nothing = ReplayFile {
+        rows: Roster::empty(alloc),
+        orders: Vec::new(alloc),
+        guesses: [0; GUESSES],
+        room: text.len() / SHORTEST + 1,
+    };
+    read_file(nothing, text)
 }

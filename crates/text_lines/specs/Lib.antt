@@ -2,4 +2,4 @@ pub mod Keywords
 pub mod Lines
 pub mod Numbers
 pub mod Ranges
-pub mod Stops
+pub mod Words

@@ -15,3 +15,8 @@ ranged low high (Some n) = if nat_le low n && nat_le n high then Ok n else Err B
 
 abbrev pub number_between : (low high : ℕ) → List ℕ → Result ℕ LineFault
 number_between low high word = ranged low high (number_of word)
+
+-- a result with this made of what it holds
+abbrev pub if_said : {A B E : Type 0} → (A → B) → Result A E → Result B E
+if_said said (Ok x) = Ok (said x)
+if_said said (Err e) = Err e

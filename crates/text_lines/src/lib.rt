@@ -6,12 +6,13 @@ mod fault;
 mod keywords;
 mod lines;
 mod numbers;
-mod stops;
+mod words;
 
 pub use fault::LineFault;
 pub use keywords::keyword;
-pub use lines::{cut_line, cut_words, first_words, last_line};
+pub use lines::{cut_line, last_line};
 pub use numbers::{integer, number, number_between};
+pub use words::Words;
 
 #[cfg(test)]
 mod tests;

@@ -57,35 +57,50 @@ fn a_line_feed_at_the_end_begins_no_line(rt: HostRuntime) {
 
 #[test]
 fn words_are_separated_by_spaces_alone(rt: HostRuntime) {
-    let mut words: [&[u8]; 3] = [&[]; 3];
-    let count = first_words(b"  a\tb  c ", &mut words);
-    same(&rt, &count, &2);
-    same(&rt, &words[0], &b"a\tb".as_slice());
-    same(&rt, &words[1], &b"c".as_slice());
-    let mut words: [&[u8]; 2] = [&[]; 2];
-    let count = first_words(b"a b c", &mut words);
-    same(&rt, &count, &2);
-    same(&rt, &words[1], &b"b".as_slice());
+    let mut words = Words::of(b"  a\tb  c ");
+    same(&rt, &words.next_word(), &Some(b"a\tb".as_slice()));
+    assert!(rt; !words.is_empty());
+    same(&rt, &words.next_word(), &Some(b"c".as_slice()));
+    assert!(rt; words.is_empty());
+    same(&rt, &words.next_word(), &None);
+    assert!(rt; Words::of(b"   ").is_empty());
 }
 
 #[test]
-fn the_first_line_is_cut_into_words(rt: HostRuntime) {
-    let long =
-        b"call read 3 0x7ffd3a100010 4096 = 2 fill 0x7ffd3a100010 0011223344556677 # and more\nnext one";
-    let mut words: [&[u8]; 3] = [&[]; 3];
-    let (count, after) = cut_words(long, &mut words);
-    same(&rt, &count, &3);
-    same(&rt, &words[2], &b"3".as_slice());
-    same(&rt, &after, &b"next one".as_slice());
-    let mut words: [&[u8]; 14] = [&[]; 14];
-    let (count, after) = cut_words(long, &mut words);
-    same(&rt, &count, &13);
-    same(&rt, &words[8], &b"0x7ffd3a100010".as_slice());
-    same(&rt, &words[12], &b"more".as_slice());
-    same(&rt, &after, &b"next one".as_slice());
-    let (count, after) = cut_words(b"  \n", &mut words);
-    same(&rt, &count, &0);
-    assert!(rt; after.is_empty());
+fn words_are_taken_where_they_are_this_many(rt: HostRuntime) {
+    let words = Words::of(b"claim 100 0");
+    same(&rt, &words.two(), &Err(LineFault::UnknownWord));
+    same(&rt, &words.four(), &Err(LineFault::UnknownWord));
+    let Ok((claim, tid, tracer)) = words.three() else {
+        assert!(rt; false);
+        return;
+    };
+    same(&rt, &words.one(), &Err(LineFault::UnknownWord));
+    same(&rt, &words.end(), &Err(LineFault::UnknownWord));
+    same(&rt, &Words::of(b" state ").one(), &Ok(b"state".as_slice()));
+    same(&rt, &Words::of(b" ").end(), &Ok(()));
+    same(&rt, &claim, &b"claim".as_slice());
+    same(&rt, &tid, &b"100".as_slice());
+    same(&rt, &tracer, &b"0".as_slice());
+}
+
+#[test]
+fn words_are_parted_at_the_first_that_is_the_one(rt: HostRuntime) {
+    let Some((before, after)) = Words::of(b"claim 100 0 = refused = ==").split_at(b"=") else {
+        assert!(rt; false);
+        return;
+    };
+    same(
+        &rt,
+        &before.three(),
+        &Ok((b"claim".as_slice(), b"100".as_slice(), b"0".as_slice())),
+    );
+    same(
+        &rt,
+        &after.three(),
+        &Ok((b"refused".as_slice(), b"=".as_slice(), b"==".as_slice())),
+    );
+    assert!(rt; Words::of(b"claim == 0").split_at(b"=").is_none());
 }
 
 #[test]

@@ -1,11 +1,10 @@
 -- The case of a file by what its lines say and what is found after them.
-use Rattle.std.proofs.Common.{refl, ◌≡◌, ◌+◌, ◌≤◌, ◌∷◌, [], ℕ, zero, suc, Bool, true, false, not, List, length, ap, sym}
-use Rattle.std.proofs.Common.{subst, ◌∙◌, arith, cond, nat_le, Option, Some, None, Result, Ok, Err, slice_get}
-use Rattle.std.proofs.lemmas.Bool.Decides.{nat_tests}
+use Rattle.std.proofs.Common.{refl, ◌≡◌, ◌+◌, ◌∷◌, [], ℕ, zero, suc, Bool, true, false, not, List, ap, sym}
+use Rattle.std.proofs.Common.{subst, ◌∙◌, arith, cond, Option, Some, None, Result, Ok, Err, slice_get}
 use Rattle.stop_history.specs.declared.roster.Row.{Row}
 use Rattle.stop_history.specs.History.{is_next_child}
 use Rattle.stop_history.specs.Roster.{is_leader, row_at, row_of}
-use Rattle.text_lines.specs.Lines.{last_line, lines_of}
+use Rattle.text_lines.specs.Lines.{last_line}
 use Rattle.text_lines.specs.Ranges.{◌>>=◌}
 use Rattle.trace_script.specs.declared.case.keyword.Place.{Place}
 use Rattle.trace_script.specs.declared.case.keyword.Place.TheVariants.{Loading, Outside, Stepping}
@@ -17,9 +16,9 @@ use Rattle.trace_script.specs.declared.cause.Cause.{Cause}
 use Rattle.trace_script.specs.declared.cause.Cause.TheVariants as cause
 use Rattle.trace_script.specs.CaseFacts.{AreScripts, IsCase, IsScript}
 use Rattle.trace_script.specs.CaseFile.{CaseContent, Reading, case_of, case_unless, closing_fault, fork_fault, is_alone}
-use Rattle.trace_script.specs.CaseFile.{is_closed, kind_fault, late_fault, late_step_fault, line_read, lines_read}
-use Rattle.trace_script.specs.CaseFile.{nothing_read, or_after, thread_fault, unless}
-use Rattle.trace_script.specs.Reading.{Refuses, most_bytes, read_after}
+use Rattle.trace_script.specs.CaseFile.{is_closed, kind_fault, late_fault, late_step_fault, lines_read}
+use Rattle.trace_script.specs.CaseFile.{or_after, thread_fault, unless}
+use Rattle.trace_script.specs.Reading.{Refuses}
 use Rattle.trace_script.specs.Script.{Script}
 
 -- ---- out of memory is found by no test
@@ -108,26 +107,11 @@ case_is text all read none =
     ap (λ r. r >>= λ more. case_unless (closing_fault (last_line text) more) more) read
     ∙ ap (λ fault. case_unless fault all) none
 
-abbrev lines_by : List ℕ → Result Reading CaseError
-lines_by text = read_after line_read 1 nothing_read (lines_of text)
-
-few_by : {A : Type 0} (n most : ℕ) (x y : A) → n ≤ most → cond (nat_le n most) x y ≡ x
-few_by n most x y few = grind (arith, nat_tests)
-
-pub few_bytes : (text : List ℕ) → length text ≤ most_bytes → lines_read text ≡ lines_by text
-few_bytes text few = few_by (length text) most_bytes (lines_by text) _ few
-
 -- a fault of a line refuses the file
-refused_in : (text : List ℕ) (cause : Cause) (line : ℕ) → Refuses text cause line (lines_read text) (lines_read text)
+pub refused_in : (text : List ℕ) (cause : Cause) (line : ℕ) → Refuses text cause line (lines_read text) (lines_read text)
     → Refuses text cause line (lines_read text) (case_of text)
 refused_in text cause.NoMemory line is = is
 refused_in text cause line is = ap (λ r. r >>= λ all. case_unless (closing_fault (last_line text) all) all) is
-
-pub refused_by_line : (text : List ℕ) (cause : Cause) (line : ℕ) → length text ≤ most_bytes
-    → Refuses text cause line (lines_by text) (lines_by text) → Refuses text cause line (lines_read text) (case_of text)
-refused_by_line text cause line few is =
-    let Refused : Result Reading CaseError → Type 0 = λ lines. Refuses text cause line lines lines in
-    refused_in text cause line (subst Refused (sym (few_bytes text few)) is)
 
 -- ---- the script of a row
 

@@ -1,7 +1,7 @@
 -- The children that are left of a script: those of its steps, but for the step underway once its birth is over.
 use Rattle.std.proofs.Common.{refl, ◌≡◌, ◌+◌, ◌≤◌, ◌<◌, ◌∷◌, ◌++◌, [], ℕ, zero, suc, List, Some, None}
 use Rattle.std.proofs.Common.{Bool, true, false}
-use Rattle.std.proofs.Common.{Option, length, drop, arith, ap, sym, ◌∙◌}
+use Rattle.std.proofs.Common.{Option, length, drop, arith, ap, ◌∙◌}
 use Rattle.std.specs.List.{cons_option}
 use Rattle.std.proofs.lemmas.List.Elements.{filter_map-append}
 use Rattle.trace_options.specs.declared.options.Options.{Options}

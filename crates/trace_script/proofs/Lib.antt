@@ -5,7 +5,6 @@ pub mod Cases
 pub mod ChildrenLeft
 pub mod Deaths
 pub mod Fills
-pub mod FourteenWords
 pub mod Images
 pub mod ImagesBack
 pub mod LinePlaces

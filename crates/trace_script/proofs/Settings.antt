@@ -1,8 +1,7 @@
 -- What is left of a script under other options and under another filter, and the children in it.
-use Rattle.std.proofs.Common.{refl, ◌≡◌, ◌+◌, ◌≤◌, ◌<◌, ◌∷◌, ◌++◌, [], ℕ, zero, suc, Bool, true, false, List, Some, None}
-use Rattle.std.proofs.Common.{Option, length, drop, map, arith, ap, sym, ◌∙◌, subst}
+use Rattle.std.proofs.Common.{refl, ◌≡◌, ◌+◌, ◌∷◌, ◌++◌, [], ℕ, true, false, List, Some, None}
+use Rattle.std.proofs.Common.{drop, map, arith, ap, sym, ◌∙◌}
 use Rattle.std.proofs.lemmas.List.{drop-map, map-append}
-use Rattle.std.specs.Prelude.{◌%◌}
 use Rattle.trace_options.specs.declared.filter.Filter.{Filter}
 use Rattle.trace_options.specs.declared.options.TheConstants.Options.{TRACEEXEC}
 use Rattle.trace_pages.specs.FlatMemory.{FlatMemory}

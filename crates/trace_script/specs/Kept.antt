@@ -1,7 +1,8 @@
 -- A script as the program keeps it, with vectors, read as the plain data of a script. The memory of an image is in
 -- parts or in pages, and is the same flat memory in both.
-use Rattle.std.specs.Prelude.{ℕ, List, drop, map, take, Option, Some, None, Result, Ok, Err}
+use Rattle.std.specs.Prelude.{ℕ, List, drop, map, take, Option, Some, None, Result}
 use denote.Ref.{Bor}
+use Rattle.text_lines.specs.Ranges.{if_said}
 use Rattle.trace_pages.specs.FlatMemory.{FlatMemory}
 use Rattle.trace_script.specs.Script.{Fill, Image, Script, Step}
 use Rattle.trace_script.specs.Script as step
@@ -39,11 +40,6 @@ script_by filled script = record { image = image_of script.image; steps = steps_
 
 abbrev pub script_of : {Z : Type 0} → KeptScript Z → Script
 script_of script = script_by script.filled.items script
-
--- a result with this made of what it holds
-abbrev pub if_said : {A B E : Type 0} → (A → B) → Result A E → Result B E
-if_said said (Ok x) = Ok (said x)
-if_said said (Err e) = Err e
 
 -- what a returned reference points to
 abbrev pub seen : {T E : Type 0} → Result (Bor T) E → Result T E

@@ -11,7 +11,7 @@ use Rattle.trace_script.specs.declared.case.raw_line.RawStep.{RawStep}
 use Rattle.trace_script.specs.declared.case.raw_line.RawStep.TheVariants as raw_step
 use Rattle.trace_script.specs.CaseLine.{Line, Part, bytes_written, is_byte_word, no_image}
 use Rattle.trace_script.specs.CaseLine as line
-pub use Rattle.trace_script.specs.Kept.{if_said}
+pub use Rattle.text_lines.specs.Ranges.{if_said}
 use Rattle.trace_script.specs.Script.{Fill, Step}
 use Rattle.trace_script.specs.Script as step
 

@@ -21,17 +21,15 @@ mod keyword;
 mod late;
 mod line;
 mod raw_line;
-mod reading;
 pub(crate) mod row_words;
 mod signals;
 mod words;
 
-use crate::case::draft::Draft;
+use crate::case::draft::{Draft, new_draft};
 use crate::case::keyword::Place;
 use crate::case::late::late_fault;
-use crate::case::reading::read_lines;
 use crate::cause::{CaseError, Cause};
-use crate::limits::MOST_BYTES;
+use crate::reading::read_file;
 use crate::script::Script;
 use std::alloc::{Allocator, Global};
 use std::marker::Model;
@@ -71,14 +69,10 @@ impl<A: Allocator + Copy> Case<A> {
         ensures err { IfErr result (λ error.
             Refuses text.now error.cause error.line (lines_read text.now) (case_of text.now)) }
     {
-        if text.len() > MOST_BYTES {
-            return Err(CaseError {
-                line: 1,
-                cause: Cause::TooMany,
-            });
+        match read_file(new_draft(alloc), text) {
+            Ok(draft) => finish(draft, text),
+            Err(error) => Err(error),
         }
-        let draft = read_lines(alloc, text)?;
-        finish(draft, text)
     }
 }
 

@@ -1,31 +1,29 @@
 //! The line of a system call: `call NAME A1 .. An = R`, and the same with `fill ADDR BYTES` after it.
 
-ghost use Rattle.std.specs.Prelude.{◌≡◌, ◌<◌, ◌≤◌, IfOk, length, map, position};
-ghost use Rattle.trace_script.specs.CaseLine.{answer_of, answered_call, any_number, argument, argument_count};
-ghost use Rattle.trace_script.specs.CaseLine.{argument_numbers, call_of, filled_call, has_own_line, is_byte_word};
-ghost use Rattle.trace_script.specs.CaseLine.{is_equals};
-ghost use Rattle.trace_script.specs.CaseLine.{named_call, nr_named, plain_call};
+ghost use Rattle.std.specs.Prelude.{◌≡◌, ◌+◌, ◌≤◌, IfOk, drop, map, take};
+ghost use Rattle.text_lines.specs.Words.{words_left};
+ghost use Rattle.trace_script.specs.CaseLine.{answer_of, answered_call, argument, argument_count, argument_numbers};
+ghost use Rattle.trace_script.specs.CaseLine.{call_of, filled_call, has_own_line, is_equals, named_call, nr_named};
+ghost use Rattle.trace_script.specs.CaseLine.{plain_call};
 ghost use Rattle.trace_script.specs.RawLine.{IsTestedCall, call_said, if_said};
 
 use crate::calls::{CLONE, EXECVE, EXIT, FORK};
 use crate::case::raw_line::{RawCall, RawFill};
 use crate::case::words::{any_number, byte_word};
-use text_lines::{LineFault, integer};
+use text_lines::{LineFault, Words, integer};
 use trace_options::Syscall;
 
 /// How many arguments a call has at most.
 const MOST_ARGUMENTS: usize = 6;
 
 /// The call that the words after `call` say.
-pub(crate) fn read_call<'a>(words: &[&'a [u8]]) -> Result<RawCall<'a>, LineFault>
-    ensures call { if_said call_said result ≡ call_of (map (λ w. w.now) words.now) }
+pub(crate) fn read_call<'a>(words: Words<'a>) -> Result<RawCall<'a>, LineFault>
+    ensures call { if_said call_said result ≡ call_of (words_left words.entry) }
     ensures range { IfOk result IsTestedCall }
 {
-    if words.is_empty() {
-        return Err(LineFault::UnknownWord);
-    }
-    let nr = number_of_name(words[0])?;
-    named_call(nr, &words[1..])
+    let mut rest = words;
+    let nr = number_of_name(rest.word()?)?;
+    named_call(nr, rest)
 }
 
 /// The number of a call by its name. A call that has a line of its own is not named.
@@ -45,50 +43,67 @@ fn has_own_line(nr: u64) -> bool
 }
 
 /// The call of this number, by the words after its name.
-fn named_call<'a>(nr: u64, words: &[&'a [u8]]) -> Result<RawCall<'a>, LineFault>
-    ensures call { if_said call_said result ≡ named_call nr (map (λ w. w.now) words.now) }
+fn named_call<'a>(nr: u64, words: Words<'a>) -> Result<RawCall<'a>, LineFault>
+    ensures call { if_said call_said result ≡ named_call nr (words_left words.entry) }
     ensures range { IfOk result IsTestedCall }
 {
-    let count = arguments_before(words)?;
-    answered_call(nr, &words[..count], &words[count + 1..])
+    let mut rest = words;
+    let mut arguments: [&'a [u8]; MOST_ARGUMENTS] = [&[]; MOST_ARGUMENTS];
+    let count = take_arguments(&mut rest, &mut arguments)?;
+    answered_call(nr, &arguments[..count], rest)
 }
 
-/// How many arguments come before the first `=`.
-#[tactic(auto, using(crate::proofs::Places::position_of_map))]
-fn arguments_before(words: &[&[u8]]) -> Result<usize, LineFault>
-    ensures count { result ≡ argument_count (map (λ w. w.now) words.now) }
-    ensures within { IfOk result (λ count. count < length words.now) }
+/// Takes the arguments of a call and the `=` after them, and returns how many arguments there are. UnknownWord where
+/// they are too many, or there is no `=`.
+fn take_arguments<'a>(
+    words: &mut Words<'a>,
+    arguments: &mut [&'a [u8]; MOST_ARGUMENTS],
+) -> Result<usize, LineFault>
+    ensures count { result ≡ argument_count (words_left words.old) }
+    ensures arguments { IfOk result (λ count.
+        map (λ w. w.now) (take count arguments.new) ≡ take count (words_left words.old)) }
+    ensures after { IfOk result (λ count. words_left words.new ≡ drop (count + 1) (words_left words.old)) }
+    ensures within { IfOk result (λ count. count ≤ MOST_ARGUMENTS) }
 {
-    match equals(words) {
-        Some(count) if count <= MOST_ARGUMENTS => Ok(count),
-        _ => Err(LineFault::UnknownWord),
+    let mut count = 0;
+    while let Some(word) = words.next_word() {
+        if is_equals(word) {
+            return Ok(count);
+        }
+        if count == MOST_ARGUMENTS {
+            return Err(LineFault::UnknownWord);
+        }
+        arguments[count] = word;
+        count += 1;
     }
+    Err(LineFault::UnknownWord)
 }
 
-/// The place of the first `=`.
-fn equals(words: &[&[u8]]) -> Option<usize>
-    ensures { result ≡ position (λ w. is_equals w.now) words.now }
+/// Whether a word stands before the answer of a call.
+fn is_equals(word: &[u8]) -> bool
+    ensures { result ≡ is_equals word.now }
 {
-    words.iter().position(|word| *word == b"=".as_slice())
+    word == b"=".as_slice()
 }
 
 /// The call by its arguments and the words after the `=`.
 fn answered_call<'a>(
     nr: u64,
     arguments: &[&'a [u8]],
-    after: &[&'a [u8]],
+    after: Words<'a>,
 ) -> Result<RawCall<'a>, LineFault>
     ensures call { if_said call_said result
-        ≡ answered_call nr (map (λ w. w.now) arguments.now) (map (λ w. w.now) after.now) }
+        ≡ answered_call nr (map (λ w. w.now) arguments.now) (words_left after.entry) }
     ensures range { IfOk result IsTestedCall }
 {
-    match after {
-        [answer] => plain_call(nr, arguments, answer),
-        [answer, word, address, bytes] if *word == b"fill".as_slice() => {
-            filled_call(nr, arguments, answer, address, bytes)
-        }
-        _ => Err(LineFault::UnknownWord),
+    if let Ok(answer) = after.one() {
+        return plain_call(nr, arguments, answer);
     }
+    let (answer, word, address, bytes) = after.four()?;
+    if word != b"fill".as_slice() {
+        return Err(LineFault::UnknownWord);
+    }
+    filled_call(nr, arguments, answer, address, bytes)
 }
 
 fn plain_call<'a>(nr: u64, arguments: &[&'a [u8]], answer: &[u8]) -> Result<RawCall<'a>, LineFault>

@@ -1,9 +1,10 @@
 //! What was read of a case file so far.
 
-ghost use Rattle.std.specs.Prelude.{◌≡◌, ◌++◌, OnOk, map, option_to_list};
+ghost use Rattle.std.specs.Prelude.{◌≡◌, ◌++◌, OnOk, option_to_list};
+ghost use Rattle.trace_script.specs.CaseFile as file;
 ghost use Rattle.trace_script.specs.CaseFile.{nothing_read, with_line};
 ghost use Rattle.trace_script.specs.CaseLine as line;
-ghost use Rattle.trace_script.specs.Draft.{reading_of, words_read};
+ghost use Rattle.trace_script.specs.Draft.{reading_of};
 ghost use Rattle.trace_script.specs.OpenBlock.{IsCounted};
 ghost use Rattle.trace_script.specs.RawLine.{IsTested, IsTestedPart, IsTestedStep, line_said, part_said, step_said};
 ghost use Rattle.trace_script.specs.Reading.{TakesLine};
@@ -16,15 +17,18 @@ use crate::case::late::Late;
 use crate::case::line::read_words;
 use crate::case::raw_line::{RawLine, RawPart, RawStep};
 use crate::cause::Cause;
+use crate::reading::TakesLines;
 use crate::script::Script;
 use std::alloc::Allocator;
 use std::mem;
 use stop_history::{Roster, Row};
+use text_lines::Words;
 use trace_options::NoMemory;
 
 /// What was read so far.
 #[derive(Drop)]
 pub(crate) struct Draft<A: Allocator> {
+    alloc: A,
     /// Where the next line is.
     pub(crate) place: Place,
     /// The rows of all blocks.
@@ -45,6 +49,7 @@ pub(crate) fn new_draft<A: Allocator + Copy>(alloc: A) -> Draft<A>
     ensures counted { IsCounted result.block }
 {
     Draft {
+        alloc,
         place: Place::Outside,
         rows: Roster::empty(alloc),
         scripts: Vec::new(alloc),
@@ -54,25 +59,23 @@ pub(crate) fn new_draft<A: Allocator + Copy>(alloc: A) -> Draft<A>
     }
 }
 
-/// Takes one more line by its first words, or returns its first fault.
-pub(crate) fn take_line<A: Allocator + Copy>(
-    alloc: A,
-    draft: &mut Draft<A>,
-    number: u32,
-    words: &[&[u8]],
-) -> Result<(), Cause>
-    requires { IsCounted draft.old.block }
-    ensures line { TakesLine result (reading_of draft.new)
-        (words_read number (reading_of draft.old) (map (λ w. w.now) words.now)) }
-    ensures counted { OnOk result (IsCounted draft.new.block) }
-{
-    let said = read_words(draft.place, words)?;
-    take_said(alloc, draft, number, said)
+impl<'t, A: Allocator + Copy> TakesLines<'t> for Draft<A> {
+    ghost Content = { file.Reading };
+
+    ghost content = { reading_of };
+
+    ghost line_read = { file.line_read };
+
+    ghost IsSound = { λ draft. IsCounted draft.block };
+
+    fn take_line(&mut self, number: u32, line: &'t [u8]) -> Result<(), Cause> {
+        let said = read_words(self.place, Words::of(line))?;
+        take_said(self, number, said)
+    }
 }
 
 /// Takes what one more line says.
 fn take_said<A: Allocator + Copy>(
-    alloc: A,
     draft: &mut Draft<A>,
     number: u32,
     line: RawLine,
@@ -85,30 +88,26 @@ fn take_said<A: Allocator + Copy>(
 {
     match line {
         RawLine::Nothing => Ok(()),
-        RawLine::Opens(row) => open_block(alloc, draft, row),
-        RawLine::Loads(part) => load_in_block(alloc, draft, part),
-        RawLine::Does(step) => take_step(alloc, draft, number, step),
-        RawLine::Closes => close_block(alloc, draft),
+        RawLine::Opens(row) => open_block(draft, row),
+        RawLine::Loads(part) => load_in_block(draft, part),
+        RawLine::Does(step) => take_step(draft, number, step),
+        RawLine::Closes => close_block(draft),
     }
 }
 
 /// Opens the block of a row.
-fn open_block<A: Allocator + Copy>(alloc: A, draft: &mut Draft<A>, row: Row) -> Result<(), Cause>
+fn open_block<A: Allocator + Copy>(draft: &mut Draft<A>, row: Row) -> Result<(), Cause>
     ensures line { TakesLine result (reading_of draft.new) (with_line 0 (reading_of draft.old) (line.Opens row)) }
     ensures counted { OnOk result (IsCounted draft.new.block) }
 {
     draft.rows.push(row)?;
     draft.place = Place::Loading;
-    draft.block = new_block(alloc);
+    draft.block = new_block(draft.alloc);
     Ok(())
 }
 
 /// Loads one more part of an image.
-fn load_in_block<A: Allocator + Copy>(
-    alloc: A,
-    draft: &mut Draft<A>,
-    part: RawPart,
-) -> Result<(), Cause>
+fn load_in_block<A: Allocator + Copy>(draft: &mut Draft<A>, part: RawPart) -> Result<(), Cause>
     requires counted { IsCounted draft.old.block }
     requires tested { IsTestedPart part }
     ensures line { TakesLine result (reading_of draft.new)
@@ -116,7 +115,7 @@ fn load_in_block<A: Allocator + Copy>(
     ensures counted { OnOk result (IsCounted draft.new.block) }
 {
     load_part(
-        alloc,
+        draft.alloc,
         &draft.digits,
         &mut draft.block.script,
         &mut draft.block.memory,
@@ -126,7 +125,6 @@ fn load_in_block<A: Allocator + Copy>(
 
 /// Takes one more step.
 fn take_step<A: Allocator + Copy>(
-    alloc: A,
     draft: &mut Draft<A>,
     number: u32,
     step: RawStep,
@@ -145,7 +143,7 @@ fn take_step<A: Allocator + Copy>(
     if push_late(&mut draft.late, late).is_err() {
         return Err(Cause::NoMemory);
     }
-    if add_step(alloc, &draft.digits, &mut draft.block, step).is_err() {
+    if add_step(draft.alloc, &draft.digits, &mut draft.block, step).is_err() {
         return Err(Cause::NoMemory);
     }
     draft.place = place_after(step);
@@ -163,11 +161,11 @@ fn push_late<A: Allocator>(all: &mut Vec<Late, A>, late: Option<Late>) -> Result
 }
 
 /// Closes the block.
-fn close_block<A: Allocator + Copy>(alloc: A, draft: &mut Draft<A>) -> Result<(), Cause>
+fn close_block<A: Allocator + Copy>(draft: &mut Draft<A>) -> Result<(), Cause>
     ensures line { TakesLine result (reading_of draft.new) (with_line 0 (reading_of draft.old) line.Closes) }
     ensures counted { OnOk result (IsCounted draft.new.block) }
 {
-    let Block { script, .. } = mem::replace(&mut draft.block, new_block(alloc));
+    let Block { script, .. } = mem::replace(&mut draft.block, new_block(draft.alloc));
     if draft.scripts.push(script).is_err() {
         return Err(Cause::NoMemory);
     }

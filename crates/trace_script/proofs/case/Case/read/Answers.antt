@@ -1,8 +1,15 @@
--- A file of few bytes is read line by line.
-use Rattle.std.proofs.Common.{◌∙◌, arith}
-use Rattle.trace_script.proofs.Cases.{few_bytes}
+-- A fault of a line refuses the file.
+use Rattle.std.proofs.Common.{subst}
+use Rattle.trace_script.specs.CaseFile.{Reading, line_read}
+use Rattle.trace_script.specs.Reading.{Refuses, read_file}
+use Rattle.trace_script.proofs.Cases.{refused_in}
 use Rattle.trace_script.proofs.case.Case.read.Goals as goal
 
-pub finish-requires-clause-lines : goal.finish-requires-clause-lines
-finish-requires-clause-lines g c =
-    few_bytes c.args.text.now (omega arith) ∙ c.in_ok-draft.ensures.ok
+pub returns-in-Err-clause-err : goal.returns-in-Err-clause-err
+returns-in-Err-clause-err g c =
+    let text = c.args.text.now in
+    let cause = c.in-Err.error.cause in
+    let line = c.in-Err.error.line in
+    let Refused : Reading → Type 0 = λ nothing. let read = read_file line_read nothing text in
+    Refuses text cause line read read in
+    refused_in text cause line (subst Refused c.new_draft.ensures.reading c.in-Err.ensures.err)

@@ -1,8 +1,6 @@
 -- The children that are left, by how far the machine is.
 use Rattle.std.proofs.Common.{ap, length, sym, ◌∙◌}
-use Rattle.trace_script.specs.Births.{children_left}
 use Rattle.trace_script.specs.Kept.{steps_of}
-use Rattle.trace_script.specs.Left.{left_by}
 use Rattle.trace_script.proofs.ChildrenLeft.{created_steps}
 use Rattle.trace_script.proofs.machine.births.births_by.Goals as goal
 

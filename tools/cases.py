@@ -233,8 +233,9 @@ def wanted_run(where, words, given, stdout, stderr, status):
 
 
 def random_runs():
-    """The runs of random litmus files and of one of a long text, with what litmus.py makes of them."""
+    """The runs of random litmus files, and of two that are not, with what litmus.py makes of them."""
     yield wanted_run("the litmus file of a long text", *litmus.long_run())
+    yield wanted_run("the litmus file of many ends", *litmus.many_ends())
     for number, found in enumerate(litmus.random_runs(RANDOM_FILES), 1):
         yield wanted_run(f"random litmus file {number}:\n{found[1].decode()}", *found)
 
@@ -338,7 +339,7 @@ def all_runs():
             print(f"  {len(more):4} more runs of these, with options and as replays")
     more = [*random_runs()]
     runs += more
-    print(f"  {len(more):4} litmus files, random ones and one of a long text")
+    print(f"  {len(more):4} litmus files, random ones, one of a long text and one of many ends")
     paths = sorted((TOP / "tests/cases").glob("*.cases"))
     for path in paths:
         found = runs_of_file(path)

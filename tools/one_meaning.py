@@ -23,7 +23,15 @@ import rattle_source
 ROOT = pathlib.Path(__file__).resolve().parent.parent
 # Names that stand for two things, each with the reason.
 ALLOWED = {}
-TEST_CRATES = ("system_tests", "test_support", "thread_tests", "outcome_tests", "call_tests", "script_tests")
+TEST_CRATES = (
+    "test_support",
+    "thread_tests",
+    "explorer_tests",
+    "outcome_tests",
+    "call_tests",
+    "script_tests",
+    "system_tests",
+)
 COMMENT = re.compile(r"(?m)(?:^|(?<=[\s(]))--(?=[\s-]|$)[^\n]*")
 # The head of a definition, or the signature of one that has no head.
 DEFINITION = re.compile(

@@ -3,6 +3,9 @@ pub mod AllOf
 pub mod Beginnings
 pub mod CameTrue
 pub mod DoneTurns
+pub mod EndLines
+pub mod EndTallies
+pub mod EndWords
 pub mod EqualStates
 pub mod Halving
 pub mod KeptLines
@@ -12,7 +15,6 @@ pub mod Printing
 pub mod SearchedFiles
 pub mod SetLists
 pub mod SomeChosen
-pub mod Tallies
 pub mod TextOfParts
 pub mod TurnTexts
 pub mod Unmet

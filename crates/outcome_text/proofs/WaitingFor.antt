@@ -1,5 +1,5 @@
 -- The refusal that states decide is the one that a call gets at each history that leaves them.
-use Rattle.std.proofs.Common.{refl, ◌≡◌, ◌∙◌, ℕ, Bool, true, false, List, Option, Some, None, Ok, Err, Result}
+use Rattle.std.proofs.Common.{refl, ◌≡◌, ◌∙◌, ◌⊎◌, ℕ, Bool, true, false, List, Option, Some, None, Ok, Err, Result}
 use Rattle.std.proofs.Common.{◌+◌, ◌≤◌, ap, arith, inl, inr, le-ltb, length, nat_lt, not}
 use Rattle.std.proofs.Common.{if◌then◌else◌, option_map, sym}
 use Rattle.std.proofs.lemmas.Bool.{cases_lt}
@@ -10,13 +10,14 @@ use Rattle.std.specs.Result.{result_err}
 use Rattle.stop_explorer.specs.BoardCall.{answer_to, claim_told, done_told, look_told, publish_told}
 use Rattle.stop_explorer.specs.Command.{is_lasting, is_lasting_refusal}
 use Rattle.stop_explorer.specs.Run.{states_of}
+use Rattle.stop_explorer.specs.declared.answer.Answer.{Answer}
 use Rattle.stop_explorer.specs.declared.answer.Answer.TheVariants as answer
 use Rattle.stop_explorer.specs.declared.board_call.BoardCall.{BoardCall}
 use Rattle.stop_explorer.specs.declared.board_call.BoardCall.TheVariants as call
 use Rattle.stop_history.specs.Event.{History}
 use Rattle.stop_history.specs.History.{births_after, creates_next, holding_back, holds_back}
 use Rattle.stop_history.specs.Roster.{is_leader, row_at}
-use Rattle.stop_history.specs.Sequential.{claim_answer, exit_answer, publish_by, resume_answer}
+use Rattle.stop_history.specs.Sequential.{and_then, claim_answer, exit_answer, next_number, resume_answer}
 use Rattle.stop_history.specs.Sequential.{running_by}
 use Rattle.stop_history.specs.State.{last_number, state_after}
 use Rattle.stop_history.specs.declared.got.Got.{Got}
@@ -48,111 +49,90 @@ listed rows h row = elim (cases_lt row (length rows)) [
 all_listed : (rows : List Row) (h : History) → state_at (states_of rows (state_after rows h)) ≡ state_after rows h
 all_listed rows h = λ i row. listed rows h row i
 
--- ---- calls that go by the state of their row alone
+-- ---- the refusal of an answer
 
-claim_gets : (reply : Result Got Refused) (refusal : Refused) → claim_told reply ≡ answer.Refused refusal
-    → result_err reply ≡ Some refusal
-claim_gets (Ok got) refusal told = cc
-claim_gets (Err other) refusal told = cc
+abbrev refusal_in : Answer → Option Refused
+refusal_in (answer.Refused refusal) = Some refusal
+refusal_in other = None
 
-claim_is : (reply : Result Got Refused) (refusal : Refused) → result_err reply ≡ Some refusal
-    → claim_told reply ≡ answer.Refused refusal
-claim_is (Ok got) refusal is = cc
-claim_is (Err other) refusal is = cc
+claim_refused : (reply : Result Got Refused) → refusal_in (claim_told reply) ≡ result_err reply
+claim_refused (Ok got) = refl
+claim_refused (Err refusal) = refl
 
-look_gets : (reply : Result Got Refused) (refusal : Refused) → look_told reply ≡ answer.Refused refusal
-    → result_err reply ≡ Some refusal
-look_gets (Ok got) refusal told = cc
-look_gets (Err other) refusal told = cc
+look_refused : (reply : Result Got Refused) → refusal_in (look_told reply) ≡ result_err reply
+look_refused (Ok got) = refl
+look_refused (Err refusal) = refl
 
-look_is : (reply : Result Got Refused) (refusal : Refused) → result_err reply ≡ Some refusal
-    → look_told reply ≡ answer.Refused refusal
-look_is (Ok got) refusal is = cc
-look_is (Err other) refusal is = cc
+done_refused : (reply : Result (Unit {0}) Refused) → refusal_in (done_told reply) ≡ result_err reply
+done_refused (Ok done) = refl
+done_refused (Err refusal) = refl
 
-done_gets : (reply : Result (Unit {0}) Refused) (refusal : Refused) → done_told reply ≡ answer.Refused refusal
-    → result_err reply ≡ Some refusal
-done_gets (Ok done) refusal told = cc
-done_gets (Err other) refusal told = cc
+is_refused : (told : Answer) (refusal : Refused) → refusal_in told ≡ Some refusal → told ≡ answer.Refused refusal
+is_refused (answer.Refused other) refusal is = cc
+is_refused (answer.Number number) refusal is = cc
+is_refused (answer.State at) refusal is = cc
+is_refused (answer.Got got) refusal is = cc
+is_refused (answer.Saw got) refusal is = cc
+is_refused answer.Done refusal is = cc
+is_refused answer.Nothing refusal is = cc
+is_refused answer.NoChild refusal is = cc
 
-done_is : (reply : Result (Unit {0}) Refused) (refusal : Refused) → result_err reply ≡ Some refusal
-    → done_told reply ≡ answer.Refused refusal
-done_is (Ok done) refusal is = cc
-done_is (Err other) refusal is = cc
+-- ---- each call: its refusal is the one that is waited for, or it waits for none and has an answer that lasts
 
--- ---- a publish, whose other refusals do not pass
+abbrev Agree : (waits : Option Refused) → Answer → Type 0
+Agree waits told = (refusal_in told ≡ waits) ⊎ ((waits ≡ None) × (is_lasting told ≡ true))
 
-number_lasts : (next room : Bool) (number : ℕ) (refusal : Refused)
-    → publish_told (if not next then Err refused.NotNext else if room then Ok (number + 1) else Err refused.Full)
-    ≡ answer.Refused refusal
-    → is_lasting_refusal refusal ≡ true
-number_lasts false room number refusal told = sym (ap is_lasting told)
-number_lasts true true number refusal told = cc
-number_lasts true false number refusal told = sym (ap is_lasting told)
+number_lasts : (next room : Bool) (number : ℕ)
+    → is_lasting (publish_told (if not next then Err refused.NotNext
+    else if room then Ok (number + 1) else Err refused.Full)) ≡ true
+number_lasts false room number = refl
+number_lasts true true number = refl
+number_lasts true false number = refl
 
-publish_gets : (at : State) (next : Bool) (number : ℕ) (refusal : Refused)
-    → publish_told (publish_by at next number) ≡ answer.Refused refusal → is_lasting_refusal refusal ≡ false
-    → result_err (running_by at) ≡ Some refusal
-publish_gets state.Absent next number refusal told passes = cc
-publish_gets state.Unborn next number refusal told passes = cc
-publish_gets state.Running next number refusal told passes =
-    let lasts = number_lasts next (nat_lt number LAST_NUMBER) number refusal told in
-    let clash : true ≡ false = sym lasts ∙ passes in cc
-publish_gets (state.Stopped n status) next number refusal told passes = cc
-publish_gets (state.Claimed n tracer) next number refusal told passes = cc
-publish_gets (state.Dead n status) next number refusal told passes = cc
-publish_gets state.Reaped next number refusal told passes = cc
+publish_agrees : (reply : Result (Unit {0}) Refused) (number : Result ℕ Refused)
+    → is_lasting (publish_told number) ≡ true → Agree (result_err reply) (publish_told (and_then reply number))
+publish_agrees (Ok done) number lasts = inr (refl, lasts)
+publish_agrees (Err refusal) number lasts = inl refl
 
-publish_is : (at : State) (next : Bool) (number : ℕ) (refusal : Refused) → result_err (running_by at) ≡ Some refusal
-    → publish_told (publish_by at next number) ≡ answer.Refused refusal
-publish_is state.Absent next number refusal is = cc
-publish_is state.Unborn next number refusal is = cc
-publish_is state.Running next number refusal is = cc
-publish_is (state.Stopped n status) next number refusal is = cc
-publish_is (state.Claimed n tracer) next number refusal is = cc
-publish_is (state.Dead n status) next number refusal is = cc
-publish_is state.Reaped next number refusal is = cc
+agree : (rows : List Row) (h : History) (row : ℕ) (asked : BoardCall)
+    → Agree (waiting_refusal rows (state_after rows h) row asked) (answer_to rows h row asked)
+agree rows h row (call.Publish stop) =
+    let next = creates_next rows row (births_after h row) stop in
+    let number = last_number h row in
+    publish_agrees (running_by (state_after rows h row)) (next_number next number)
+    (number_lasts next (nat_lt number LAST_NUMBER) number)
+agree rows h row call.State = inl refl
+agree rows h row (call.Look tracer) = inl (look_refused (claim_answer rows h row tracer))
+agree rows h row (call.Claim tracer) = inl (claim_refused (claim_answer rows h row tracer))
+agree rows h row (call.Resume tracer how) = inl (done_refused (resume_answer rows h row tracer))
+agree rows h row (call.Exit death) = inl (done_refused (exit_answer rows h row))
 
--- ---- each call
+-- so a refusal that may pass is waited for, and one that is waited for is got
+waited_for : (waits : Option Refused) (told : Answer) (refusal : Refused) → Agree waits told
+    → told ≡ answer.Refused refusal → is_lasting_refusal refusal ≡ false → waits ≡ Some refusal
+waited_for waits told refusal (inl same) is passes = sym same ∙ ap refusal_in is
+waited_for waits told refusal (inr lasts) is passes =
+    let clash : true ≡ false = sym lasts.1 ∙ ap is_lasting is ∙ passes in cc
 
-passing_gets : (rows : List Row) (h : History) (row : ℕ) (asked : BoardCall) (refusal : Refused)
-    → answer_to rows h row asked ≡ answer.Refused refusal → is_lasting_refusal refusal ≡ false
-    → waiting_refusal rows (state_after rows h) row asked ≡ Some refusal
-passing_gets rows h row (call.Publish stop) refusal told passes =
-    publish_gets (state_after rows h row) (creates_next rows row (births_after h row) stop) (last_number h row)
-    refusal told passes
-passing_gets rows h row call.State refusal told passes = cc
-passing_gets rows h row (call.Look tracer) refusal told passes = look_gets (claim_answer rows h row tracer) refusal told
-passing_gets rows h row (call.Claim tracer) refusal told passes =
-    claim_gets (claim_answer rows h row tracer) refusal told
-passing_gets rows h row (call.Resume tracer how) refusal told passes =
-    done_gets (resume_answer rows h row tracer) refusal told
-passing_gets rows h row (call.Exit death) refusal told passes = done_gets (exit_answer rows h row) refusal told
-
-said_gets : (rows : List Row) (h : History) (row : ℕ) (asked : BoardCall) (refusal : Refused)
-    → waiting_refusal rows (state_after rows h) row asked ≡ Some refusal
-    → answer_to rows h row asked ≡ answer.Refused refusal
-said_gets rows h row (call.Publish stop) refusal waits =
-    publish_is (state_after rows h row) (creates_next rows row (births_after h row) stop) (last_number h row)
-    refusal waits
-said_gets rows h row call.State refusal waits = cc
-said_gets rows h row (call.Look tracer) refusal waits = look_is (claim_answer rows h row tracer) refusal waits
-said_gets rows h row (call.Claim tracer) refusal waits = claim_is (claim_answer rows h row tracer) refusal waits
-said_gets rows h row (call.Resume tracer how) refusal waits = done_is (resume_answer rows h row tracer) refusal waits
-said_gets rows h row (call.Exit death) refusal waits = done_is (exit_answer rows h row) refusal waits
+got_for : (waits : Option Refused) (told : Answer) (refusal : Refused) → Agree waits told → waits ≡ Some refusal
+    → told ≡ answer.Refused refusal
+got_for waits told refusal (inl same) is = is_refused told refusal (same ∙ is)
+got_for waits told refusal (inr lasts) is = let clash : None ≡ Some refusal = sym lasts.0 ∙ is in cc
 
 pub passing : (rows : List Row) (h : History) (row : ℕ) (asked : BoardCall) (refusal : Refused)
     → answer_to rows h row asked ≡ answer.Refused refusal → is_lasting_refusal refusal ≡ false
     → waiting_refusal rows (state_at (states_of rows (state_after rows h))) row asked ≡ Some refusal
 passing rows h row asked refusal told passes =
     ap (λ (states : ℕ → State). waiting_refusal rows states row asked) (all_listed rows h)
-    ∙ passing_gets rows h row asked refusal told passes
+    ∙ waited_for (waiting_refusal rows (state_after rows h) row asked) (answer_to rows h row asked) refusal
+    (agree rows h row asked) told passes
 
 pub refused_so : (rows : List Row) (h : History) (row : ℕ) (asked : BoardCall) (refusal : Refused)
     → waiting_refusal rows (state_at (states_of rows (state_after rows h))) row asked ≡ Some refusal
     → answer_to rows h row asked ≡ answer.Refused refusal
 refused_so rows h row asked refusal waits =
-    said_gets rows h row asked refusal
+    got_for (waiting_refusal rows (state_after rows h) row asked) (answer_to rows h row asked) refusal
+    (agree rows h row asked)
     (sym (ap (λ (states : ℕ → State). waiting_refusal rows states row asked) (all_listed rows h)) ∙ waits)
 
 -- ---- who holds a leader back

@@ -1,14 +1,15 @@
 -- How outcomes end, and how many end alike: the last states of the tracees, by their names alone, and the threads that
 -- wait. Outcomes end alike where this is written alike.
-use Rattle.std.specs.Prelude.{◌+◌, ◌==◌, ◌++◌, ◌∷◌, [], ℕ, zero, suc, Bool, not, List, length, map, filter, flat_map}
-use Rattle.std.specs.Prelude.{Option, codes, decimal, bytes_eq, slice_index_or, count_by, zip, if◌then◌else◌}
+use Rattle.std.specs.Prelude.{◌≡◌, ◌+◌, ◌==◌, ◌++◌, ◌∷◌, [], ℕ, zero, suc, Bool, not, List, length, map, filter}
+use Rattle.std.specs.Prelude.{flat_map, Option, codes, decimal, bytes_eq, slice_index_or, count_by, zip, if◌then◌else◌}
+use Rattle.std.specs.Prelude.{string_bytes, String}
 use Rattle.std.specs.List.{list_any, range_with_len}
 use Rattle.stop_history.specs.declared.roster.Row.{Row}
 use Rattle.stop_history.specs.declared.state.State.{State}
 use Rattle.stop_explorer.specs.declared.command.ThreadCommand.{ThreadCommand}
 use Rattle.stop_explorer.specs.Program.{Log}
 use Rattle.stop_explorer.specs.Run.{EndedRun}
-use Rattle.outcome_text.specs.declared.ends.Tally.{Tally}
+use Rattle.outcome_text.specs.declared.end_tallies.Tally.{Tally}
 use Rattle.outcome_text.specs.Conditions.{waits_at_end}
 use Rattle.outcome_text.specs.OutcomeText.{allowed_line, counts_line, name_at, thread_word}
 use Rattle.replay_files.specs.StateName.{state_word}
@@ -73,11 +74,29 @@ tally_of ends first = record { first = first; count = count_like ends (end_at en
 abbrev pub tallies_of : (ends : List (List ℕ)) → List Tally
 tallies_of ends = map (tally_of ends) (first_ends ends)
 
+-- an end and its outcomes, by the first of them
+abbrev pub end_with_tally : (ends : List (List ℕ)) → (first : ℕ) → List ℕ × Tally
+end_with_tally ends first = (end_at ends first, tally_of ends first)
+
+-- the same, as it is kept
+abbrev pub entry_told : {Z : Type 0} → String Z × Tally → List ℕ × Tally
+entry_told entry = (string_bytes entry.0, entry.1)
+
+-- each end is kept once, in the order of the first outcomes, and how many outcomes there are
+pub record AreTallied {Z : Type 0} (entries : List (String Z × Tally)) (outcomes : ℕ) (ends : List (List ℕ)) : Type 0
+  where
+    pub counted : outcomes ≡ length ends
+    pub each : map entry_told entries ≡ map (end_with_tally ends) (first_ends ends)
+
 -- ---- their lines
 
 -- outcomes are numbered from 1
 abbrev pub end_head : (count place : ℕ) → List ℕ
 end_head count place = decimal count ++ codes " outcomes, first " ++ decimal (place + 1) ++ codes ": "
+
+-- the line of an end that is kept
+abbrev pub end_line : {Z : Type 0} → String Z × Tally → List ℕ
+end_line entry = end_head entry.1.count entry.1.first ++ (string_bytes entry.0 ++ codes "\n")
 
 -- the line of outcomes that end alike, where there are this many of them
 abbrev pub tally_line : (ends : List (List ℕ)) → (count : ℕ) → Tally → List ℕ

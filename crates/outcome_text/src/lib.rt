@@ -9,6 +9,7 @@ mod answer_text;
 mod chosen;
 mod command_text;
 mod condition;
+mod end_tallies;
 mod ends;
 mod forbidden;
 mod kept_lines;

@@ -1,11 +1,9 @@
-//! Tests of runs of a case and of the explorer; the README's first example. They are in a crate at the top, because a crate
+//! Tests of runs of a case (`tracer_workers`); the first example of RATTLE.md. They are above that crate, because a crate
 //! with tests is proved twice.
 #![tactic(auto)]
 
 #[cfg(test)]
 mod compare;
-#[cfg(test)]
-mod explorer;
 #[cfg(test)]
 mod readme;
 #[cfg(test)]

@@ -1,4 +1,4 @@
-//! The first example of the README, as printed there.
+//! The first example of RATTLE.md, as printed there.
 
 use std::alloc::Global;
 use stop_board::{Action, NoMemory, Reply, Roster, Row, State, World};

@@ -1,4 +1,4 @@
-//! The second example of the README, as printed there.
+//! The second example of RATTLE.md, as printed there.
 
 use crate::waits::answers::started;
 use crate::waits::caller::{Waiter, end};

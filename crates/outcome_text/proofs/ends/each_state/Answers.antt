@@ -5,7 +5,7 @@ use Rattle.std.proofs.lemmas.Slice.Zip.{length-zip, zip_end, zip_turn}
 use Rattle.std.specs.Iterator.Adapters.{zip_first, zip_second}
 use Rattle.std.specs.Slice.Iter.{iter_rest}
 use Rattle.outcome_text.specs.OutcomeEnds.{last_state}
-use Rattle.outcome_text.proofs.Tallies.{mapped_push, states_more}
+use Rattle.outcome_text.proofs.EndWords.{mapped_push, states_more}
 use Rattle.outcome_text.proofs.ends.each_state.Goals as goal
 
 pub loop-row-preserved : goal.loop-row-preserved

@@ -5,7 +5,7 @@ use Rattle.stop_explorer.specs.Search.{commands_in}
 use Rattle.outcome_text.specs.Conditions.{waits_at_end}
 use Rattle.litmus_files.specs.LitmusDraft.{names_kept}
 use Rattle.outcome_text.specs.OutcomeText.{name_at, thread_word}
-use Rattle.outcome_text.proofs.Tallies.{mapped_push, waiting_less, waiting_more}
+use Rattle.outcome_text.proofs.EndWords.{mapped_push, waiting_less, waiting_more}
 use Rattle.outcome_text.proofs.ends.who_waits.Goals as goal
 use Rattle.outcome_text.proofs.ends.who_waits.Goals.{then-waits_at_end+in_ok-waiting_word+in_ok-push, else-waits_at_end}
 

@@ -2,7 +2,7 @@
 use Rattle.std.proofs.Common.{◌∙◌, ◌++◌, ap, append_assoc, arith, codes, map, string_bytes, sym}
 use Rattle.std.proofs.lemmas.List.{length-map}
 use Rattle.outcome_text.specs.OutcomeEnds.{listed}
-use Rattle.outcome_text.proofs.Tallies.{several_wait}
+use Rattle.outcome_text.proofs.EndWords.{several_wait}
 use Rattle.outcome_text.proofs.ends.write_who_waits.Goals as goal
 
 pub returns-in_ok-push_str-in_default : goal.returns-in_ok-push_str-in_default

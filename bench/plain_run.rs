@@ -1,6 +1,7 @@
-//! The run of a case file on standard input as a plain Rust program, to measure against: the standard library only, safe
-//! code, one thread. It reads the case as `plain_case.rs` does, runs the scripts one after the other, and prints the text
-//! of each row at once, with every call shown. Its argument is how many bytes of a string are shown, 32 without one.
+//! The run of a case file on standard input as a plain Rust program, to measure against: the standard library only,
+//! safe code, one thread. It reads the case as `plain_case.rs` does, runs the scripts one after the other, and prints
+//! the text of each row at once, with every call shown. Its argument is how many bytes of a string are shown, 32
+//! without one.
 
 #[path = "plain_case.rs"]
 pub mod plain_case;

@@ -1,5 +1,5 @@
-/* Times rounds of one tracee and one tracer on one thread, through the handles of the library for C (make bench-c). In a
- * round the tracee takes its row up and publishes a stop, and the tracer waits for it and restarts it.
+/* Times rounds of one tracee and one tracer on one thread, through the handles of the library for C (make bench-c). In
+ * a round the tracee takes its row up and publishes a stop, and the tracer waits for it and restarts it.
  * bench/rounds_inside.rattle makes the same calls inside Rattle. */
 #include <pukzarn.h>
 #include <stdio.h>

@@ -2,7 +2,7 @@
 #include "check.h"
 #include <sys/ptrace.h>
 
-/* The worked case of README.md. */
+/* The case of docs/formats/case-files.md. */
 static const char worked[] = "tracee 100 100 77 0\n"
                              "page 0x10000\n"
                              "data 0x10000 68690a\n"

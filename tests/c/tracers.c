@@ -1,5 +1,5 @@
 /* Scripts and a tracer's loop on threads, a thread for each tracee and for each tracer: with 1, 2 and 16 tracers each
- * stop is got once. First the worked case of README.md, and then one of 20,000 stops. */
+ * stop is got once. First the case of docs/formats/case-files.md, and then one of 20,000 stops. */
 #include "check.h"
 #include <pthread.h>
 #include <sched.h>

@@ -207,6 +207,13 @@ static void with_other_bits(pukzarn_sim *sim, void *unused)
     pukzarn_sim_options(sim, 0x40000000);
 }
 
+/* A test that does not run what it adds. */
+static void runs_nothing(pukzarn_sim *sim, void *unused)
+{
+    pukzarn_sim_case(sim, ONE_PROCESS);
+    pukzarn_sim_tracer(sim, "main", trace, unused);
+}
+
 /* A text of many steps ends with its cause once more. */
 static void trace_and_fail(void *unused)
 {
@@ -266,6 +273,8 @@ int main(void)
     CHECK(has_printed("hands on the SIGSTOP of its first stop"), 1);
     CHECK(pukzarn_model("with_other_first_stop", with_other_first_stop, NULL), 1);
     CHECK(has_printed("2 is no first stop"), 1);
+    CHECK(pukzarn_model("runs_nothing", runs_nothing, NULL), 1);
+    CHECK(has_printed("that it does not run: `pukzarn_sim_run` has to come after them"), 1);
     CHECK(pukzarn_model("many_steps", many_steps, NULL), 1);
     CHECK(has_printed("\nthe cause, as above: thread `main` failed: all was traced\n"), 1);
     CHECK(pukzarn_model_printed(cut, 0), (long)strlen(printed()));

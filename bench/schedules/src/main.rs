@@ -102,8 +102,8 @@ fn measure(builder: &Builder, test: impl Fn(&Sim)) -> Measured {
     Measured { schedules: report.schedules, steps: report.steps, hand_overs, time }
 }
 
-/// The time of the baton, on one processor as a model is: by the usual policy of the scheduler, and by that of a model's
-/// threads, in a model of no threads. The faster one counts.
+/// The time of the baton, on one processor as a model is: by the usual policy of the scheduler, and by that of a
+/// model's threads, in a model of no threads. The faster one counts.
 fn time_of_baton(hand_overs: u64) -> Duration {
     let usual = hand_baton(hand_overs);
     let time = Cell::new(Duration::ZERO);

@@ -5,6 +5,7 @@ const WORDS: &[(&str, &str)] = &[
     (" panicked: pukzarn: ", " failed: "),
     (" panicked: ", " failed: "),
     ("`exhaustive`", "PUKZARN_ALL"),
+    ("Sim::run", "pukzarn_sim_run"),
     ("max_schedules", "the number of schedules"),
     ("`forget`", "`pukzarn_forget`"),
     ("pukzarn::forget", "pukzarn_forget"),

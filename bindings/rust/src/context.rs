@@ -1,8 +1,8 @@
 //! Which simulation a thread is in, and what it may ask for there.
 //!
 //! nix's functions are free functions that ask the kernel. Here they ask `Calls`, which a thread of a model and a
-//! thread of stress have each in its own way. What only a model has (locks and channels as steps) is `ModelCalls`: on the
-//! threads of stress the primitives of std block by themselves.
+//! thread of stress have each in its own way. What only a model has (locks and channels as steps) is `ModelCalls`: on
+//! the threads of stress the primitives of std block by themselves.
 
 use crate::end::End;
 use crate::errno::Errno;
@@ -78,6 +78,9 @@ pub(crate) trait Calls {
     fn publish(&self, row: usize, stop: StopNumbers) -> Result<Published, Errno>;
     /// Waits for the restart. At a tracee's birth it is called by the simulation, before the tracee's closure.
     fn take_up(&self, row: usize) -> RestartNumbers;
+    /// The row has created a child that no option traces, and nobody sees; in a model the row's later children can be
+    /// created all the same.
+    fn create_untraced(&self, _row: usize, _birth: StopNumbers) {}
     /// Ends the row; a leader's once its threads have ended.
     fn exit(&self, row: usize, status: u32);
     /// The same as the last act of the tracee's thread, which need not wait for it.

@@ -7,7 +7,7 @@
 /// ```
 #[derive(Clone, Copy, Debug, PartialEq, Eq, Hash, PartialOrd, Ord)]
 pub enum Phase {
-    /// Its parent has not created it.
+    /// Its parent has not created it, or no option had it traced.
     Unborn,
     /// It runs.
     Running,

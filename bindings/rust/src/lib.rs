@@ -1,7 +1,7 @@
 //! Simulated tracees for the tests of a tracer.
 //!
-//! A tracer's own code, written against nix, runs unchanged under every interleaving of its calls: no process is traced,
-//! and nothing needs root.
+//! A tracer's own code, written against nix, runs unchanged under every interleaving of its calls: no process is
+//! traced, and nothing needs root.
 #![deny(missing_docs)]
 #![deny(unsafe_code)]
 

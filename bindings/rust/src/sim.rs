@@ -98,6 +98,15 @@ impl Sim {
         self.declared.replace(Declared::nothing())
     }
 
+    /// What a test is told that has declared what it has not run.
+    pub(crate) fn not_run(&self) -> Option<String> {
+        let declared = self.declared.borrow();
+        let is_nothing = declared.rows.is_empty() && declared.tracers.is_empty();
+        (!is_nothing).then(|| {
+            "the test declares tracees or threads that it does not run: `Sim::run` has to come after them".to_string()
+        })
+    }
+
     /// Calls with what is declared.
     pub(crate) fn with_declared<T>(&self, call: impl FnOnce(&mut Declared) -> T) -> T {
         call(&mut self.declared.borrow_mut())
@@ -200,9 +209,9 @@ impl Sim {
     /// Some thread may kill a tracee, or a tracee ends its thread group: each ptrace call is then a step of its own,
     /// since the stop may be gone. In a model alone.
     ///
-    /// It kills nobody by itself. A further thread of the tracer does, as in the example, or the tracer's own code, or a
-    /// tracee's `exit_group`. `only_tracer` goes with it where threads of the tracer kill: they then restart nobody, as
-    /// on Linux.
+    /// It kills nobody by itself. A further thread of the tracer does, as in the example, or the tracer's own code, or
+    /// a tracee's `exit_group`. `only_tracer` goes with it where threads of the tracer kill: they then restart nobody,
+    /// as on Linux.
     ///
     /// ```
     /// use pukzarn::sys::signal::{Signal, kill};
@@ -349,7 +358,7 @@ pub(crate) fn machine_options(options: u32) -> u32 {
 pub(crate) fn options_refused(options: u32, errno: Errno) -> String {
     format!(
         "pukzarn: options {options:#x} of a scripted tracee are not simulated ({errno}): they need TRACESYSGOOD, and \
-         TRACEFORK and TRACECLONE together; a tracee that a closure plays takes any"
+         TRACEFORK and TRACECLONE together, from before its first child on; a tracee that a closure plays takes any"
     )
 }
 

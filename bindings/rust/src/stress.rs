@@ -102,7 +102,7 @@ impl Stress {
             let ended = catch_unwind(AssertUnwindSafe(|| test(&sim)));
             let of_test = ended.err().and_then(context::message).map(|message| format!("the test panicked: {message}"));
             let of_round = round::lock(&fault).take();
-            if let Some(cause) = of_round.or(of_test) {
+            if let Some(cause) = of_round.or(of_test).or_else(|| sim.not_run()) {
                 return Err(format!("round {round} of {} on threads: {cause}", self.rounds));
             }
         }

@@ -171,7 +171,7 @@ impl Tracee {
     /// A call of fork(2) that creates the process `tid`, which is its result: entry and exit stop as the restarts ask
     /// for, and PTRACE_EVENT_FORK comes where PTRACE_O_TRACEFORK is set.
     ///
-    /// Where it is not, the child is not traced: no wait is ever answered it, and in the simulation it is never born.
+    /// Where it is not, the child is not traced: no wait is ever answered it, and its closure does not run.
     ///
     /// # Errors
     /// EINVAL: it does not name the tracee's next child, in the order of the rows.
@@ -201,7 +201,7 @@ impl Tracee {
     /// A call of clone(2) that creates the thread `tid` of its own thread group, which is its result: entry and exit
     /// stop as the restarts ask for, and PTRACE_EVENT_CLONE comes where PTRACE_O_TRACECLONE is set.
     ///
-    /// Where it is not, the thread is not traced: no wait is ever answered it, and in the simulation it is never born.
+    /// Where it is not, the thread is not traced: no wait is ever answered it, and its closure does not run.
     ///
     /// # Errors
     /// EINVAL: it does not name the tracee's next child, in the order of the rows.
@@ -324,8 +324,11 @@ impl Tracee {
     /// A call that creates a child, which is born by the event, where an option asks for that.
     fn create(&mut self, number: u64, arguments: [u64; 6], option: u32, event: Stop, child: u32) -> Result<()> {
         self.enter(number, arguments)?;
-        if context::calls().options(self.row) & option != 0 {
+        let calls = context::calls();
+        if calls.options(self.row) & option != 0 {
             self.stop(event)?;
+        } else {
+            calls.create_untraced(self.row, event.numbers());
         }
         self.leave(i64::from(child))
     }

@@ -89,7 +89,7 @@ impl State {
         let actor = self.actors.len();
         assert!(actor < usize::from(u16::MAX), "pukzarn: too many threads");
         let (reply, published, life, idled) = (Reply::Done, Published::Wanted, Life::Alive, Vec::new());
-        self.tracers_left += usize::from(matches!(kind, Kind::Tracer(_)));
+        self.now.tracers_left += usize::from(matches!(kind, Kind::Tracer(_)));
         self.actors.push(Actor {
             name,
             kind,
@@ -110,9 +110,9 @@ impl State {
 
     /// A further thread of the tracer.
     pub(super) fn add_tracer(&mut self, name: Option<String>, seat: Seat) -> usize {
-        let number = Some(self.tracers).filter(|number| *number < MOST_TRACERS as u32);
-        let name = name.unwrap_or_else(|| format!("thread {}", self.tracers));
-        self.tracers += 1;
+        let number = Some(self.now.tracers).filter(|number| *number < MOST_TRACERS as u32);
+        let name = name.unwrap_or_else(|| format!("thread {}", self.now.tracers));
+        self.now.tracers += 1;
         self.add_actor(name, Kind::Tracer(number), Op::Start, seat)
     }
 
@@ -126,7 +126,7 @@ impl State {
 
     /// An actor is about to make a call.
     pub(super) fn announce(&mut self, actor: usize, op: Op) {
-        self.is_due |= matches!(op, Op::Start | Op::TakeUp(_));
+        self.now.is_due |= matches!(op, Op::Start | Op::TakeUp(_));
         let actor = &mut self.actors[actor];
         (actor.op, actor.call_hash) = (Some(op), None);
     }
@@ -136,8 +136,8 @@ impl State {
         let ended = &mut self.actors[actor];
         (ended.life, ended.op) = (Life::Done, None);
         ended.chain = mix(ended.chain, 1);
-        self.tracers_left -= usize::from(ended.is_tracer());
-        self.shared_changes += 1;
+        self.now.tracers_left -= usize::from(ended.is_tracer());
+        self.now.shared_changes += 1;
     }
 
     /// The thread of an actor ends with this call, which others make for it.
@@ -150,7 +150,7 @@ impl State {
     pub(super) fn changes(&self, of: Idle) -> u64 {
         match of {
             Idle::Poll(_) => self.tracees.version(),
-            Idle::Pause | Idle::Timeout => self.tracees.version() + self.shared_changes,
+            Idle::Pause | Idle::Timeout => self.tracees.version() + self.now.shared_changes,
         }
     }
 

@@ -71,12 +71,12 @@ impl Caller {
         }
     }
 
-    /// A call about a tracee. ESRCH where there is none of this pid.
-    fn call_about(&self, pid: i32, op: impl FnOnce(usize) -> Op) -> Result<(), Errno> {
+    /// A call about a tracee, which answers its row. ESRCH where there is none of this pid.
+    fn call_about(&self, pid: i32, op: impl FnOnce(usize) -> Op) -> Result<usize, Errno> {
         let state = self.model.lock();
         let row = state.tracees.row_of(pid).ok_or(Errno::ESRCH)?;
         let reply = self.call_in(state, op(row));
-        self.answered(reply)
+        self.answered(reply).map(|()| row)
     }
 
     /// The row of a stop that this thread has claimed. This is a step where somebody else may take the stop away.
@@ -105,7 +105,7 @@ impl Caller {
 
     /// The number of an object, which has these permits where it is first used.
     fn object(&self, state: &mut State, identity: &Identity, permits: u32) -> ObjectNumber {
-        identity.number(state.schedule, || state.objects.add(permits))
+        identity.number(state.now.schedule, || state.objects.add(permits))
     }
 }
 
@@ -145,7 +145,7 @@ impl Calls for Caller {
     }
 
     fn restart(&self, pid: i32, how: RestartNumbers) -> Result<(), Errno> {
-        self.call_about(pid, |row| Op::Restart(row, how))
+        self.call_about(pid, |row| Op::Restart(row, how)).map(drop)
     }
 
     fn set_options(&self, pid: i32, options: u32) -> Result<(), Errno> {
@@ -155,21 +155,20 @@ impl Calls for Caller {
     }
 
     fn seize(&self, pid: i32, options: u32) -> Result<(), Errno> {
-        self.call_about(pid, |row| Op::Seize(row, options))?;
-        let row = self.model.lock().tracees.row_of(pid).ok_or(Errno::ESRCH)?;
+        let row = self.call_about(pid, |row| Op::Seize(row, options))?;
         self.change_options(row, options);
         Ok(())
     }
 
     fn interrupt(&self, pid: i32) -> Result<(), Errno> {
-        self.call_about(pid, Op::Interrupt)
+        self.call_about(pid, Op::Interrupt).map(drop)
     }
 
     fn kill(&self, pid: i32) -> Result<(), Errno> {
         if self.model.lock().is_immediate() {
             not_simulated("SIGKILL without Sim::kills", "each ptrace call has to be a step of its own then");
         }
-        self.call_about(pid, Op::Kill)
+        self.call_about(pid, Op::Kill).map(drop)
     }
 
     fn options(&self, row: usize) -> u32 {
@@ -199,6 +198,10 @@ impl Calls for Caller {
             Some(Reply::TakenUp(how, _)) => how,
             _ => RestartNumbers::default(),
         }
+    }
+
+    fn create_untraced(&self, row: usize, birth: StopNumbers) {
+        self.model.lock().tracees.create_untraced(row, birth);
     }
 
     fn exit(&self, row: usize, status: u32) {
@@ -231,7 +234,7 @@ impl Calls for Caller {
     fn enroll(&self, name: Option<String>) -> (usize, Box<dyn Enrolled + Send>) {
         let baton = Arc::new(Baton::default());
         let mut state = self.model.lock();
-        state.live += 1;
+        state.now.live += 1;
         let actor = state.add_tracer(name, Seat::Started(baton.clone()));
         (actor, Box::new(OwnThread { model: self.model.clone(), actor, baton }))
     }
@@ -285,7 +288,7 @@ impl ModelCalls for Caller {
     }
 
     fn changed(&self) {
-        self.model.lock().shared_changes += 1;
+        self.model.lock().now.shared_changes += 1;
     }
 
     fn wait_notified(&self, condvar: &Identity, mutex: &Identity, patience: Patience) -> Wakeup {

@@ -105,7 +105,7 @@ impl State {
         let rows = self.tracees.waitable(request);
         if request.blocks {
             let answers = rows.unwrap_or(1);
-            return Ways { answers, interruptions: usize::from(self.eintrs > 0) };
+            return Ways { answers, interruptions: usize::from(self.now.eintrs > 0) };
         }
         match rows {
             Ok(0) => Ways::one_if(self.idle_times(actor, Idle::Poll(request)) <= most_idle),
@@ -134,8 +134,8 @@ impl State {
     /// Makes the call of an actor, in one step, and keeps the reply.
     pub(super) fn make(&mut self, actor: usize, which: usize) {
         let op = self.actors[actor].op.take().expect("a call is announced");
-        self.moves += 1;
-        self.is_due |= may_let_run(op);
+        self.now.moves += 1;
+        self.now.is_due |= may_let_run(op);
         let reply = match op {
             Op::Start | Op::Access(..) | Op::Join(_) => Reply::Done,
             Op::TakeUp(row) => Reply::TakenUp(self.tracees.last_restart(row), self.actors[actor].published),
@@ -183,7 +183,7 @@ impl State {
             }
             Op::EndWait { condvar, mutex, .. } => return self.make_end_wait(actor, condvar, mutex),
             Op::Notify(condvar, whom) => {
-                self.shared_changes += u64::from(self.objects.waiters(condvar) > 0);
+                self.now.shared_changes += u64::from(self.objects.waiters(condvar) > 0);
                 match whom {
                     Notify::One => self.objects.notify_one(condvar, which),
                     Notify::All => self.objects.notify_all(condvar),
@@ -230,14 +230,14 @@ impl State {
     fn make_wait(&mut self, actor: usize, request: Request, which: usize) -> Result<Option<Waited>, Errno> {
         let rows = self.tracees.waitable(request);
         if request.blocks && which == rows.unwrap_or(1) {
-            self.eintrs -= 1;
+            self.now.eintrs -= 1;
             return Err(Errno::EINTR);
         }
         if rows? == 0 {
             self.was_idle(actor, Idle::Poll(request));
             return Ok(None);
         }
-        let tracer = self.only_tracer.unwrap_or_else(|| self.tracer_of(actor));
+        let tracer = self.now.only_tracer.unwrap_or_else(|| self.tracer_of(actor));
         self.tracees.answer(request, which, tracer).map(Some)
     }
 
@@ -247,14 +247,14 @@ impl State {
             Kind::Tracer(number) => number,
             _ => None,
         };
-        if self.only_tracer.is_none() || self.only_tracer == me { Ok(()) } else { Err(refusal) }
+        if self.now.only_tracer.is_none() || self.now.only_tracer == me { Ok(()) } else { Err(refusal) }
     }
 
     /// Whether a ptrace call of this actor has a stop of this row.
     pub(super) fn holds(&self, actor: usize, row: usize) -> Result<(), Errno> {
         let Kind::Tracer(Some(me)) = self.actors[actor].kind else { return Err(Errno::ESRCH) };
         let at = self.tracees.state(row);
-        let holds = match self.only_tracer {
+        let holds = match self.now.only_tracer {
             // ptrace(2) asks for a stop alone, waited for or not, and for the thread that traces.
             Some(only) => only == me && matches!(at.phase, phase::STOPPED | phase::CLAIMED),
             None => at.phase == phase::CLAIMED && at.tracer == me,
@@ -277,7 +277,7 @@ impl State {
             self.link(actor, op, reply);
         }
         if !matches!(op, Op::Start | Op::TakeUp(_)) {
-            let preferred = self.preferred.take();
+            let preferred = self.now.preferred.take();
             self.trace.push(Step { actor: actor as u16, op, reply, preferred });
         }
         self.actors[actor].reply = reply;
@@ -305,7 +305,7 @@ impl State {
 
     /// A ptrace call that only this thread's own calls can change is no step.
     pub(super) fn is_immediate(&self) -> bool {
-        self.calls_are == CallsAre::Immediate
+        self.now.calls_are == CallsAre::Immediate
     }
 }
 

@@ -60,9 +60,9 @@ pub fn model(test: impl Fn(&Sim)) -> Report {
 
 /// For the head of a loop: what the calling thread does next depends on this value alone, and not on what it was
 /// answered before. A model then goes on once from each value. The tracees, their options and what was written to them
-/// count by themselves, and so does each access of what is in `sync`. The report says that it holds as far as this does.
-/// Outside of a model it does nothing. Where a thread comes by several such heads, the value has to say also which one it
-/// is, as `&("main loop", &known)` does.
+/// count by themselves, and so does each access of what is in `sync`. The report says that it holds as far as this
+/// does. Outside of a model it does nothing. Where a thread comes by several such heads, the value has to say also
+/// which one it is, as `&("main loop", &known)` does.
 ///
 /// ```
 /// use pukzarn::sys::{ptrace, wait};

@@ -1,6 +1,6 @@
 //! Locks, channels, condition variables and atomics of a schedule: permits, and who waits.
 
-use super::hash::hash_of;
+use super::hash::{hash_of, mix};
 use crate::context::Noun;
 
 /// An object of `sync`, by the number of its first use in a schedule, from 1.
@@ -20,11 +20,14 @@ struct Object {
 #[derive(Default)]
 pub(super) struct Objects {
     all: Vec<Object>,
+    /// The sum of the hashes of all permits that were given back.
+    given: u64,
 }
 
 impl Objects {
     pub(super) fn clear(&mut self) {
         self.all.clear();
+        self.given = 0;
     }
 
     /// A new object with so many permits; its number.
@@ -51,6 +54,12 @@ impl Objects {
         let object = self.at(number);
         object.free = object.free.saturating_add(permits);
         object.holder = None;
+        self.given = self.given.wrapping_add(mix(u64::from(number), u64::from(permits)));
+    }
+
+    /// Which permits were given back in the schedule until now, as a hash that does not depend on their order.
+    pub(super) fn given(&self) -> u64 {
+        self.given
     }
 
     /// Who keeps others from the object.

@@ -1,7 +1,7 @@
 //! One processor for all threads of a model, since one of them runs at a time: handing over is cheaper so. Models that
 //! run side by side each take another one, where there are enough.
 
-use crate::library::{Processors, set_batch_policy, set_usual_policy};
+use crate::library::processors::{Processors, set_batch_policy, set_usual_policy};
 use std::sync::{Mutex, MutexGuard, PoisonError};
 
 /// How many models each processor has.
@@ -52,7 +52,7 @@ impl Drop for Pinned {
 #[cfg(test)]
 mod tests {
     use super::{Pinned, take};
-    use crate::library::Processors;
+    use crate::library::processors::Processors;
 
     #[test]
     fn a_pinned_thread_keeps_to_one_processor_until_the_end() {

@@ -1,9 +1,9 @@
 //! Whose call is made, and which tracee a wait is answered, where nothing else is decided.
 //!
 //! The tracees come first, in the order of the rows, then the tracer's threads in the order in which they began; and a
-//! wait is answered the first row. To decide otherwise is a deviation, and it stays: who was taken in the place of another
-//! is preferred to it from then on. So a child that lives its whole life before its parent is heard of takes few
-//! deviations, not one for each of its calls.
+//! wait is answered the first row. To decide otherwise is a deviation, and it stays: who was taken in the place of
+//! another is preferred to it from then on. So a child that lives its whole life before its parent is heard of takes
+//! few deviations, not one for each of its calls.
 
 /// Actors or rows, those that are preferred first.
 #[derive(Default, Hash)]

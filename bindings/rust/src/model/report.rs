@@ -16,9 +16,9 @@ use std::time::Duration;
 pub enum Coverage {
     /// All interleavings.
     All,
-    /// All with at most this many deviations: decisions that are not the first one: that a tracee acts before the tracer's
-    /// threads, the first of each before the others, and that a wait is answered the first tracee. Who was taken in
-    /// the place of another is preferred to it from then on.
+    /// All with at most this many deviations: decisions that are not the first one: that a tracee acts before the
+    /// tracer's threads, the first of each before the others, and that a wait is answered the first tracee. Who was
+    /// taken in the place of another is preferred to it from then on.
     Deviations(u32),
     /// Less than that: one schedule was asked for, or `max_schedules` were tried.
     Part,
@@ -105,7 +105,7 @@ pub struct Failure {
     /// The calls, in the words of `tracer explore`.
     pub steps: Vec<String>,
     /// What PUKZARN_SCHEDULE has to be to run it again: the test's name, which of its models, and the decisions. Empty
-    /// where no schedule failed, but not all were tried.
+    /// where no schedule failed, but not all were tried, or the test did not run its simulation any more.
     pub schedule: String,
     /// The decisions that were not the first one.
     pub deviations: u32,
@@ -165,6 +165,11 @@ impl Failure {
     }
 }
 
+/// The steps of a schedule as they are printed: one a line, indented.
+pub(super) fn lines_of(steps: &[String]) -> String {
+    steps.iter().map(|step| format!("  {step}\n")).collect()
+}
+
 /// A failure of so many steps may be longer than a screen.
 const MANY_STEPS: usize = 20;
 /// The characters of a cause in short.
@@ -176,10 +181,7 @@ impl fmt::Display for Failure {
         if self.schedule.is_empty() {
             return Ok(());
         }
-        writeln!(f)?;
-        for step in &self.steps {
-            writeln!(f, "  {step}")?;
-        }
+        write!(f, "\n{}", lines_of(&self.steps))?;
         writeln!(f, "{}; to run it again:", self.summary())?;
         write!(f, "  {}", self.command())?;
         self.cause_again().map_or(Ok(()), |cause| write!(f, "\n{cause}"))

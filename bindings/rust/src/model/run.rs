@@ -5,6 +5,7 @@ use super::builder::Builder;
 use super::caller::Caller;
 use super::calls::Op;
 use super::decisions::Search;
+use super::report::lines_of;
 use super::scripts::Script;
 use super::state::{CallsAre, Ending, State, Turn};
 use super::threads::{Baton, Part, Seat, Start};
@@ -53,9 +54,9 @@ impl Model {
         self.hand_over(None, state, turn);
         self.watch();
         let mut state = self.lock();
-        let is_finished = matches!(state.ending, Some(Ending::Finished));
-        let end =
-            is_finished.then(|| End { tracees: state.tracees.phases(), waiting: std::mem::take(&mut state.waiting) });
+        let is_finished = matches!(state.now.ending, Some(Ending::Finished));
+        let end = is_finished
+            .then(|| End { tracees: state.tracees.phases(), waiting: std::mem::take(&mut state.now.waiting) });
         // What was never started, as of a tracee that was not born, may own what the test looks at next.
         let left = state.actors.iter_mut().filter(|actor| matches!(actor.seat, Seat::NotStarted(_)));
         let left: Vec<Seat> = left.map(|actor| std::mem::take(&mut actor.seat)).collect();
@@ -80,7 +81,7 @@ impl Model {
         let reserved = state.crew.reserve(threads);
         let before = std::mem::replace(&mut state.actors[actor].seat, Seat::Started(reserved.baton().clone()));
         let Seat::NotStarted(part) = before else { unreachable!("the turn of an actor without a thread") };
-        state.live += 1;
+        state.now.live += 1;
         let name = reserved.is_new().then(|| state.name_of(actor).into_owned());
         drop(state);
         reserved.start(name, Start { model: self.clone(), actor, part });
@@ -91,7 +92,7 @@ impl Model {
         let waits = |actor: usize| Some(actor) != from && state.actors[actor].op.is_some();
         let waiting = (0..state.actors.len()).filter(|actor| waits(*actor));
         let batons: Vec<Arc<Baton>> = waiting.filter_map(|actor| state.actors[actor].seat.baton()).collect();
-        let live = state.live;
+        let live = state.now.live;
         drop(state);
         batons.iter().for_each(|baton| baton.pass());
         if live == 0 {
@@ -109,7 +110,7 @@ impl Model {
             catch_unwind(AssertUnwindSafe(|| context::enter(caller, body)))
         };
         let mut state = self.lock();
-        state.live -= 1;
+        state.now.live -= 1;
         let was_over = state.is_over();
         if state.actors[actor].last_act.is_none() {
             state.end_actor(actor);
@@ -123,7 +124,7 @@ impl Model {
         if !was_over {
             let turn = state.advance();
             self.hand_over(Some(actor), state, turn);
-        } else if state.live == 0 {
+        } else if state.now.live == 0 {
             drop(state);
             self.tester.unpark();
         }
@@ -144,18 +145,18 @@ impl Model {
     /// many.
     fn look(&self, last: &mut Option<(u64, Instant)>) -> bool {
         let mut state = self.lock();
-        if state.live == 0 {
+        if state.now.live == 0 {
             return true;
         }
         match *last {
-            Some((moves, since)) if moves == state.moves => {
+            Some((moves, since)) if moves == state.now.moves => {
                 if since.elapsed() > state.builder.patience {
                     *last = None;
                     self.end_stuck(&mut state);
                     self.end_all(None, state);
                 }
             }
-            _ => *last = Some((state.moves, Instant::now())),
+            _ => *last = Some((state.now.moves, Instant::now())),
         }
         false
     }
@@ -165,8 +166,8 @@ impl Model {
     fn end_stuck(&self, state: &mut State) {
         let words = state.stuck_words();
         if state.is_over() {
-            eprintln!("pukzarn: a thread does not end, and the test with it: {words}");
-            state.words().iter().for_each(|step| eprintln!("  {step}"));
+            let steps = lines_of(&state.words());
+            eprint!("pukzarn: a thread does not end, and the test with it: {words}\n{steps}");
             std::process::abort();
         }
         state.fail(words);
@@ -177,9 +178,9 @@ impl Model {
 fn declare(state: &mut State, declared: &mut Declared) {
     state.tracees.begin(declared);
     state.preferences.begin(state.tracees.rows.len());
-    state.eintrs = declared.eintrs;
+    state.now.eintrs = declared.eintrs;
     if declared.kills == Kills::MayHappen || declared.only_tracer.is_some() {
-        state.calls_are = CallsAre::Steps;
+        state.now.calls_are = CallsAre::Steps;
     }
     for (row, follows) in declared.tracees.drain(..).enumerate() {
         let (kind, seat) = match follows {
@@ -199,6 +200,6 @@ fn declare(state: &mut State, declared: &mut Declared) {
     if let Some(name) = &declared.only_tracer {
         assert!(only.is_some(), "pukzarn: no thread of the tracer has the name `{name}`, which only_tracer asks for");
     }
-    state.only_tracer = only;
+    state.now.only_tracer = only;
     declared.clear();
 }

@@ -1,7 +1,7 @@
 //! The text of a schedule, `NAME#k:1,2.1`: the test, which of its models from 1, and the decisions.
 //!
 //! A decision is the number of an actor, and with a dot which of the answers that its call may have, where that is not
-//! the first. `3x4` is four times 3, and `-` is none.
+//! the first. `3x4` is four times 3, and `-` is none. A longer run than MOST_TIMES is several words.
 
 use std::cell::Cell;
 use std::fmt;
@@ -48,10 +48,13 @@ impl fmt::Display for Place {
     }
 }
 
+/// A word is at most so many equal decisions, so that a mistyped text cannot ask for endless memory.
+const MOST_TIMES: usize = u16::MAX as usize;
+
 /// The text of a schedule of a model.
 pub(super) fn spell(place: &Place, decisions: &[Decision]) -> String {
     let mut words = Vec::new();
-    for run in decisions.chunk_by(|one, next| one == next) {
+    for run in decisions.chunk_by(|one, next| one == next).flat_map(|run| run.chunks(MOST_TIMES)) {
         let Decision { actor, answer } = run[0];
         let answer = if answer > 0 { format!(".{answer}") } else { String::new() };
         let times = if run.len() > 1 { format!("x{}", run.len()) } else { String::new() };
@@ -97,6 +100,17 @@ mod tests {
             let decisions = decisions(pairs);
             assert_eq!(spell(&place, &decisions), text);
             assert_eq!(parse(text), Some((place.clone(), decisions)));
+        }
+    }
+
+    #[test]
+    fn a_run_of_any_length_is_read_as_it_was_written() {
+        let place = Place { test: "a_test".into(), number: 1 };
+        for (length, words) in [(65_535, "3x65535"), (65_536, "3x65535,3"), (150_000, "3x65535,3x65535,3x18930")] {
+            let decisions = decisions(&vec![(3, 0); length]);
+            let text = spell(&place, &decisions);
+            assert_eq!(text, format!("a_test#1:{words}"));
+            assert_eq!(parse(&text), Some((place.clone(), decisions)), "{length} decisions");
         }
     }
 

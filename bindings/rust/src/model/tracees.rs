@@ -20,6 +20,8 @@ struct Above {
     interrupted: bool,
     /// The death that it dies next.
     killed: Option<u32>,
+    /// It was created where no option has its parent's children traced: nobody sees it.
+    is_untraced: bool,
     /// A hash of all that tracers have written to its registers and memory.
     written: u64,
     /// Its registers and memory, once they are asked for.
@@ -39,6 +41,7 @@ impl Above {
             restart: RestartNumbers::default(),
             interrupted: false,
             killed: None,
+            is_untraced: false,
             written: 0,
             record: None,
             due: None,
@@ -65,6 +68,9 @@ struct Answered {
     many: Result<usize, Errno>,
     rows: Vec<u32>,
 }
+
+/// The tracer that claims in the place of one what none of the threads sees.
+const STAND_IN: u32 = 0;
 
 /// So many waits are kept from one schedule to the next.
 const WAITS_KEPT: usize = 32;
@@ -234,6 +240,22 @@ impl Tracees {
         }
     }
 
+    /// A row has created a child that no option traces. On the board, which has children born in their order, its event
+    /// is claimed and restarted from, and it dies and is reaped, all at once: nobody else acts in between, and no wait
+    /// is answered either. Nothing where it is not the next child that the row has: it is not declared.
+    pub(super) fn create_untraced(&mut self, row: usize, birth: StopNumbers) {
+        if self.board.publish(row, birth).is_err() {
+            return;
+        }
+        let child = self.rows.iter().position(|row| row.tid == birth.value).expect("the board knows the child");
+        self.claim(row, STAND_IN);
+        let resumed = self.resume(row, STAND_IN, self.last_restart(row));
+        let exited = self.exit(child, 0);
+        assert!(resumed.is_ok() && exited.is_ok(), "pukzarn: the board refuses an untraced child");
+        self.claim(child, STAND_IN);
+        self.above[child].is_untraced = true;
+    }
+
     pub(super) fn resume(&mut self, row: usize, tracer: u32, how: RestartNumbers) -> Result<(), Errno> {
         self.board.resume(row, tracer, how)?;
         self.above[row].restart = how;
@@ -337,7 +359,8 @@ impl Tracees {
 
     /// The tids and what each is doing.
     pub(super) fn phases(&self) -> Vec<(u32, Phase)> {
-        let phase_of = |state: &State| match state.phase {
+        let phase_of = |(state, above): (&State, &Above)| match state.phase {
+            _ if above.is_untraced => Phase::Unborn,
             phase::UNBORN => Phase::Unborn,
             phase::RUNNING => Phase::Running,
             phase::STOPPED => Phase::Stopped,
@@ -345,6 +368,7 @@ impl Tracees {
             phase::DEAD => Phase::Dead,
             _ => Phase::Reaped,
         };
-        self.rows.iter().zip(&self.states).map(|(row, state)| (row.tid, phase_of(state))).collect()
+        let phases = self.states.iter().zip(&self.above).map(phase_of);
+        self.rows.iter().map(|row| row.tid).zip(phases).collect()
     }
 }

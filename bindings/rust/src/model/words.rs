@@ -82,7 +82,7 @@ impl State {
     }
 
     pub(super) fn stuck_words(&self) -> String {
-        let name = self.running.map_or("a thread".into(), |actor| self.name_of(actor));
+        let name = self.now.running.map_or("a thread".into(), |actor| self.name_of(actor));
         let mut text = format!(
             "`{name}` makes no call: it waits for a lock of std that another thread holds over a call, or computes for \
              very long. Locks of pukzarn::sync may be held over calls"

@@ -175,8 +175,8 @@ impl StressThread {
         self.shared.claimed_by[waited.row as usize].store(self.tracer(), SeqCst);
     }
 
-    /// Tries until there is an answer, or the round is over. ESRCH where the thread is unwound already, and a destructor
-    /// calls.
+    /// Tries until there is an answer, or the round is over. ESRCH where the thread is unwound already, and a
+    /// destructor calls.
     fn until<T>(&self, mut attempt: impl FnMut() -> Option<T>) -> Result<T, Errno> {
         let mut tries = 0;
         loop {

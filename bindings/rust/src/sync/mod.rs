@@ -25,7 +25,7 @@ pub use once::{LazyLock, Once, OnceLock};
 pub use rwlock::{RwLock, RwLockReadGuard, RwLockWriteGuard};
 pub use std::sync::{Arc, LockResult, PoisonError, TryLockError, TryLockResult, Weak};
 
-use crate::context::{self, Identity, ModelCalls, Permits};
+use crate::context::{self, Identity, ModelCalls, Noun, Permits};
 
 /// Makes a call of the model that the calling thread is in. `None`: it is in none, and the caller does what std does.
 fn in_model<T>(call: impl FnOnce(&dyn ModelCalls) -> T) -> Option<T> {
@@ -64,9 +64,17 @@ fn unpoisoned<T, U>(answer: LockResult<T>, wrap: impl FnOnce(T) -> U) -> LockRes
     }
 }
 
-/// As `unpoisoned`, of a lock that was tried.
-fn unpoisoned_try<T, U>(answer: TryLockResult<T>, wrap: impl FnOnce(T) -> U) -> TryLockResult<U> {
-    match answer {
+/// Takes a lock if it is free: for these permits of the model that the calling thread is in, if it is in one, and then
+/// as std's own answers.
+fn try_take<T, U>(
+    (object, noun, permits): (&Identity, Noun, Permits),
+    of_std: impl FnOnce() -> TryLockResult<T>,
+    wrap: impl FnOnce(T) -> U,
+) -> TryLockResult<U> {
+    if in_model(|model| model.try_acquire(object, noun, permits)) == Some(false) {
+        return Err(TryLockError::WouldBlock);
+    }
+    match of_std() {
         Ok(inner) => Ok(wrap(inner)),
         Err(TryLockError::WouldBlock) => Err(TryLockError::WouldBlock),
         Err(TryLockError::Poisoned(poisoned)) => Ok(unpoisoned(Err(poisoned), wrap)?),

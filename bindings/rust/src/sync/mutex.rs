@@ -1,9 +1,6 @@
 //! A lock of one holder.
 
-use super::{
-    LockResult, TryLockError, TryLockResult, in_model, is_unwound, read_as_the_value, release, unpoisoned,
-    unpoisoned_try,
-};
+use super::{LockResult, TryLockResult, in_model, is_unwound, read_as_the_value, release, try_take, unpoisoned};
 use crate::context::{Identity, Noun, Permits};
 use std::ops::{Deref, DerefMut};
 use std::{fmt, mem, sync};
@@ -97,10 +94,7 @@ impl<T: ?Sized> Mutex<T> {
     /// assert!(lock.try_lock().is_ok());
     /// ```
     pub fn try_lock(&self) -> TryLockResult<MutexGuard<'_, T>> {
-        if in_model(|model| model.try_acquire(&self.identity, Noun::Mutex, ONE)) == Some(false) {
-            return Err(TryLockError::WouldBlock);
-        }
-        unpoisoned_try(self.inner.try_lock(), |inner| self.guard(inner))
+        try_take((&self.identity, Noun::Mutex, ONE), || self.inner.try_lock(), |inner| self.guard(inner))
     }
 
     pub(super) fn guard<'a>(&'a self, inner: sync::MutexGuard<'a, T>) -> MutexGuard<'a, T> {

@@ -1,9 +1,6 @@
 //! A lock of many readers or one writer.
 
-use super::{
-    LockResult, TryLockError, TryLockResult, in_model, is_unwound, read_as_the_value, release, unpoisoned,
-    unpoisoned_try,
-};
+use super::{LockResult, TryLockResult, in_model, is_unwound, read_as_the_value, release, try_take, unpoisoned};
 use crate::context::{Identity, Noun, Permits};
 use std::ops::{Deref, DerefMut};
 use std::{fmt, mem, sync};
@@ -120,10 +117,8 @@ impl<T: ?Sized> RwLock<T> {
     /// assert!(lock.try_read().is_ok());
     /// ```
     pub fn try_read(&self) -> TryLockResult<RwLockReadGuard<'_, T>> {
-        if in_model(|model| model.try_acquire(&self.identity, Noun::Reader, READ)) == Some(false) {
-            return Err(TryLockError::WouldBlock);
-        }
-        unpoisoned_try(self.inner.try_read(), |inner| RwLockReadGuard { lock: self, inner: Some(inner) })
+        let guard = |inner| RwLockReadGuard { lock: self, inner: Some(inner) };
+        try_take((&self.identity, Noun::Reader, READ), || self.inner.try_read(), guard)
     }
 
     /// Takes the lock for writing if it is free.
@@ -136,10 +131,8 @@ impl<T: ?Sized> RwLock<T> {
     /// assert!(lock.try_write().is_ok());
     /// ```
     pub fn try_write(&self) -> TryLockResult<RwLockWriteGuard<'_, T>> {
-        if in_model(|model| model.try_acquire(&self.identity, Noun::Writer, WRITE)) == Some(false) {
-            return Err(TryLockError::WouldBlock);
-        }
-        unpoisoned_try(self.inner.try_write(), |inner| RwLockWriteGuard { lock: self, inner: Some(inner) })
+        let guard = |inner| RwLockWriteGuard { lock: self, inner: Some(inner) };
+        try_take((&self.identity, Noun::Writer, WRITE), || self.inner.try_write(), guard)
     }
 
     /// Whether a thread has panicked while it wrote; never in a simulation.

@@ -1,7 +1,8 @@
 //! Well-known faults of tracers, each as a tracer's author would write it, found by a model; and the loop without the
 //! fault, which passes under all interleavings.
 
-// A tracer's modules are written against nix; here, as under `#[cfg(test)]` in a crate of theirs, nix is the simulation.
+// A tracer's modules are written against nix; here, as under `#[cfg(test)]` in a crate of theirs, nix is the
+// simulation.
 extern crate pukzarn as nix;
 
 mod early_child;

@@ -1,5 +1,5 @@
-//! Each failing schedule fails again, in one run, at the same place: the tests of this program that find a fault are run
-//! as children of their own, without a schedule, and then with the one that was printed.
+//! Each failing schedule fails again, in one run, at the same place: the tests of this program that find a fault are
+//! run as children of their own, without a schedule, and then with the one that was printed.
 
 use std::process::{Command, Stdio};
 

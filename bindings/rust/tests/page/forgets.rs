@@ -1,6 +1,6 @@
 //! How many schedules the loop of the page has that says what counts, and how many without that line.
 
-use crate::calls;
+use crate::{MODEL_PAGE, calls};
 use nix::unistd::Pid;
 use pukzarn::{Builder, Report};
 use std::sync::{Arc, Mutex};
@@ -42,6 +42,6 @@ fn the_page_has_the_loop_and_both_numbers() {
     let (with, without) = (searched(calls::count), searched(remembers::count));
     let source = include_str!("calls.rs");
     let (_, shown) = source.split_once("\n/// ").expect("a function after what it uses");
-    crate::page_has(&format!("/// {shown}"));
-    crate::page_has(&format!("{} schedules, and {} without it", with.schedules, without.schedules));
+    crate::page_has(MODEL_PAGE, &format!("/// {shown}"));
+    crate::page_has(MODEL_PAGE, &format!("{} schedules, and {} without it", with.schedules, without.schedules));
 }

@@ -1,7 +1,7 @@
 //! How many schedules a tracer of one thread has over tracees that closures play, where threads may share memory of any
 //! kind, and where they share only what is of `pukzarn::sync`.
 
-use crate::calls;
+use crate::{MODEL_PAGE, calls};
 use nix::unistd::Pid;
 use pukzarn::{Builder, Report, Row, Shares, Stop};
 
@@ -24,5 +24,5 @@ fn searched(shares: Shares) -> Report {
 #[test]
 fn the_page_has_both_numbers() {
     let (sync, memory) = (searched(Shares::Sync), searched(Shares::Memory));
-    crate::page_has(&format!("{} schedules in place of {}", sync.schedules, memory.schedules));
+    crate::page_has(MODEL_PAGE, &format!("{} schedules in place of {}", sync.schedules, memory.schedules));
 }

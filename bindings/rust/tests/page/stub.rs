@@ -1,4 +1,5 @@
-//! The page's way without a registry: with the empty crate in nix's place cargo finds all that a tracer's crate asks for.
+//! The page's way without a registry: with the empty crate in nix's place cargo finds all that a tracer's crate asks
+//! for.
 
 use std::path::{Path, PathBuf};
 use std::process::Command;
@@ -47,7 +48,7 @@ fn checkout() -> String {
 
 #[test]
 fn a_crate_that_needs_nix_is_resolved_without_a_registry() {
-    crate::page_has(CONFIG);
+    crate::page_has(crate::PAGE, CONFIG);
     let folder = crate_that_needs_nix("without_a_registry");
     std::fs::create_dir_all(folder.join(".cargo")).expect("a folder");
     let config = CONFIG.replace("/path/to/pukzarn", &checkout());
@@ -58,6 +59,6 @@ fn a_crate_that_needs_nix_is_resolved_without_a_registry() {
 #[test]
 fn it_is_resolved_by_one_command_too() {
     let patch = |place: &str| format!("patch.crates-io.nix.path=\"{place}/bindings/nix_stub\"");
-    crate::page_has(&format!("`cargo --offline --config '{}' test --lib`", patch("/path/to/pukzarn")));
+    crate::page_has(crate::PAGE, &format!("`cargo --offline --config '{}' test --lib`", patch("/path/to/pukzarn")));
     resolves(&crate_that_needs_nix("by_one_command"), &["--offline", "--config", &patch(&checkout())]);
 }

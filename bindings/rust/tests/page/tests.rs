@@ -20,5 +20,5 @@ fn an_early_child_is_kept() {
         sim.tracer("main", || crate::mended::trace(Pid::from_raw(100)));
         sim.run().assert_all_reaped();
     });
-    crate::page_has(&format!("pukzarn: {}: {} schedules", report.coverage, report.schedules));
+    crate::page_has(crate::PAGE, &format!("pukzarn: {}: {} schedules", report.coverage, report.schedules));
 }

@@ -2,6 +2,7 @@
 
 use super::builder;
 use crate::sys::ptrace::{self, Event, Options};
+use crate::sys::signal::Signal;
 use crate::sys::wait::{WaitStatus, wait, waitpid};
 use crate::unistd::Pid;
 use crate::{Errno, Phase, Row, Sim, Stop, Stress, Tracee};
@@ -13,7 +14,7 @@ const CHILD: Pid = Pid::from_raw(101);
 #[derive(Clone, Copy)]
 struct Birth {
     create: fn(&mut Tracee, u32) -> crate::Result<()>,
-    row: Row,
+    row: fn(u32) -> Row,
     call: (u64, u64),
     option: Options,
     event: Event,
@@ -21,7 +22,7 @@ struct Birth {
 
 const FORK: Birth = Birth {
     create: Tracee::fork,
-    row: Row::child(101, 100),
+    row: |tid| Row::child(tid, 100),
     call: (57, 0),
     option: Options::PTRACE_O_TRACEFORK,
     event: Event::PTRACE_EVENT_FORK,
@@ -29,7 +30,7 @@ const FORK: Birth = Birth {
 
 const THREAD: Birth = Birth {
     create: Tracee::clone_thread,
-    row: Row::thread(101, 100, 100),
+    row: |tid| Row::thread(tid, 100, 100),
     call: (56, 0x1_0900),
     option: Options::PTRACE_O_TRACECLONE,
     event: Event::PTRACE_EVENT_CLONE,
@@ -78,7 +79,7 @@ fn run(sim: &Sim, birth: Birth, child: Child) {
         tracee.stop(Stop::Start)?;
         (birth.create)(tracee, 101)
     });
-    sim.tracee(birth.row, |tracee| tracee.stop(Stop::Start).map(drop));
+    sim.tracee((birth.row)(101), |tracee| tracee.stop(Stop::Start).map(drop));
     sim.tracer("main", move || trace(birth, child));
     let end = sim.run();
     assert_eq!(end.phase(101), Some(if child == Child::Traced { Phase::Reaped } else { Phase::Unborn }));
@@ -99,6 +100,59 @@ fn nobody_sees_a_child_that_no_option_asks_for() {
         builder().exhaustive().check(|sim| run(sim, birth, Child::Untraced));
         Stress { rounds: 10, ..Stress::new() }.check(|sim| run(sim, birth, Child::Untraced));
     }
+}
+
+/// The root creates two children, and asks by a signal for the option in between.
+fn second_child_is_traced(sim: &Sim, birth: Birth) {
+    sim.options(Options::empty());
+    sim.tracee(Row::root(100), move |tracee| {
+        tracee.stop(Stop::Start)?;
+        (birth.create)(tracee, 101)?;
+        tracee.stop(Stop::Signal(Signal::SIGUSR1))?;
+        (birth.create)(tracee, 102)
+    });
+    sim.tracee((birth.row)(101), |_| panic!("nobody traces it"));
+    sim.tracee((birth.row)(102), |tracee| tracee.stop(Stop::Start).map(drop));
+    sim.tracer("main", move || {
+        let mut events = Vec::new();
+        while let Ok(status) = wait() {
+            let pid = status.pid().unwrap();
+            assert_ne!(pid, CHILD);
+            match status {
+                WaitStatus::Stopped(_, Signal::SIGUSR1) => ptrace::setoptions(pid, birth.option).unwrap(),
+                WaitStatus::PtraceEvent(ROOT, _, event) => events.push((event, ptrace::getevent(pid).unwrap())),
+                _ => {}
+            }
+            let _ = ptrace::cont(pid, None);
+        }
+        let started = (Event::PTRACE_EVENT_STOP as i32, 0);
+        assert_eq!(events, [started, (birth.event as i32, 102)]);
+    });
+    let end = sim.run();
+    assert_eq!(end.tracees, [(100, Phase::Reaped), (101, Phase::Unborn), (102, Phase::Reaped)]);
+}
+
+#[test]
+fn a_child_is_born_after_one_that_nobody_traces() {
+    for birth in [FORK, THREAD] {
+        builder().exhaustive().check(|sim| second_child_is_traced(sim, birth));
+        // The cells have children born in their order.
+        let refused = Stress { rounds: 1, ..Stress::new() }.explore(|sim| second_child_is_traced(sim, birth));
+        assert!(refused.unwrap_err().contains("of 102 is refused"));
+    }
+}
+
+#[test]
+fn a_child_that_nobody_traces_need_not_be_declared() {
+    builder().exhaustive().check(|sim| {
+        sim.options(Options::empty());
+        sim.tracee(Row::root(100), |tracee| {
+            tracee.fork(999)?;
+            tracee.clone_thread(998)
+        });
+        sim.tracer("main", || while wait().is_ok() {});
+        sim.run().assert_all_reaped();
+    });
 }
 
 #[test]

@@ -151,8 +151,8 @@ fn two_locks_in_two_orders_are_a_deadlock() {
             sim.run();
         })
         .unwrap_err();
-    let expected = "deadlock: no thread can go on\n  one waits: lock mutex 2, which two holds\n  two waits: lock mutex 1, \
-                    which one holds";
+    let expected = "deadlock: no thread can go on\n  one waits: lock mutex 2, which two holds\n  \
+                    two waits: lock mutex 1, which one holds";
     assert_eq!(failure.cause, expected);
     assert_eq!(failure.deviations, 1);
 }
@@ -205,6 +205,50 @@ fn a_failing_schedule_is_run_again_by_its_text() {
 }
 
 #[test]
+fn decisions_that_are_left_over_are_told() {
+    let test = std::thread::current().name().unwrap().to_string();
+    let shown = builder().explore(|sim| {
+        two_processes(sim, 1);
+        panic!("so that the schedule is shown");
+    });
+    let schedule = shown.unwrap_err().schedule;
+    let decisions = schedule.strip_prefix(&format!("{test}#1:")).unwrap();
+
+    let asked_for = |text: String| Builder { schedule: Some(text), ..builder() }.explore(|sim| two_processes(sim, 1));
+    assert_eq!(asked_for(format!("{test}#2:{decisions}")).unwrap().schedules, 1);
+    let failure = asked_for(format!("{test}#3:{decisions},1,0x70")).unwrap_err();
+    let expected = "this schedule (PUKZARN_SCHEDULE) is of another test or program: 71 of its decisions are left over";
+    assert_eq!(failure.cause, expected);
+    assert_eq!(failure.schedule, format!("{test}#3:{decisions}"));
+    assert_eq!(failure.steps.len(), 29);
+}
+
+#[test]
+fn a_test_that_does_not_run_what_it_declares_is_told() {
+    let never = |sim: &Sim| sim.tracer("main", main_loop);
+    let too_late = |sim: &Sim| {
+        two_processes(sim, 1);
+        sim.tracer("main", main_loop);
+    };
+    let expected = "the test declares tracees or threads that it does not run: `Sim::run` has to come after them";
+    assert_eq!(builder().explore(never).unwrap_err().cause, expected);
+    assert_eq!(builder().explore(too_late).unwrap_err().cause, expected);
+    let of_round = crate::Stress::new().explore(never).unwrap_err();
+    assert_eq!(of_round, format!("round 1 of 1000 on threads: {expected}"));
+
+    let runs = AtomicU32::new(0);
+    let runs_no_more = builder().explore(|sim| {
+        if runs.fetch_add(1, Ordering::SeqCst) < 2 {
+            two_processes(sim, 1);
+        }
+    });
+    let failure = runs_no_more.unwrap_err();
+    let expected = "the test is not deterministic: it does not call `Sim::run` in schedule 3 of the search";
+    assert!(failure.cause.starts_with(expected), "{failure}");
+    assert_eq!((failure.to_string(), failure.report.schedules), (failure.cause, 3));
+}
+
+#[test]
 fn calls_that_differ_after_the_same_answers_are_reported() {
     let runs = Arc::new(AtomicU32::new(0));
     let failure = Builder { deadlocks: Deadlocks::End, ..builder() }
@@ -246,6 +290,33 @@ fn a_thread_that_ends_later_than_before_is_told() {
         })
         .unwrap_err();
     assert!(failure.cause.starts_with("the test is not deterministic"), "{}", failure.cause);
+}
+
+/// A tracer that gives a lock back before its loop, or after it, and nobody else wants the lock.
+fn gives_back(sim: &Sim, before_the_loop: bool) {
+    let lock = Arc::new(Mutex::new(()));
+    sim.case(ONE_CALL).unwrap();
+    sim.case(&ONE_CALL.replace("100", "200")).unwrap();
+    sim.tracer("main", move || {
+        let held = Some(lock.lock().unwrap()).filter(|_| !before_the_loop);
+        main_loop();
+        drop(held);
+    });
+    sim.run();
+}
+
+#[test]
+fn a_lock_that_is_given_back_at_another_call_than_before_is_told() {
+    // The second schedule is the first of another pass, with the same decisions.
+    for (first_other, early) in [(1, false), (1, true), (2, false), (2, true)] {
+        let begun = AtomicU32::new(0);
+        let is_other = || begun.fetch_add(1, Ordering::SeqCst) >= first_other;
+        let test = |sim: &Sim| gives_back(sim, if is_other() { early } else { !early });
+        let failure = builder().explore(test).unwrap_err();
+        assert!(failure.cause.starts_with("the test is not deterministic"), "{}", failure.cause);
+        assert_eq!(failure.report.schedules, u64::from(first_other) + 1);
+    }
+    builder().exhaustive().check(|sim| gives_back(sim, false));
 }
 
 #[test]

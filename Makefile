@@ -1,5 +1,5 @@
 # Each target says what it does and how long it may take, on a machine of 4 processors.
-# `rt` is the command of the Rattle kit (README.md, "What it needs"); RT names another one.
+# `rt` is the command of the Rattle kit (README.md, "Install"); RT names another one.
 RT ?= rt
 # The end of the kit's identity: its logic. A proof holds with each kit that has this one.
 KIT = logic dac8208d650f15bf
@@ -16,19 +16,19 @@ HEAP ?= $(dir $(shell $(RT) doc))c/liblibc_c.a
 VERSION = $(shell sed -n 's/.*\.version("\(.*\)").*/\1/p' crates/tracer_cli/src/arguments.rt)
 
 .PHONY: all kit demo try examples scarce-memory refused-memory man-page documents one-source one-meaning refused-code \
-	check wrong-bodies wrong-bodies-changed wrong-bodies-test test bench bench-rounds bench-rust bench-test tools library \
-	archive c-header library-test rust-test install-library install-program install clean
+	check wrong-bodies wrong-bodies-changed wrong-bodies-test test build-test bench bench-rounds bench-rust bench-test \
+	tools library archive c-header library-test rust-test install-library install-program install clean
 
 all: kit
-	@echo "make: proving the program and what it stands on, over what earlier runs kept (the first time: 45 minutes)"
-	@cd crates/tracer && $(RT) run -- --help > /dev/null
+	@echo "make: proving the program and what it stands on, over what earlier runs kept (the first time: up to 45 minutes)"
+	@RT="$(RT)" $(PYTHON) tools/build.py tracer
 	@mkdir -p bin && cp crates/tracer/out/tracer bin/tracer
 	@echo "make: bin/tracer is built"
 
 kit:
 	@command -v $(RT) > /dev/null || { \
 		echo "make: there is no command $(RT): put the Rattle kit's rt on the PATH, or give its place as RT=/path/to/rt"; \
-		echo "make: README.md, \"What it needs\", says which kit"; exit 2; }
+		echo "make: README.md, \"Install\", says which kit"; exit 2; }
 	@case "$$($(RT) --version)" in *"$(KIT)") ;; *) \
 		echo "make: proved with a kit of $(KIT), but $(RT) is $$($(RT) --version): a proof may fail";; esac
 
@@ -74,7 +74,7 @@ man-page: kit
 
 # PROGRAM=FILE runs the commands of the pages too, with a program that is built already, as bin/tracer.
 documents:
-	@echo "documents: width of the pages$(if $(PROGRAM),$(COMMA) and what their commands print) (some seconds)"
+	@echo "documents: width and links of the pages$(if $(PROGRAM),$(COMMA) and what their commands print) (some seconds)"
 	@$(PYTHON) tools/documents.py --self-test
 	@$(PYTHON) tools/documents.py $(if $(PROGRAM),--program $(PROGRAM))
 
@@ -109,6 +109,7 @@ check: kit
 	@$(MAKE) --no-print-directory c-header
 	@$(MAKE) --no-print-directory documents
 	@$(MAKE) --no-print-directory bench-test
+	@$(MAKE) --no-print-directory build-test
 	$(call part,proofs from nothing$(COMMA) must-fail edits$(COMMA) tests and programs)
 	@RT_JOBS=$${RT_JOBS:-$(CHECKS)} $(RT) ci
 	$(call part,the library for C: its archive$(COMMA) proved once more$(COMMA) and the programs that use it)
@@ -120,10 +121,10 @@ check: kit
 	@$(MAKE) --no-print-directory c-model-test
 	$(call part,wrong bodies)
 	@$(MAKE) --no-print-directory wrong-bodies-changed
-	$(call part,the tool for wrong bodies$(COMMA) examples$(COMMA) the pages$(COMMA) refused programs: side by side)
+	$(call part,the tool for wrong bodies$(COMMA) examples$(COMMA) pages$(COMMA) refused code$(COMMA) tarball: side by side)
 	@mkdir -p $(OUT) && cp crates/tracer/out/tracer $(OUT)/proved_tracer
 	@$(MAKE) --no-print-directory --jobs=$(CHECKS) --output-sync=target PROGRAM=$(OUT)/proved_tracer \
-		wrong-bodies-test examples man-page documents refused-code
+		wrong-bodies-test examples man-page documents refused-code dist-test
 	$(call part,scarce memory)
 	@$(MAKE) --no-print-directory scarce-memory PROGRAM=$(OUT)/proved_tracer
 	$(call part,done)
@@ -149,8 +150,8 @@ test: kit
 	done
 	@echo "test: every test passed"
 
-# A bench is a row of the table in bench/bench.py; `make bench` runs all but bench-rust. PROGRAM=FILE is a program that is
-# built already, for the benches that time bin/tracer.
+# A bench is a row of the table in bench/benches.py; `make bench` runs all but bench-rust. PROGRAM=FILE is a program
+# that is built already, for the benches that time bin/tracer.
 BENCH = RT="$(RT)" RUSTC="$(RUSTC)" CC="$(CC)" CARGO="$(CARGO)" LIBRARY="$(LIBRARY)" $(PYTHON) bench/bench.py \
 	$(if $(PROGRAM),--program $(PROGRAM))
 
@@ -166,6 +167,10 @@ bench-c: library
 bench-rounds: kit
 	@$(BENCH) rounds
 
+build-test:
+	@echo "build-test: going through the plan of a build of made-up crates (a second)"
+	@$(PYTHON) tools/build.py --self-test
+
 bench-test:
 	@echo "bench-test: looking at the table of benches, and at how they are read, divided and limited (a second)"
 	@$(PYTHON) bench/bench.py --self-test
@@ -176,8 +181,8 @@ tools:
 	done
 
 library: kit
-	@echo "library: proving the calls for C and what they stand on, over what earlier runs kept (the first time: 40 minutes)"
-	@cd crates/pukzarn && $(RT) lib > /dev/null
+	@echo "library: proving the calls for C and what they stand on, over what earlier runs kept (at first: up to 40 minutes)"
+	@RT="$(RT)" $(PYTHON) tools/build.py pukzarn
 	@$(MAKE) --no-print-directory archive
 
 # The two archives become one, in which nothing but the calls of include/pukzarn.h is global.
@@ -234,22 +239,23 @@ library-test: $(LIBRARY)
 	@$(PYTHON) tools/c_library.py page $(C_OUT)/installed
 	@echo "library-test: every program passed"
 
-# The crate for Rust, its example, and the program that times it. LIBRARY=FILE is the archive, which is called
+# The crate for Rust, its examples, and the program that times it. LIBRARY=FILE is the archive, which is called
 # libpukzarn.a, and is made where it is not there. No crate needs a registry.
 CARGO ?= cargo
 CARGO_TARGET_DIR ?= $(abspath $(OUT))/rust
 IN_RUST = PUKZARN_LIB_DIR=$(abspath $(dir $(LIBRARY))) CARGO_TARGET_DIR=$(CARGO_TARGET_DIR) CARGO_NET_OFFLINE=true
-RUST_MANIFESTS = bindings/Cargo.toml examples/rust/counter/Cargo.toml bench/schedules/Cargo.toml
+RUST_EXAMPLES = examples/rust/counter/Cargo.toml examples/rust/tutorial/Cargo.toml
+RUST_MANIFESTS = bindings/Cargo.toml $(RUST_EXAMPLES) bench/schedules/Cargo.toml
 
 rust-test: $(LIBRARY)
-	@echo "rust-test: layout, lints, tests and pages of the crate for Rust, and its example (three minutes)"
+	@echo "rust-test: layout, lints, tests and pages of the crate for Rust, and its examples (three minutes)"
 	@for manifest in $(RUST_MANIFESTS) examples/rust/counter/linux/Cargo.toml bindings/nix_stub/Cargo.toml; do \
 		$(CARGO) fmt --all --check --manifest-path $$manifest || exit 1; done
 	@for manifest in $(RUST_MANIFESTS); do \
 		$(IN_RUST) $(CARGO) clippy --quiet --tests --manifest-path $$manifest -- -D warnings || exit 1; done
 	@$(IN_RUST) $(CARGO) clippy --quiet --package pukzarn --features nix-0-26 --manifest-path bindings/Cargo.toml -- -D warnings
 	@$(IN_RUST) $(CARGO) test --quiet --workspace --manifest-path bindings/Cargo.toml
-	@$(IN_RUST) $(CARGO) test --quiet --manifest-path examples/rust/counter/Cargo.toml
+	@for manifest in $(RUST_EXAMPLES); do $(IN_RUST) $(CARGO) test --quiet --manifest-path $$manifest || exit 1; done
 	@$(IN_RUST) RUSTDOCFLAGS="-D warnings" $(CARGO) doc --quiet --no-deps --manifest-path bindings/Cargo.toml
 	@echo "rust-test: every test passed"
 
@@ -257,6 +263,7 @@ bench-rust: $(LIBRARY)
 	@$(IN_RUST) $(BENCH) rust
 
 include tools/c_model.mk
+include tools/dist.mk
 
 install: install-program install-library
 
@@ -277,4 +284,4 @@ install-library: $(LIBRARY)
 
 clean:
 	@echo "clean: removing what was built and what earlier checks kept; the next check starts from nothing"
-	@rm -rf bin lib $(OUT) $(addsuffix /out,$(wildcard crates/*))
+	@rm -rf bin lib $(DIST) $(OUT) $(addsuffix /out,$(wildcard crates/*))

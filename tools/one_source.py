@@ -6,15 +6,17 @@
 
 | What | Decides | Compared |
 |---|---|---|
-| a user's first test | bindings/rust/tests/page/tests.rs | README.md, its first block of Rust |
-| the library example | crates/system_tests/src/readme.rt | README.md, its second block of Rust |
-| the same on two threads | crates/call_tests/src/waits/two_tracers.rt | README.md, its third block of Rust |
+| a user's loop and first test | tracer.rs and tests.rs of bindings/rust/tests/page | README.md, its blocks of Rust |
+| the library example | crates/system_tests/src/readme.rt | docs/RATTLE.md, its first block of Rust |
+| the same on two threads | crates/call_tests/src/waits/two_tracers.rt | docs/RATTLE.md, its second one |
+| the loops of the tutorial, and its tests | examples/rust/tutorial/src | docs/TUTORIAL.md, its blocks of Rust |
 | the loop of a small tracer | crates/call_tests/src/waits/small_tracer.rt | docs/calls.md, its first block of Rust |
 | a debugger that changes a call | crates/call_tests/src/waits/small_debugger.rt | docs/calls.md, its second one |
 | a small tracer in C | tests/c/small_tracer.c | docs/C.md, its block of C |
 | a tracer in C and its test | tests/c_model/early_child.c | docs/C_MODEL.md, its block of C |
 | how tests compare | crates/system_tests/src/compare.rt | the compare.rt of the other crates |
-| the version | crates/tracer_cli/src/arguments.rt | man/tracer.1 |
+| rows of tests | crates/test_support/src/rows.rt | the tests/rows.rt of stop_board, up to what it uses and to visibility |
+| the version | crates/tracer_cli/src/arguments.rt | man/tracer.1, README.md |
 | the system calls, with their arguments | crates/trace_options/src/syscall.rt | docs/formats/tables.md, man/tracer.1 |
 | the options of ptrace(2) | crates/trace_options/specs/Options.antt | options.rt, docs/formats/tables.md |
 | wait flags, events | wait_flags.rt and event.rt of trace_options | docs/formats/tables.md |
@@ -31,14 +33,18 @@ import re
 import sys
 
 ROOT = pathlib.Path(__file__).resolve().parent.parent
-README, CALLS = "README.md", "docs/calls.md"
+README, CALLS, RATTLE, TUTORIAL = "README.md", "docs/calls.md", "docs/RATTLE.md", "docs/TUTORIAL.md"
 TABLES, FORMATS, PAGE = "docs/formats/tables.md", "docs/FORMATS.md", "man/tracer.1"
 EXAMPLE, LOOP = "crates/system_tests/src/readme.rt", "crates/call_tests/src/waits/small_tracer.rt"
-FIRST_TEST = "bindings/rust/tests/page/tests.rs"
+FIRST_LOOP, FIRST_TEST = "bindings/rust/tests/page/tracer.rs", "bindings/rust/tests/page/tests.rs"
 THREADS = "crates/call_tests/src/waits/two_tracers.rt"
 CHANGE = "crates/call_tests/src/waits/small_debugger.rt"
+LESSONS = [f"examples/rust/tutorial/src/{name}.rs" for name in ("broken", "tests", "mended", "tests")]
+RUST_BLOCKS = ((README, [FIRST_LOOP, FIRST_TEST]), (RATTLE, [EXAMPLE, THREADS]), (CALLS, [LOOP, CHANGE]),
+               (TUTORIAL, LESSONS))
 COMPARE = "crates/system_tests/src/compare.rt"
 COPIES = sorted(str(it.relative_to(ROOT)) for it in ROOT.glob("crates/*/src/**/compare.rt"))
+ROWS, BOARD_ROWS = "crates/test_support/src/rows.rt", "crates/stop_board/src/tests/rows.rt"
 C_PAGE, MODEL_PAGE = "docs/C.md", "docs/C_MODEL.md"
 C_BLOCKS = ((C_PAGE, "tests/c/small_tracer.c"), (MODEL_PAGE, "tests/c_model/early_child.c"))
 ARGUMENTS, SYSCALLS = "crates/tracer_cli/src/arguments.rt", "crates/trace_options/src/syscall.rt"
@@ -130,7 +136,7 @@ def is_within(part, whole):
 
 
 def code_faults(read):
-    for page, sources in [(README, [FIRST_TEST, EXAMPLE, THREADS]), (CALLS, [LOOP, CHANGE])]:
+    for page, sources in RUST_BLOCKS:
         blocks = blocks_of("rust", read(page))
         if len(blocks) != len(sources):
             yield f"{page}: it has {len(blocks)} blocks of Rust, and {len(sources)} are known"
@@ -142,16 +148,25 @@ def code_faults(read):
             yield f"{page}: its block of C is not {source}"
 
 
+def items_of(code):
+    """The lines of a file of Rust, without those that say what it uses and who may use it."""
+    return [line.replace("pub(crate) ", "pub ") for line in lines_of(code) if not line.startswith("use ")]
+
+
 def copy_faults(read):
     for copy in COPIES:
         if read(copy) != read(COMPARE):
             yield f"{copy}: it is not {COMPARE}"
+    if items_of(read(BOARD_ROWS)) != items_of(read(ROWS)):
+        yield f"{BOARD_ROWS}: its items are not those of {ROWS}"
 
 
 def version_faults(read):
     version = re.search(r'\.version\("(.*?)"\)', read(ARGUMENTS))[1]
-    if f'"tracer {version}"' not in read(PAGE):
-        yield f"{PAGE}: the version is not {version}, as {ARGUMENTS} has it"
+    folder = f"pukzarn-{version}-x86_64-linux"
+    for page, text in [(PAGE, f'"tracer {version}"'), (README, f"tar xzf {folder}.tar.gz\ncd {folder}\n")]:
+        if text not in read(page):
+            yield f"{page}: the version is not {version}, as {ARGUMENTS} has it"
 
 
 def arguments_in(row):
@@ -269,8 +284,12 @@ PARTS = [
 
 # What the self-test changes: in this file this text, which is there once, to that one.
 CHANGES = [
-    (README, "world.step(1, Action::Claim(0))", "world.step(0, Action::Claim(0))"),
-    (README, "end(rt, calls, &[100])", "end(rt, calls, &[101])"),
+    (README, "assert!(known.contains(&pid)", "assert!(!known.contains(&pid)"),
+    (README, "sim.run().assert_all_reaped();", "sim.run();"),
+    (RATTLE, "world.step(1, Action::Claim(0))", "world.step(0, Action::Claim(0))"),
+    (RATTLE, "end(rt, calls, &[100])", "end(rt, calls, &[101])"),
+    (TUTORIAL, "while running > 0 {", "while running > 1 {"),
+    (TUTORIAL, "Err(Errno::ECHILD) => return Ok(failed),", "Err(Errno::EINTR) => return Ok(failed),"),
     (CALLS, "```rust\n/// Serves a stop", "```\n/// Serves a stop"),
     (CALLS, "calls.syscall(pid, signal)", "calls.cont(pid, signal)"),
     (CALLS, "regs.rdx = len", "regs.rsi = len"),
@@ -278,7 +297,9 @@ CHANGES = [
     (MODEL_PAGE, "return pid;", "return 0;"),
     (COPIES[0], "assert_eq!(rt; found, wanted);", "assert_eq!(rt; wanted, wanted);"),
     (COPIES[-1], "assert!(rt; is_so, ", "assert!(rt; true, "),
+    (BOARD_ROWS, "row(tid, tid, 77, 0)", "row(tid, tid, 78, 0)"),
     (PAGE, '"tracer 0', '"tracer 9'),
+    (README, "tar xzf pukzarn-0", "tar xzf pukzarn-9"),
     (TABLES, "| 80 | chdir |", "| 81 | chdir |"),
     (TABLES, "| 83 | mkdir | `CString`, `Mode` |", "| 83 | mkdir | `CString` |"),
     (PAGE, ".BR rename ,\n", ""),

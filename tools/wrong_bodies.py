@@ -225,6 +225,13 @@ class Task:
         return sum(map(len, self.crate.texts.values())) * (2 + len(self.group))
 
 
+def has_library(crate, folder):
+    """Whether the crate has the library that was built in the folder: those above it, as make builds them, may fit that
+    build of it alone (build.py)."""
+    here, there = (it / LIBRARY / "stamp" for it in (crate.folder, folder))
+    return here.is_file() and there.is_file() and here.read_text() == there.read_text()
+
+
 def is_proved(crate, has_edits, jobs):
     """Whether the crate is proved as it is: the crates above it stand on the library that this builds, and its wrong
     bodies are tried over what this keeps. A library that is there serves where no edits are tried. All this is done in
@@ -237,7 +244,7 @@ def is_proved(crate, has_edits, jobs):
             say(f"{crate.name}: NOT PROVED as it is:\n{ran.stdout[-3000:]}")
             return False
         for part in (KEPT, LIBRARY):
-            if (folder / part).is_dir():
+            if (folder / part).is_dir() and not (part == LIBRARY and has_library(crate, folder)):
                 shutil.rmtree(crate.folder / part, ignore_errors=True)
                 shutil.move(folder / part, crate.folder / part)
     say(f"{crate.name}: proved as it is in {time.monotonic() - began:.0f} s")

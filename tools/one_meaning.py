@@ -8,9 +8,11 @@
 |---|---|---|
 | definitions | the modules of crates/*/specs/ | constructors and fields, which are known by their type |
 | types of Rust and traits | crates/*/src/ | tests, and crates for tests |
+| functions outside of types | crates/*/src/ | the same; laws; what no other crate can call |
 
-A type of Rust and a definition may share a name, as `Cut` and what contracts see of it. A name that has to stand for
-two things goes into `ALLOWED`, with the reason.
+A type of Rust and a definition may share a name, as `Cut` and what contracts see of it. Of functions, the names that a
+crate offers are looked for in the crates above and below it, where both may be read side by side. A name that has to
+stand for two things goes into `ALLOWED`, with the reason.
 """
 
 import functools
@@ -19,10 +21,11 @@ import re
 import sys
 
 import rattle_source
+import wrong_bodies
 
 ROOT = pathlib.Path(__file__).resolve().parent.parent
 # Names that stand for two things, each with the reason.
-ALLOWED = {}
+ALLOWED = {"place_of": "of a page and of a row: in both, where it stands in the list that is handed over"}
 TEST_CRATES = (
     "test_support",
     "thread_tests",
@@ -38,6 +41,8 @@ DEFINITION = re.compile(
     r"(?m)^(?:(?:pub|abbrev|unfoldable|record|data) )+(?!use\b|mod\b)(?P<headed>[^\W\d][\w'?]*)"
     r"|^(?P<signed>[^\W\d][\w'?]*)[ \n]+:"
 )
+FUNCTION = re.compile(r"(?m)^(?:pub(?:\([^)]*\))? )?(?:const )?fn (?P<named>\w+)")
+OFFERED = re.compile(r"(?m)^pub (?:const )?fn (?P<named>\w+)")
 TYPE = re.compile(r"(?m)^(?:pub(?:\([^)]*\))? )?(?:struct|enum|union|trait|type) (?P<named>\w+)")
 
 
@@ -70,21 +75,64 @@ def definitions(texts):
             yield from ((name, path, line) for name, line in definitions_in(text))
 
 
-def types(texts):
-    """The same of the types and traits of Rust."""
-    sources = {path: text for path, text in texts.items() if path.endswith(".rt")}
+def sources(texts):
+    """The source files of what is no test."""
+    files = {path: text for path, text in texts.items() if path.endswith(".rt")}
     by_crate = {}
-    for path, text in sources.items():
+    for path, text in files.items():
         _, crate, file = path.split("/", 2)
         by_crate.setdefault(crate, {})[file] = text
-    modules = {crate: rattle_source.test_modules(files) for crate, files in by_crate.items()}
-    for path, text in sources.items():
-        if not is_for_tests(path, modules):
-            yield from ((name, path, line) for name, line in types_in(text))
+    modules = {crate: rattle_source.test_modules(those) for crate, those in by_crate.items()}
+    return {path: text for path, text in files.items() if not is_for_tests(path, modules)}
+
+
+def types(texts):
+    """Where each type and each trait of Rust stands: its name, its file and its line."""
+    for path, text in sources(texts).items():
+        yield from ((name, path, line) for name, line in types_in(text))
+
+
+@functools.cache
+def functions_in(text):
+    """The functions outside of types, and the names of those that other crates may call."""
+    code = rattle_source.blanked(text)
+    return named_in(FUNCTION, code), {name for name, _ in named_in(OFFERED, code)}
+
+
+@functools.cache
+def crates():
+    return wrong_bodies.crates_of(ROOT)
+
+
+def are_near(one, other):
+    """Whether one of two crates stands on the other."""
+    below = {name: [it.name for it in crates()[name].below] for name in (one, other)}
+    return one in below[other] or other in below[one]
+
+
+def shared_functions(texts):
+    """A line for each name that a crate offers and a crate above or below it gives to a function too."""
+    places, offers = {}, {}
+    for path, text in sources(texts).items():
+        if path.endswith("/laws.rt"):
+            continue
+        crate = path.split("/")[1]
+        found, offered = functions_in(text)
+        for name, line in found:
+            places.setdefault(name, {}).setdefault(crate, f"{path}:{line}")
+        for name in offered:
+            offers.setdefault(name, set()).add(crate)
+    for name, offering in sorted(offers.items()):
+        for one in sorted(offering):
+            others = [it for it in places[name] if it != one and are_near(one, it) and not (it in offering and it < one)]
+            if others and name not in ALLOWED:
+                where = [places[name][it] for it in (one, *sorted(others))]
+                yield f"{name}: {', and '.join(f'a function at {place}' for place in where)}"
 
 
 def faults(texts):
     """A line for each name that stands for two things."""
+    yield from shared_functions(texts)
     for kind, found in [("definition", definitions(texts)), ("type", types(texts))]:
         places = {}
         for name, path, line in found:
@@ -104,6 +152,8 @@ SECOND = [
     ("crates/replay_files/src/order.rt", "pub(crate) struct Tracee;", "Tracee"),
     ("crates/trace_pages/src/lib.rt", "pub trait Gate {}", "Gate"),
     ("crates/stop_history/src/phase.rt", "enum Cut {}", "Cut"),
+    ("crates/tracer_cli/src/job.rt", "fn write_state() {}", "write_state"),
+    ("crates/text_lines/src/words.rt", "pub fn keyword_at() {}", "keyword_at"),
 ]
 # What gives no name a second time, and so must not be found.
 HARMLESS = [
@@ -113,6 +163,8 @@ HARMLESS = [
     ("crates/replay_files/src/order.rt", "// struct Tracee;"),
     ("crates/trace_options/src/tests.rt", "struct Tracee;"),
     ("crates/thread_tests/src/lib.rt", "struct Tracee;"),
+    ("crates/mem_views/src/lib.rt", "fn write_state() {}"),
+    ("crates/tracer_cli/src/job.rt", "fn are_name_bytes() {}"),
 ]
 
 

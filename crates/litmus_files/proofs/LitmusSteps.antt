@@ -2,31 +2,25 @@
 use Rattle.std.proofs.Common.{refl, ◌≡◌, ◌∙◌, ◌<◌, ◌+◌, ◌*◌, ◌-◌, ◌++◌, ◌∷◌, [], ℕ, Bool, true, false, cond}
 use Rattle.std.proofs.Common.{List, Option, Some, None, Result, Ok, Err, IfErr, IsOk, OnOk, ap, arith, eqb, is_ok, is_some}
 use Rattle.std.proofs.Common.{length, map, nat_le, subst, sym}
-use Rattle.std.specs.Option.{ok_or}
 use Rattle.std.proofs.lemmas.Bool.Decides.{nat_tests}
 use Rattle.stop_explorer.specs.declared.command.ThreadCommand.{ThreadCommand}
 use Rattle.stop_explorer.specs.declared.voice.Voice.{Voice}
 use Rattle.stop_explorer.specs.declared.command.Which.TheVariants as which
-use Rattle.stop_history.specs.Roster.{row_of}
-use Rattle.stop_history.specs.declared.roster.Row.{Row}
 use Rattle.text_lines.specs.Ranges.{◌>>=◌}
 use Rattle.trace_script.specs.Reading.{TakesLine}
 use Rattle.trace_script.specs.declared.cause.Cause.{Cause}
-use Rattle.trace_script.specs.declared.cause.Cause.TheVariants.{NoEnd, NoMemory, NoSuchTracee, TooMany, UnknownWord}
+use Rattle.trace_script.specs.declared.cause.Cause.TheVariants.{NoEnd, NoMemory, TooMany, UnknownWord}
 use Rattle.litmus_files.specs.declared.draft.TheConstants.{MOST_COMMANDS, MOST_THREADS}
-use Rattle.litmus_files.specs.declared.line.Aim.{Aim}
 use Rattle.litmus_files.specs.declared.line.Aim.TheVariants as aim
 use Rattle.litmus_files.specs.declared.line.LitmusCommand.{LitmusCommand}
-use Rattle.litmus_files.specs.declared.line.LitmusReply.{LitmusReply}
 use Rattle.litmus_files.specs.declared.required.NumberedCommand.{NumberedCommand}
 use Rattle.litmus_files.specs.declared.required.NumberedLine.{NumberedLine}
 use Rattle.litmus_files.specs.LitmusDraft.{repeat_kept}
 use Rattle.std.proofs.lemmas.Option.{none-some, same_Some}
 use Rattle.litmus_files.specs.LitmusFile.{LitmusReading, OpenRepeat, command_in, commands_added}
 use Rattle.litmus_files.specs.LitmusFile.{copies_of, current_thread, leaving_line, litmus_command_added}
-use Rattle.litmus_files.specs.LitmusFile.{numbered_command, place_past, repeat_ended, reply_required, row_named}
-use Rattle.litmus_files.specs.LitmusFile.{thread_added, thread_command, wanted_of, wanted_row}
-use Rattle.litmus_files.specs.LitmusFile.{which_of}
+use Rattle.litmus_files.specs.LitmusFile.{numbered_command, place_past, repeat_ended, reply_required}
+use Rattle.litmus_files.specs.LitmusFile.{thread_added, thread_command}
 use Rattle.litmus_files.proofs.LitmusCopies.{length_copies}
 
 -- ---- out of memory is found by no test
@@ -45,44 +39,6 @@ found_first : {A S : Type 0} (cause : Cause) (new : S) (r : Result A Cause) (nex
 found_first {A} {S} cause new r next found is =
     let Found : Result A Cause → Type 0 = λ r. IfErr r IsFound in
     err_taken cause new (r >>= next) (subst Found (sym is) found) (ap (λ r. r >>= next) (sym is))
-
-bind_found : {A B : Type 0} (r : Result A Cause) (next : A → Result B Cause) → IfErr r IsFound
-    → ((a : A) → IfErr (next a) IsFound) → IfErr (r >>= next) IsFound
-bind_found (Ok a) next found rest = rest a
-bind_found (Err cause) next found rest = found
-
-named_found : (found : Option ℕ) → IfErr (ok_or found NoSuchTracee) IsFound
-named_found None = tt
-named_found (Some row) = tt
-
-which_found : (rows : List Row) (about : Aim) → IfErr (which_of rows about) IsFound
-which_found rows (aim.Tid tid) =
-    bind_found (row_named rows tid) (λ row. Ok (which.Row row)) (named_found (row_of rows tid)) (λ row. tt)
-which_found rows aim.Any = tt
-which_found rows (aim.Group pgid) = tt
-which_found rows aim.It = tt
-
-wanted_row_found : (rows : List Row) (tid : Option ℕ) → IfErr (wanted_row rows tid) IsFound
-wanted_row_found rows None = tt
-wanted_row_found rows (Some tid) =
-    bind_found (row_named rows tid) (λ row. Ok (Some row)) (named_found (row_of rows tid)) (λ row. tt)
-
-wanted_found : (rows : List Row) (reply : Option LitmusReply) → IfErr (wanted_of rows reply) IsFound
-wanted_found rows None = tt
-wanted_found rows (Some reply) =
-    bind_found (wanted_row rows reply.tid) (λ row. Ok (Some (record { row = row; answer = reply.answer })))
-    (wanted_row_found rows reply.tid) (λ row. tt)
-
-command_found : (rows : List Row) (command : LitmusCommand) → IfErr (thread_command rows command) IsFound
-command_found rows command =
-    bind_found (which_of rows command.aim)
-    (λ about. wanted_of rows command.reply >>= λ needed. Ok
-    (record { which = about; call = command.call; waits = command.waits; wanted = needed; leave_to = 0 }))
-    (which_found rows command.aim)
-    (λ about. bind_found (wanted_of rows command.reply)
-    (λ needed. Ok
-    (record { which = about; call = command.call; waits = command.waits; wanted = needed; leave_to = 0 }))
-    (wanted_found rows command.reply) (λ needed. tt))
 
 thread_by : (n : ℕ) (none : Bool) → IfErr (cond none (Err UnknownWord) (Ok (n - 1))) IsFound
 thread_by n true = tt
@@ -150,14 +106,6 @@ place_of_copies so_far n body len is =
     ap (λ l. place_past so_far (n * l)) is ∙ ap (place_past so_far) (sym (length_copies n body))
 
 -- ---- one more command
-
-pub command_refused : (n : ℕ) (so_far new : LitmusReading) (command : LitmusCommand) (cause : Cause)
-    → Err cause ≡ thread_command so_far.rows command
-    → TakesLine (Err cause) new (litmus_command_added n so_far command)
-command_refused n so_far new command cause is =
-    found_first cause new (thread_command so_far.rows command)
-    (λ made. command_in (reply_required n so_far made) so_far.repeat (numbered_command so_far made))
-    (command_found so_far.rows command) is
 
 pub command_taken : (n : ℕ) (so_far : LitmusReading) (command : LitmusCommand) (made : ThreadCommand)
     → Ok made ≡ thread_command so_far.rows command

@@ -22,7 +22,7 @@ use crate::keyword::{
 };
 use crate::line::{Aim, LitmusCommand, LitmusLine, Within};
 use crate::reply::reply_of;
-use replay_files::{Command, KINDS, Line, ReplayKeyword, rest_of, tracer_of};
+use replay_files::{Command, KINDS, Line, ReplayKeyword, replay_rest_of, tracer_of};
 use stop_explorer::{BoardCall, Voice};
 use text_lines::{LineFault, Words, keyword, number_between};
 use trace_options::LAST_SIGNAL;
@@ -165,9 +165,9 @@ fn bare_command(keyword: CommandKeyword, words: Words<'_>) -> Result<LitmusComma
     ensures range { IfOk result IsLitmusCommand }
 {
     match keyword {
-        CommandKeyword::Publish => as_in_replay(keyword, rest_of(ReplayKeyword::Publish, words)?),
-        CommandKeyword::Exit => as_in_replay(keyword, rest_of(ReplayKeyword::Exit, words)?),
-        CommandKeyword::State => as_in_replay(keyword, rest_of(ReplayKeyword::State, words)?),
+        CommandKeyword::Publish => as_in_replay(keyword, replay_rest_of(ReplayKeyword::Publish, words)?),
+        CommandKeyword::Exit => as_in_replay(keyword, replay_rest_of(ReplayKeyword::Exit, words)?),
+        CommandKeyword::State => as_in_replay(keyword, replay_rest_of(ReplayKeyword::State, words)?),
         CommandKeyword::Claim => claim_of(keyword, words),
         CommandKeyword::Wait => claim_of(keyword, words),
         CommandKeyword::Look => claim_of(keyword, words),

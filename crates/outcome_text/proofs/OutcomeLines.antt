@@ -1,7 +1,7 @@
 -- Texts of outcomes that are written piece by piece: the next piece, and the end.
 use Rattle.std.proofs.Common.{refl, ◌≡◌, ◌<◌, ◌≤◌, ◌+◌, ◌-◌, ◌++◌, ◌∷◌, [], ℕ, suc, zero, true, false, List, None, Option}
 use Rattle.std.proofs.Common.{Bor, length, get_or, drop, option_map, arith, ◌∙◌, ap, sym, append_assoc}
-use Rattle.std.proofs.Common.{append-nil, flat_map, min, zip, OnOk, Result, subst}
+use Rattle.std.proofs.Common.{append-nil, flat_map, min, zip}
 use Rattle.std.proofs.lemmas.List.{at_drop_all, drop_more, get_or-map}
 use Rattle.std.proofs.lemmas.Option.{get_or_from_slice_get, slice_get_within}
 use Rattle.std.proofs.lemmas.Slice.Zip.{get_or-zip, length-zip}
@@ -25,12 +25,6 @@ one_piece old part new rest all wrote cut =
 
 pub no_piece : (old all : List ℕ) → all ≡ [] → old ++ all ≡ old
 no_piece old all none = ap (λ t. old ++ t) none ∙ append-nil old
-
-pub last_piece : {T E : Type 0} (result : Result T E) (old part new all text : List ℕ)
-    → OnOk result (new ≡ old ++ part) → all ≡ part → old ++ all ≡ text → OnOk result (new ≡ text)
-last_piece {T} {E} result old part new all text wrote cut so_far =
-    let P : List ℕ → Type 0 = λ t. OnOk result (new ≡ t) in
-    subst P (ap (λ t. old ++ t) (sym cut) ∙ so_far) wrote
 
 -- of a list, each of which has a text
 pub pieces_more : {T : Type 0} (piece : T → List ℕ) (all : List T) (i : ℕ) (d : T) (old new : List ℕ) → i < length all

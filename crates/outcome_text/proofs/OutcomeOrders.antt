@@ -1,16 +1,15 @@
 -- The orders of turns, one after another.
-use Rattle.std.proofs.Common.{◌≡◌, ◌<◌, ◌≤◌, ◌+◌, ◌++◌, ◌∷◌, [], ℕ, suc, zero, List, Option, All, IfSome, length, get_or, drop, take}
-use Rattle.std.proofs.Common.{Some, None, slice_get, arith, ◌∙◌, ap, sym}
+use Rattle.std.proofs.Common.{◌≡◌, ◌<◌, ◌≤◌, ◌+◌, ◌++◌, [], ℕ, List, Option, length, get_or, drop, take}
+use Rattle.std.proofs.Common.{Some, None, ◌∙◌, ap, sym}
 use Rattle.std.specs.List.{cons_option}
 use Rattle.std.proofs.lemmas.List.{at_drop_all, drop_more, take_more}
 use Rattle.stop_history.specs.declared.roster.Row.{Row}
 use Rattle.stop_explorer.specs.declared.command.ThreadCommand.{ThreadCommand}
 use Rattle.stop_explorer.specs.declared.turn.Turn.{Turn}
-use Rattle.stop_explorer.specs.Program.{Log, index_from, own_turns}
+use Rattle.stop_explorer.specs.Program.{Log}
 use Rattle.text_lines.specs.Lines.{line_text}
 use Rattle.replay_files.specs.declared.order.Order.{Order}
-use Rattle.litmus_files.specs.LitmusGrammar.{HasTracer}
-use Rattle.outcome_text.specs.OutcomeOrder.{HaveTracers, order_of_turn, orders_after}
+use Rattle.outcome_text.specs.OutcomeOrder.{order_of_turn, orders_after}
 use Rattle.outcome_text.specs.OutcomeText.{command_of_turn}
 use Rattle.replay_files.specs.Spelling.{order_words, orders_text}
 
@@ -45,14 +44,3 @@ unfolding orders_after
 orders_over rows commands before turns i past = at_drop_all (orders_after rows commands before) turns i past
 
 -- ---- the tracer of a turn's command
-
-each_some : {X : Type 0} (P : X → Type 0) (xs : List X) → All P xs → (k : ℕ) → IfSome (slice_get xs k) P
-each_some P [] all k = tt
-each_some P (x ∷ xs) all zero = all 0 x (omega arith)
-each_some P (x ∷ xs) all (suc k) = each_some P xs (λ n d within. all (suc n) d (omega arith)) k
-
-pub turn_has_tracer : (commands : ℕ → List ThreadCommand) → HaveTracers commands → (before : Log) (turn : Turn)
-    → IfSome (command_of_turn commands before turn) (λ command. HasTracer command.call)
-turn_has_tracer commands all before turn =
-    each_some (λ (command : ThreadCommand). HasTracer command.call) (commands turn.thread) (all turn.thread)
-    (index_from (commands turn.thread) 0 (own_turns turn.thread before))

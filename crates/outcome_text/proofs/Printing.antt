@@ -1,5 +1,5 @@
 -- Texts that are collected and written part after part, and what of them is printed where a write fails.
-use Rattle.std.proofs.Common.{refl, ◌≡◌, ◌∙◌, ◌<◌, ◌++◌, [], ℕ, Bool, List, Option, Result, Ok, Err, ap}
+use Rattle.std.proofs.Common.{◌≡◌, ◌∙◌, ◌<◌, ◌++◌, [], ℕ, Bool, List, Option, Result, Ok, Err, ap}
 use Rattle.std.proofs.Common.{append_assoc, append-nil, arith, length, length-append, subst, sym}
 use Rattle.std.proofs.KnownBytes.{Appends-nil}
 use Rattle.std.specs.Io.KnownBytes.{Appends}
@@ -22,9 +22,6 @@ nothing_of a text some = (0, some, Appends-nil a)
 abbrev pub IsSoFar : (before now : Option (List ℕ)) → (old all new rest : List ℕ) → Type 0
 IsSoFar before now old all new rest =
     (written : List ℕ) × Appends before now written × (written ++ (new ++ rest) ≡ old ++ all)
-
-pub at_first : (a : Option (List ℕ)) (old all : List ℕ) → IsSoFar a a old all old all
-at_first a old all = ([], Appends-nil a, refl)
 
 module _ (a b c : Option (List ℕ)) (old all mid rest part more : List ℕ) (so_far : IsSoFar a b old all mid rest)
     (cut : rest ≡ part ++ more) where

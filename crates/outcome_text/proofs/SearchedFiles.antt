@@ -25,7 +25,6 @@ use Rattle.litmus_files.proofs.LitmusFiles.{length_kept}
 use Rattle.litmus_files.proofs.LitmusPlaces.{AreKnown}
 use Rattle.outcome_text.specs.declared.print_error.PrintError.{PrintError}
 use Rattle.outcome_text.specs.Chosen.{chosen_of, is_chosen}
-use Rattle.outcome_text.specs.OutcomeEnds.{ends_text}
 use Rattle.outcome_text.specs.OutcomeOrder.{HaveTracers}
 use Rattle.outcome_text.specs.OutcomeText.{chosen_text}
 use Rattle.outcome_text.specs.Printed.{IsPrintedIfMemory}
@@ -56,26 +55,6 @@ found_of_outcomes : (content : LitmusContent) (count places : ℕ) (found : List
     → AreOutcomes content count found places → AreFoundBy content (program_with count content.lines) found places
 found_of_outcomes content count places found all =
     record { complete = all.complete; sound = all.sound; distinct = all.distinct; counted = all.counted }
-
-pub outcomes_with : (content : LitmusContent) (count places : ℕ) (voices : List Voice) (program : Program)
-    (found : List EndedRun) → program ≡ program_with count content.lines → voices ≡ content.voices
-    → length content.voices ≡ length content.names → AreFound content.rows voices (length voices) program found places
-    → AreOutcomes content count found places
-outcomes_with content count places voices program found program_is voices_are long all =
-    let with_program = subst (λ p. AreFound content.rows voices (length voices) p found places) program_is all in
-    let with_voices = subst
-    (λ v. AreFound content.rows v (length v) (program_with count content.lines) found places) voices_are with_program in
-    outcomes_of content count places found
-    (subst (λ n. AreFound content.rows content.voices n (program_with count content.lines) found places) long
-    with_voices)
-
-pub more_with : (content : LitmusContent) (count budget : ℕ) (voices : List Voice) (program : Program)
-    → program ≡ program_with count content.lines → voices ≡ content.voices
-    → HasMorePlaces content.rows (is_quiet voices) (own_commands program) budget
-    → HasMorePlacesWith content count budget
-more_with content count budget voices program program_is voices_are more =
-    subst (λ v. HasMorePlaces content.rows (is_quiet v) (commands_with content count) budget) voices_are
-    (subst (λ p. HasMorePlaces content.rows (is_quiet voices) (own_commands p) budget) program_is more)
 
 -- where places have a number that is within the budget, they are not more than the budget
 pub not_more_with : (content : LitmusContent) (count budget places : ℕ) (voices : List Voice) (program : Program)
@@ -155,26 +134,6 @@ have_tracers lists lines same calls thread =
     (All-filter (is_line_of thread) LineHas lines (All-weaker Calls LineHas (λ line known. known.1) lines calls)))
 
 -- ---- all outcomes
-
-pub ends_are : (content : LitmusContent) (threads places : ℕ) (lists : ℕ → List ThreadCommand)
-    (conditions : List Condition) (rows : List Row) (names : List (Option (List ℕ))) (required : Bool)
-    (found : List EndedRun) (text : List ℕ) → rows ≡ content.rows → names ≡ content.names
-    → threads ≡ length content.names
-    → ((thread : ℕ) → lists thread ≡ commands_with content (all_required content) thread)
-    → conditions ≡ conditions_with (all_required content) content.conditions
-    → required ≡ not (all_required content == 0)
-    → text ≡ ends_text rows names lists required places (chosen_of threads lists conditions found)
-    → text ≡ all_text true content places (chosen_with content (all_required content) found)
-ends_are content threads places lists conditions rows names required found text rows_are names_are long own
-    conditions_are required_is is =
-    let chosen : List EndedRun = chosen_of threads lists conditions found in
-    is ∙ ap (λ r. ends_text r names lists required places chosen) rows_are
-    ∙ ap (λ n. ends_text content.rows n lists required places chosen) names_are
-    ∙ ap (λ l. ends_text content.rows content.names l required places chosen) (fun_ext own)
-    ∙ ap (λ q. ends_text content.rows content.names (commands_with content (all_required content)) q places chosen)
-    required_is
-    ∙ ap (all_text true content places)
-    (chosen_is content (all_required content) threads lists conditions found long own conditions_are)
 
 pub texts_are : (content : LitmusContent) (threads places : ℕ) (lists : ℕ → List ThreadCommand)
     (conditions : List Condition) (rows : List Row) (names : List (Option (List ℕ))) (voices : List Voice)

@@ -32,9 +32,3 @@ pub forbids_told : (requirements : List ℕ) (requires some : Bool) (test : Ende
 forbids_told requirements requires some test found is needs told =
     ap not told ∙ none_kept test found
     ∙ ap (λ needed. needed && (length (filter test found) == 0)) (sym needs ∙ is)
-
--- what requires nothing forbids nothing
-pub not_forbidden : (requirements : List ℕ) (requires : Bool) (chosen : List EndedRun)
-    → requires ≡ not (length requirements == 0) → requires ≡ false → false ≡ forbids requirements chosen
-not_forbidden requirements requires chosen is needs =
-    ap (λ needed. needed && (length chosen == 0)) (sym needs ∙ is)

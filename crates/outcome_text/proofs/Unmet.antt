@@ -225,15 +225,6 @@ first_at content low high between near few before unmet = record {
 
 -- ---- nothing that the file requires can be met
 
-some_by : (n : ℕ) → not (eqb n 0) ≡ true → 1 ≤ n
-some_by n is = grind (arith, nat_tests)
-
-pub forbidden_some : (content : LitmusContent) (chosen : List EndedRun) → forbids content.requirements chosen ≡ true
-    → 1 ≤ all_required content
-forbidden_some content chosen is =
-    some_by (length content.requirements)
-    (and_parts (not (eqb (length content.requirements) 0)) (eqb (length chosen) 0) is).0
-
 pub forbidden_unmet : (content : LitmusContent) (count places : ℕ) (found : List EndedRun) → AreKnown content
     → AreOutcomes content count found places → forbids content.requirements (chosen_with content count found) ≡ true
     → CanMeet content count → ⊥

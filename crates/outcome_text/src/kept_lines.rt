@@ -219,7 +219,7 @@ fn told_number(answer: &Answer) -> u32 {
 
 /// Writes a command that was done, and its answer.
 #[tactic(auto, using(replay_files::proofs::Written::in_three))]
-fn write_done<A: Allocator>(
+fn write_turn<A: Allocator>(
     out: &mut String<A>,
     rows: &[Row],
     turn: &Turn,
@@ -243,7 +243,7 @@ fn set_line<A: Allocator>(
     ensures { OnOk result (string_bytes line.new ≡ done_line rows.now turn.now (Some command.now)) }
 {
     line.clear();
-    write_done(line, rows, turn, command)
+    write_turn(line, rows, turn, command)
 }
 
 /// Sets `named` to a line of the order: the thread's name, or its number if it has none, a space, and the line of the

@@ -64,7 +64,7 @@ pub fn number_of(done: Result<u32, Error>) -> i32
 }
 
 /// A number of rows.
-pub fn number(rows: usize) -> i32
+pub fn count_of_rows(rows: usize) -> i32
     ensures { rows < 2 ^ 31 → result ≡ pos rows }
 {
     i32::try_from(rows).unwrap_or(i32::MAX)

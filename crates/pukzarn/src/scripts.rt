@@ -10,7 +10,7 @@ ghost use Rattle.pukzarn.specs.Call.{IsStatus, negative};
 ghost use Rattle.pukzarn.specs.Scripts.{AreRowsInto, IsCaseFault, IsCaseOpening, IsStepInto, IsWithSame};
 ghost use Rattle.pukzarn.specs.declared.handle_value.HandleValue.TheVariants as ends;
 
-use crate::call::{negative, number, status};
+use crate::call::{count_of_rows, negative, status};
 use crate::handle::Handle;
 use crate::handle_value::HandleValue;
 use c_interface::{
@@ -78,7 +78,7 @@ pub extern "C" fn pukzarn_case_rows(alloc: Global, handle: &mut Handle, rows: &m
         return negative(Error::EBADF);
     };
     let answer = match &mut *end {
-        HandleValue::Case(case) => number(rows_into(case.roster().rows(), rows)),
+        HandleValue::Case(case) => count_of_rows(rows_into(case.roster().rows(), rows)),
         _ => negative(Error::EBADF),
     };
     handle.fill(end);

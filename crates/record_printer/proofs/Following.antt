@@ -1,8 +1,8 @@
 -- A row follows its stops, also after one more.
-use Rattle.std.proofs.Common.{◌≡◌, ◌+◌, ◌-◌, ◌<◌, ◌≤◌, ◌++◌, ◌∷◌, ◌||◌, ℕ, zero, suc, Option, Some, None}
+use Rattle.std.proofs.Common.{◌≡◌, ◌+◌, ◌-◌, ◌<◌, ◌≤◌, ◌++◌, ◌∷◌, ℕ, zero, suc, Option, Some, None}
 use Rattle.std.proofs.Common.{refl, sym, ap, ◌∙◌, arith, inl, inr, not, find, is_some, IsSome}
-use Rattle.std.proofs.Common.{eqb, cond, nat_le, nat_lt, le-leb, lt-ltb}
-use Rattle.std.proofs.lemmas.Bool.{le-ltb, lt-leb}
+use Rattle.std.proofs.Common.{eqb, cond, nat_lt, lt-ltb}
+use Rattle.std.proofs.lemmas.Bool.{le-ltb}
 use Rattle.std.proofs.lemmas.Bool.{cases_order, cases_lt}
 use Rattle.std.specs.List.{range_with_len}
 use Rattle.record_printer.proofs.Options.{some_none}
@@ -88,15 +88,6 @@ waits old new stops number note follows later done fold put =
       waiting = λ n late. put n ∙ ap (λ x. cond (eqb number n) (Some note) x)
           (follows.waiting n (omega (arith, late, done)));
     }
-
--- a stop has come where it is folded or waits
-pub held_is : (kept : Kept) (stops : ℕ → Option Note) (number : ℕ) → KeepsStops kept stops → 1 ≤ number
-    → (nat_le number kept.done || is_some (note_in kept.early number)) ≡ is_some (stops number)
-held_is kept stops number follows positive =
-    elim (cases_lt kept.done number) [
-      | inl late ↦ rw (lt-leb number kept.done late, follows.waiting number late) refl
-      | inr folded ↦ rw (le-leb number kept.done folded, follows.each number positive folded) refl
-    ]
 
 -- ---- the least number without a stop
 

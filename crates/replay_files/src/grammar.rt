@@ -108,7 +108,7 @@ pub(crate) fn read_words(begun: bool, words: Words<'_>) -> Result<Line, LineFaul
         return Ok(Line::Nothing);
     }
     let keyword = in_place(begun, keyword(&KEYWORDS, first)?)?;
-    rest_of(keyword, rest)
+    replay_rest_of(keyword, rest)
 }
 
 /// Rows come before the first command.
@@ -122,7 +122,7 @@ fn in_place(begun: bool, keyword: ReplayKeyword) -> Result<ReplayKeyword, LineFa
 }
 
 /// What a line says, by the words after its first one.
-pub fn rest_of(keyword: ReplayKeyword, words: Words<'_>) -> Result<Line, LineFault>
+pub fn replay_rest_of(keyword: ReplayKeyword, words: Words<'_>) -> Result<Line, LineFault>
     ensures line { result ≡ replay_rest_of keyword (words_left words.entry) }
     ensures range { IfOk result IsLine }
 {

@@ -14,7 +14,7 @@ mod replies;
 mod state_name;
 
 pub use command::Command;
-pub use grammar::{KINDS, Line, ReplayKeyword, rest_of, tracer_of};
+pub use grammar::{KINDS, Line, ReplayKeyword, replay_rest_of, tracer_of};
 pub use order::Order;
 pub use reading::{GUESSES, row_of};
 pub use replay::replay_text;

@@ -7,7 +7,7 @@ use Rattle.stop_history.specs.State.{is_pending, is_waitable_for, state_after}
 use Rattle.stop_table.specs.declared.shown.Shown.{Shown}
 use Rattle.stop_table.specs.Entry.{Begins, Entry, bare, history_of}
 use Rattle.stop_table.specs.Claiming.{GetsNothing}
-use Rattle.stop_table.specs.Handle.{EndsWith, HasSteps, IsPoint, Looked, LooksAt}
+use Rattle.stop_table.specs.Handle.{EndsWith, HasSteps, IsPoint, Looked}
 use Rattle.stop_table.specs.Handle.{is_claimable, shown_of}
 use Rattle.stop_table.specs.View.{View, a_look}
 use Rattle.stop_table.proofs.Entries.{begins_on}
@@ -52,15 +52,6 @@ saw_nothing v w row a nothing =
             state = lost.1.shown;
           }
     ]
-
-pub saw_look : (v w : View) (row : ℕ) (a : Shown) → LooksAt v w row a → SawState v w row (λ at. a ≡ shown_of at)
-saw_look v w row a l = record {
-  point = l.1.point;
-  sooner = l.1.sooner;
-  later = l.1.later;
-  step = inl l.1.step;
-  state = l.1.shown;
-}
 
 pub not_waitable : (deaths : Bool) (at : State) → is_claimable deaths (shown_of at) ≡ false
     → is_waitable_for deaths at ≡ false

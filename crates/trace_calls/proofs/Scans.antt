@@ -28,15 +28,6 @@ use Rattle.trace_calls.specs.Waiting.{Claimed, IsFirst, SawState, Took, WasPasse
 use Rattle.trace_calls.proofs.Points.{begins_end, claimed_from, saw_as, saw_from, saw_on, showed_from}
 use Rattle.trace_calls.proofs.Rests.{gone_for_good, over_next, saw_gone}
 
-pub scan_none : (request : WaitRequest) (v : View) → AreLegal v.roster v.seen → Scanned request v v 0 false
-scan_none request v legal = record {
-  looked = stands_still v legal;
-  passed = λ row low selected. absurd (omega arith);
-  pends = λ is. cc;
-  gone = λ is row low selected. absurd (omega arith);
-  over = λ is parents row low selected. absurd (omega arith);
-}
-
 -- before the only row that is selected, none is
 pub scan_only : (request : WaitRequest) (v : View) (row : ℕ) → AreLegal v.roster v.seen
     → IsOnly v.roster request.selection row → Scanned request v v row false
@@ -216,14 +207,6 @@ module _ (request : WaitRequest) (u v w : View) (k : ℕ) (before : Bool) (roste
       ]
 
 -- ---- the end of the scan
-
-pub found_nothing : (request : WaitRequest) (u v : View) (k : ℕ) (before : Bool) → Scanned request u v k before
-    → length u.roster ≤ k → before ≡ true → NothingYet request u v
-found_nothing request u v k before s long is = record {
-  looked = s.looked;
-  passed = λ row selected. let within = selected.0 in s.passed row (omega arith) selected;
-  pends = s.pends is;
-}
 
 pub found_none : (request : WaitRequest) (u v : View) (k : ℕ) (before : Bool) → Scanned request u v k before
     → length u.roster ≤ k → before ≡ false → NoChild request u v

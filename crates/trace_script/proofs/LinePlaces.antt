@@ -10,7 +10,7 @@ use Rattle.trace_script.specs.declared.case.keyword.Keyword.TheVariants as keywo
 use Rattle.trace_script.specs.declared.case.keyword.Place.{Place}
 use Rattle.trace_script.specs.declared.case.keyword.Place.TheVariants.{Loading, Outside, Stepping}
 use Rattle.trace_script.specs.CaseLine.{only_word, Line, Part, call_of, data_part, does, exec_step, exit_step, fork_step, in_place}
-use Rattle.trace_script.specs.CaseLine.{keyword_at, keyword_of, line_of, loads, may_come, page_part, rest_of, signal_of}
+use Rattle.trace_script.specs.CaseLine.{keyword_at, keyword_of, line_of, loads, may_come, page_part, case_rest_of, signal_of}
 use Rattle.trace_script.specs.CaseLine.{start_part, thread_step}
 use Rattle.trace_script.specs.CaseLine as line
 use Rattle.trace_script.specs.RowWords.{row_of_words}
@@ -94,7 +94,7 @@ by_only : (word : Keyword) (lone : Result (List ℕ) LineFault) (read : List ℕ
 by_only word (Ok w) read each = each w
 by_only word (Err fault) read each = tt
 
-rest_comes : (word : Keyword) (words : List (List ℕ)) → IfOk (rest_of word words) (ComesWith word)
+rest_comes : (word : Keyword) (words : List (List ℕ)) → IfOk (case_rest_of word words) (ComesWith word)
 rest_comes keyword.Tracee words =
     only_if keyword.Tracee (eqb (length words) 4) _
     (said_by keyword.Tracee line.Opens (λ row place h. h)
@@ -128,18 +128,18 @@ comes_in place word (Ok said) comes may = comes place may
 comes_in place word (Err fault) comes may = tt
 
 fits_by : (place : Place) (words : List (List ℕ)) (word : Keyword) (may : Bool) → may_come place word ≡ may
-    → IfOk (cond may (Ok word) (Err UnknownWord) >>= λ w. rest_of w words) (FitsAt place)
+    → IfOk (cond may (Ok word) (Err UnknownWord) >>= λ w. case_rest_of w words) (FitsAt place)
 fits_by place words word true may =
-    comes_in place word (rest_of word words) (rest_comes word words) may
+    comes_in place word (case_rest_of word words) (rest_comes word words) may
 fits_by place words word false may = tt
 
 fits_word : (place : Place) (words : List (List ℕ)) (word : Result Keyword LineFault)
-    → IfOk ((word >>= in_place place) >>= λ w. rest_of w words) (FitsAt place)
+    → IfOk ((word >>= in_place place) >>= λ w. case_rest_of w words) (FitsAt place)
 fits_word place words (Ok word) = fits_by place words word (may_come place word) refl
 fits_word place words (Err fault) = tt
 
 fits_first : (place : Place) (first : List ℕ) (words : List (List ℕ)) (comment : Bool)
-    → IfOk (cond comment (Ok line.Nothing) (keyword_at place first >>= λ w. rest_of w words)) (FitsAt place)
+    → IfOk (cond comment (Ok line.Nothing) (keyword_at place first >>= λ w. case_rest_of w words)) (FitsAt place)
 fits_first place first words true = tt
 fits_first place first words false = fits_word place words (keyword_of first)
 

@@ -241,26 +241,26 @@ abbrev pub only_word : List (List ℕ) → Result (List ℕ) LineFault
 only_word words = if length words == 1 then Ok (nth_word words 0) else Err UnknownWord
 
 -- what the words after the first one say
-abbrev pub rest_of : Keyword → List (List ℕ) → Result Line LineFault
-rest_of keyword.Tracee words =
+abbrev pub case_rest_of : Keyword → List (List ℕ) → Result Line LineFault
+case_rest_of keyword.Tracee words =
     if length words == 4
     then opens (row_of_words (nth_word words 0) (nth_word words 1) (nth_word words 2) (nth_word words 3))
     else Err UnknownWord
-rest_of keyword.Page words = only_word words >>= λ word. loads (page_part word)
-rest_of keyword.Data words =
+case_rest_of keyword.Page words = only_word words >>= λ word. loads (page_part word)
+case_rest_of keyword.Data words =
     if length words == 2 then loads (data_part (nth_word words 0) (nth_word words 1)) else Err UnknownWord
-rest_of keyword.At words =
+case_rest_of keyword.At words =
     if length words == 2 then loads (start_part (nth_word words 0) (nth_word words 1)) else Err UnknownWord
-rest_of keyword.Call words = does (call_of words)
-rest_of keyword.Fork words = only_word words >>= λ word. does (fork_step word)
-rest_of keyword.Thread words = only_word words >>= λ word. does (thread_step word)
-rest_of keyword.Exec words = only_word words >>= λ word. does (exec_step word)
-rest_of keyword.Signal words = does (signal_of words)
-rest_of keyword.Exit words = only_word words >>= λ word. does (exit_step word)
-rest_of keyword.End words = if length words == 0 then Ok Closes else Err UnknownWord
+case_rest_of keyword.Call words = does (call_of words)
+case_rest_of keyword.Fork words = only_word words >>= λ word. does (fork_step word)
+case_rest_of keyword.Thread words = only_word words >>= λ word. does (thread_step word)
+case_rest_of keyword.Exec words = only_word words >>= λ word. does (exec_step word)
+case_rest_of keyword.Signal words = does (signal_of words)
+case_rest_of keyword.Exit words = only_word words >>= λ word. does (exit_step word)
+case_rest_of keyword.End words = if length words == 0 then Ok Closes else Err UnknownWord
 
 -- a line without words, and one whose first word begins with #, says nothing
 abbrev pub line_of : Place → List (List ℕ) → Result Line LineFault
 line_of place [] = Ok Nothing
 line_of place (first ∷ words) =
-    if slice_index first 0 == 35 then Ok Nothing else (keyword_at place first >>= λ word. rest_of word words)
+    if slice_index first 0 == 35 then Ok Nothing else (keyword_at place first >>= λ word. case_rest_of word words)

@@ -1,8 +1,7 @@
 -- What is shown of a litmus file: one outcome, all of them, or that none has all that the file requires.
 use Rattle.std.proofs.Common.{◌≡◌, ◌∙◌, ℕ, Bool, true, false, List, Option, Some, None, ap, sym}
 use Rattle.std.proofs.Math.Path.{fun_ext}
-use Rattle.std.proofs.lemmas.Option.{same_Some}
-use Rattle.std.specs.Prelude.{Ok, cond, length}
+use Rattle.std.specs.Prelude.{cond, length}
 use Rattle.stop_history.specs.declared.roster.Row.{Row}
 use Rattle.stop_explorer.specs.declared.command.ThreadCommand.{ThreadCommand}
 use Rattle.stop_explorer.specs.Run.{EndedRun}
@@ -19,15 +18,9 @@ use Rattle.outcome_text.proofs.SearchedFiles.{chosen_is}
 use Rattle.tracer_cli.specs.declared.arguments.ExploreOptions.{ExploreOptions}
 use Rattle.tracer_cli.specs.declared.arguments.Listing.{Listing}
 use Rattle.tracer_cli.specs.declared.arguments.Listing.TheVariants as listing
-use Rattle.tracer_cli.specs.declared.failure.Failure.TheVariants.{NoOutcome}
-use Rattle.tracer_cli.specs.Explored.{IsShown, IsUnshown, asked_text, number_asked, shows_ends}
+use Rattle.tracer_cli.specs.Explored.{IsShown, asked_text, number_asked, shows_ends}
 
 -- ---- one outcome
-
-asked_is : (asked : Listing) (number : ℕ) → number_asked asked ≡ Some number → asked ≡ listing.Replay number
-asked_is (listing.Replay other) number is = ap listing.Replay (same_Some other number is)
-asked_is listing.Outcomes number is = absurd (let clash : None ≡ Some number = is in cc)
-asked_is listing.Ends number is = absurd (let clash : None ≡ Some number = is in cc)
 
 pub order_is : (content : LitmusContent) (number threads places : ℕ) (lists : ℕ → List ThreadCommand)
     (conditions : List Condition) (rows : List Row) (found : List EndedRun) (shown : Option (List ℕ))
@@ -41,35 +34,6 @@ order_is content number threads places lists conditions rows found shown rows_ar
     ∙ ap (λ l. outcome_replay content.rows l number (chosen_of threads lists conditions found)) (fun_ext own)
     ∙ ap (outcome_replay content.rows (commands_with content (all_required content)) number)
     (chosen_is content (all_required content) threads lists conditions found long own conditions_are)
-
-pub order_shown : (options : ExploreOptions) (content : LitmusContent) (searched : Searched) (number : ℕ)
-    (shown : Option (List ℕ)) (text : List ℕ) → IsSearched content options.budget (all_required content) searched
-    → number_asked options.listing ≡ Some number
-    → shown ≡ asked_text (listing.Replay number) content searched.explored.runs searched.explored.places
-    → shown ≡ Some text → IsShown options content text false
-order_shown options content searched number shown text known asked is some = record {
-  found = searched.explored.runs;
-  places = searched.explored.places;
-  all = known.all;
-  few = known.few;
-  shows = ap (λ l. asked_text l content searched.explored.runs searched.explored.places)
-      (asked_is options.listing number asked) ∙ sym is ∙ some;
-}
-
-pub no_order : (options : ExploreOptions) (content : LitmusContent) (searched : Searched) (number : ℕ)
-    (shown : Option (List ℕ)) → IsSearched content options.budget (all_required content) searched
-    → number_asked options.listing ≡ Some number
-    → shown ≡ asked_text (listing.Replay number) content searched.explored.runs searched.explored.places
-    → shown ≡ None → IsUnshown options (Ok content) (NoOutcome number)
-no_order options content searched number shown known asked is none = record {
-  found = searched.explored.runs;
-  places = searched.explored.places;
-  all = known.all;
-  few = known.few;
-  asked = asked_is options.listing number asked;
-  none = ap (λ l. asked_text l content searched.explored.runs searched.explored.places)
-      (asked_is options.listing number asked) ∙ sym is ∙ none;
-}
 
 -- ---- all outcomes
 

@@ -179,8 +179,8 @@ fn run_options<'a>(matches: &ArgMatches<'a>) -> RunOptions<'a>
     RunOptions {
         follow: matches.get_flag("follow"),
         seccomp: matches.get_flag("seccomp-bpf"),
-        workers: number(matches, "workers", 1, TRACERS),
-        limit: number(matches, "limit", 0, MOST_SHOWN),
+        workers: number_of(matches, "workers", 1, TRACERS),
+        limit: number_of(matches, "limit", 0, MOST_SHOWN),
         names: matches.get_str("names"),
     }
 }
@@ -191,7 +191,7 @@ fn explore_options(matches: &ArgMatches) -> Option<ExploreOptions>
 {
     let ends = matches.get_flag("ends");
     let outcome = place(matches, "replay", MOST_PLACES);
-    let budget = number(matches, "budget", 1, MOST_PLACES);
+    let budget = number_of(matches, "budget", 1, MOST_PLACES);
     let Some(listing) = listing_of(ends, outcome) else {
         return None;
     };
@@ -221,7 +221,7 @@ fn place(matches: &ArgMatches, id: &str, most: u32) -> Option<u32>
 
 /// A number that clap has found in its range. That it is there, and in the range, clap's contract does not say of a
 /// subcommand.
-fn number(matches: &ArgMatches, id: &str, low: u32, most: u32) -> u32
+fn number_of(matches: &ArgMatches, id: &str, low: u32, most: u32) -> u32
     requires { low ≤ most }
     ensures number { IsNumber low most (one_text (found_of matches.now) id.now) result }
     ensures range { (low ≤ result) × (result ≤ most) }

@@ -47,20 +47,20 @@ pub(crate) fn read_job<H: Files + AllocGlobal, R: Read>(
 {
     match request {
         Request::Help(text) => Ok(Job::Print(text)),
-        Request::Replay { file } => Ok(Job::Replay(read_file(rt, file, input)?)),
+        Request::Replay { file } => Ok(Job::Replay(text_of_file(rt, file, input)?)),
         Request::Run { options, file } => {
             let config = run_config(rt.alloc(), &options)?;
-            Ok(Job::Run(config, read_file(rt, file, input)?))
+            Ok(Job::Run(config, text_of_file(rt, file, input)?))
         }
         Request::Explore { options, file } => {
-            Ok(Job::Explore(options, read_file(rt, file, input)?))
+            Ok(Job::Explore(options, text_of_file(rt, file, input)?))
         }
     }
 }
 
 /// The bytes of a file, or of standard input where none is named; one more than a file may have at most. Where a file
 /// is named nothing is read of standard input.
-fn read_file<H: Files + AllocGlobal, R: Read>(
+fn text_of_file<H: Files + AllocGlobal, R: Read>(
     rt: &H,
     file: Option<&str>,
     input: &mut R,

@@ -136,16 +136,6 @@ death_by p (Through y) d is good =
 death_by p (Died death) d is good = let same : death ≡ d = cc in subst IsDeath same good
 death_by p (Faulted address) d is good = cc
 
-fewer_by : (p : Position) (o : Outcome) (c : Content) → element_by p o ≡ StopIs c
-    → (c.number ≡ p.number + 1) × ((position_by p o).number ≡ p.number + 1)
-fewer_by p (Stopped left at y) c is =
-    let same : p.number + 1 ≡ c.number = cc in (sym same, refl)
-fewer_by p (Exiting death y) c is =
-    let same : p.number + 1 ≡ c.number = cc in (sym same, refl)
-fewer_by p (Through y) c is = cc
-fewer_by p (Died death) c is = cc
-fewer_by p (Faulted address) c is = cc
-
 -- the next stop of a row is one that the row may make
 pub record IsNextStop (plan : Plan) (row : ℕ) (a : Left) (q : Position) (c : Content) : Type 0 where
   pub stop : IsStop c.stop

@@ -32,9 +32,6 @@ on_beside v u h taken on =
     goes_on (actors_of v) v.seen u.seen h taken.seen
     (on.0, on.1, quiet_part (actors_of v) (actors_of u) taken.acts on.0 on.2)
 
-pub takes_itself : (v : View) → TakesIn v v
-takes_itself v = record { seen = ([], refl, tt); acts = λ a own. own }
-
 or_left : (a b : Bool) → a ≡ true → (a || b) ≡ true
 or_left true b is = refl
 or_left false b is = cc

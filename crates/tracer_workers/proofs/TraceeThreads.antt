@@ -26,7 +26,7 @@ use Rattle.stop_table.specs.Handle.{EndsWith, Grows, IsSame, Looked, TakesUp, ow
 use Rattle.stop_table.specs.Tracee.{IsTraceeHandle, TraceeHandle}
 use Rattle.stop_table.specs.View.{actors_of, is_among}
 use Rattle.stop_table.proofs.Own.{own_stays, same_actors}
-use Rattle.stop_table.proofs.Walking.{itself, looked_on}
+use Rattle.stop_table.proofs.Walking.{looked_on}
 use Rattle.trace_script.specs.Machine.{IsAnswer}
 use Rattle.trace_script.specs.StopTrace.{DeathIs, Element, FaultIs, Position, StopIs, context_of, next_element}
 use Rattle.trace_script.specs.StopTrace.{next_position, position_after}
@@ -248,10 +248,6 @@ pub record RunsOn (e f : TraceeHandle) (p q : Position) : Type 0 where
   pub idle : f.view.taken ≡ false
   pub same : IsSameTracee e f
   pub script : (plan : Plan) → IsOnScript plan e p → IsOnScript plan f q
-
-pub runs_from : (e : TraceeHandle) (p : Position) → IsTraceeHandle e → e.view.taken ≡ false → RunsOn e e p p
-runs_from e p is idle =
-    record { handle = is; idle = idle; same = (refl, refl, itself e.view); script = λ plan on. on }
 
 -- a row that is taken up is where it was in its script
 module _ (e f : TraceeHandle) (is : IsTraceeHandle e) (row : f.row ≡ e.row) (grows : Grows e.view f.view) where

@@ -16,7 +16,7 @@ use Rattle.stop_history.specs.declared.roster.Row.{Row}
 use Rattle.stop_history.specs.declared.state.State.TheVariants as state
 use Rattle.stop_history.specs.Actor.{IsQuiet, actor_of}
 use Rattle.stop_history.specs.Event as event
-use Rattle.stop_history.specs.Event.{Event, events_of, subject}
+use Rattle.stop_history.specs.Event.{Event, events_of}
 use Rattle.stop_history.specs.Roster.{IsRoster, row_at}
 use Rattle.stop_history.specs.State.{is_born, number_in, state_after, state_in}
 use Rattle.stop_history.specs.Word.{claimed_phase}
@@ -141,14 +141,6 @@ kept_more_by short old new piece whole is before after k =
     subst (AreKept before (after ++ piece ∷ []) new) (sym whole)
     (subst (λ kept. AreKept before (after ++ piece ∷ []) kept false) (sym is)
     (kept_more before after old piece (subst (AreKept before after old) whole k)))
-
-pub kept_short : (before after kept : List Piece) (short : Bool) (piece : Piece) → AreKept before after kept short
-    → AreKept before (after ++ piece ∷ []) kept true
-kept_short before after kept short piece k = record {
-  missing = k.missing ++ piece ∷ [];
-  all = ap (λ pieces. pieces ++ piece ∷ []) k.all ∙ append_assoc (before ++ kept) k.missing (piece ∷ []);
-  whole = λ none. cc;
-}
 
 -- ---- the last event of a row
 

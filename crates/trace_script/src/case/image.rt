@@ -34,7 +34,7 @@ pub(crate) fn no_image<A: Allocator + Copy>(alloc: A) -> Image<MemoryParts<A>>
 }
 
 /// The bytes that a byte word writes.
-pub(crate) fn decode<A: Allocator + Copy>(
+pub(crate) fn decode_bytes<A: Allocator + Copy>(
     alloc: A,
     digits: &DigitValues,
     word: &[u8],
@@ -184,7 +184,7 @@ fn put_bytes<A: Allocator + Copy>(
     if memory.check_run(addr, word.len() / 2).is_err() {
         return Err(Cause::Unmapped);
     }
-    let Ok(bytes) = decode(alloc, digits, word) else {
+    let Ok(bytes) = decode_bytes(alloc, digits, word) else {
         return Err(Cause::NoMemory);
     };
     let Ok(()) = image.memory.store(addr, bytes.as_slice()) else {

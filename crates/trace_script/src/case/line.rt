@@ -2,7 +2,7 @@
 
 ghost use Rattle.std.specs.Prelude.{◌≡◌, IfOk};
 ghost use Rattle.text_lines.specs.Words.{words_left};
-ghost use Rattle.trace_script.specs.CaseLine.{data_part, line_of, page_part, rest_of, signal_of, signal_step};
+ghost use Rattle.trace_script.specs.CaseLine.{data_part, line_of, page_part, case_rest_of, signal_of, signal_step};
 ghost use Rattle.trace_script.specs.CaseLine.{start_part};
 ghost use Rattle.trace_script.specs.RawLine.{IsTested, IsTestedPart, IsTestedStep, if_said, line_said, part_said};
 ghost use Rattle.trace_script.specs.RawLine.{step_said};
@@ -27,12 +27,12 @@ pub(crate) fn read_words<'a>(place: Place, words: Words<'a>) -> Result<RawLine<'
         return Ok(RawLine::Nothing);
     }
     let keyword = keyword_at(place, first)?;
-    rest_of(keyword, rest)
+    case_rest_of(keyword, rest)
 }
 
 /// What the words after the first one say.
-fn rest_of<'a>(keyword: Keyword, words: Words<'a>) -> Result<RawLine<'a>, LineFault>
-    ensures line { if_said line_said result ≡ rest_of keyword (words_left words.entry) }
+fn case_rest_of<'a>(keyword: Keyword, words: Words<'a>) -> Result<RawLine<'a>, LineFault>
+    ensures line { if_said line_said result ≡ case_rest_of keyword (words_left words.entry) }
     ensures range { IfOk result IsTested }
 {
     match keyword {

@@ -84,7 +84,7 @@ fn look_at<'a, A: Allocator>(
         Act::Calls => Ok(memory),
         Act::Becomes => Ok(memory_after(step, memory)),
         Act::Stores(fill) => {
-            check(fill, walk.filled, memory)?;
+            check_fill(fill, walk.filled, memory)?;
             Ok(memory)
         }
         Act::Answers(_) => Ok(memory),
@@ -118,7 +118,7 @@ fn memory_after<'a, A: Allocator>(step: &'a Step<Memory<A>>, memory: &'a Memory<
 }
 
 /// The bytes that a call writes.
-fn check<A: Allocator>(fill: Fill, filled: &[u8], memory: &Memory<A>) -> Result<(), Found>
+fn check_fill<A: Allocator>(fill: Fill, filled: &[u8], memory: &Memory<A>) -> Result<(), Found>
     ensures { let bytes = (fill_of filled.now fill).bytes in
         result ≡ fill_check (store_answer (run_end memory.now fill.addr (length bytes))) }
 {

@@ -114,20 +114,35 @@ fn a_group_that_has_exited_keeps_its_code_though_its_leader_is_killed_then() {
     });
 }
 
-#[test]
-fn who_is_killed_makes_no_stop_any_more() {
+/// After these calls for a tracee that goes on, the next thing that is heard of it is its death.
+fn dies_of(calls: fn(Pid)) {
     builder().exhaustive().check(|sim| {
         sim.kills();
         sim.tracee(Row::root(100), |tracee| tracee.stop(Stop::Start).map(drop));
-        sim.tracer("main", || {
+        sim.tracer("main", move || {
             let pid = wait().unwrap().pid().unwrap();
             ptrace::cont(pid, None).unwrap();
-            ptrace::interrupt(pid).unwrap();
-            ptrace::kill(pid).unwrap();
+            calls(pid);
             let status = wait().unwrap();
             assert!(matches!(status, WaitStatus::Exited(..) | WaitStatus::Signaled(..)), "{status:?}");
         });
         sim.run().assert_all_reaped();
+    });
+}
+
+#[test]
+fn who_is_killed_makes_no_stop_any_more() {
+    dies_of(|pid| {
+        ptrace::interrupt(pid).unwrap();
+        ptrace::kill(pid).unwrap();
+    });
+}
+
+#[test]
+fn who_is_killed_is_not_interrupted_any_more() {
+    dies_of(|pid| {
+        ptrace::kill(pid).unwrap();
+        let _ = ptrace::interrupt(pid);
     });
 }
 
@@ -324,23 +339,6 @@ fn a_group_that_exits_keeps_its_code_though_its_leader_is_killed_at_the_exit_eve
             assert!(matches!(waitpid(leader, None), Ok(WaitStatus::PtraceEvent(..))));
             ptrace::kill(leader).unwrap();
             assert_eq!(waitpid(leader, None), Ok(WaitStatus::Exited(leader, 3)));
-        });
-        sim.run().assert_all_reaped();
-    });
-}
-
-#[test]
-fn who_is_killed_is_not_interrupted_any_more() {
-    builder().exhaustive().check(|sim| {
-        sim.kills();
-        sim.tracee(Row::root(100), |tracee| tracee.stop(Stop::Start).map(drop));
-        sim.tracer("main", || {
-            let pid = wait().unwrap().pid().unwrap();
-            ptrace::cont(pid, None).unwrap();
-            ptrace::kill(pid).unwrap();
-            let _ = ptrace::interrupt(pid);
-            let status = wait().unwrap();
-            assert!(matches!(status, WaitStatus::Exited(..) | WaitStatus::Signaled(..)), "{status:?}");
         });
         sim.run().assert_all_reaped();
     });

@@ -10,8 +10,8 @@ use Rattle.tracer_cli.proofs.arguments.explore_options.Goals as goal
 pub returns : goal.returns
 returns c =
     let found = found_of c.args.matches.now in record {
-      budget = subst (λ (read : Option Text). IsNumber 1 MOST_PLACES read c.number-budget.result)
-          (one_text-rows found (codes "budget")) c.number-budget.ensures.number;
+      budget = subst (λ (read : Option Text). IsNumber 1 MOST_PLACES read c.number_of-budget.result)
+          (one_text-rows found (codes "budget")) c.number_of-budget.ensures.number;
       ends = c.get_flag-ends.result;
       outcome = c.place-outcome.result;
       asked = record {

@@ -15,10 +15,10 @@ returns c =
           (flag_is _ c.get_flag.result c.get_flag.ensures.none c.get_flag.ensures.value c.get_flag.ensures.other);
       seccomp = subst (λ (read : Option Text). IsFlag read c.get_flag-2.result) (one_text-rows found (codes "seccomp-bpf"))
           (flag_is _ c.get_flag-2.result c.get_flag-2.ensures.none c.get_flag-2.ensures.value c.get_flag-2.ensures.other);
-      workers = subst (λ (read : Option Text). IsNumber 1 TRACERS read c.number.result)
-          (one_text-rows found (codes "workers")) c.number.ensures.number;
-      some_workers = c.number.ensures.range;
-      limit = subst (λ (read : Option Text). IsNumber 0 MOST_SHOWN read c.number-2.result)
-          (one_text-rows found (codes "limit")) c.number-2.ensures.number;
+      workers = subst (λ (read : Option Text). IsNumber 1 TRACERS read c.number_of.result)
+          (one_text-rows found (codes "workers")) c.number_of.ensures.number;
+      some_workers = c.number_of.ensures.range;
+      limit = subst (λ (read : Option Text). IsNumber 0 MOST_SHOWN read c.number_of-2.result)
+          (one_text-rows found (codes "limit")) c.number_of-2.ensures.number;
       names = c.get_str.ensures ∙ first_value-rows found (codes "names");
     }

@@ -12,7 +12,7 @@ use Rattle.memchr.specs.Find.{IsFirstByte}
 use Rattle.text_lines.specs.Lines.{has_letters, lines_of, without_empty_end, words_in}
 
 -- the first place, where there is one
-place : (p : ℕ → Bool) (xs : List ℕ) (i : ℕ) → position p xs ≡ Some i
+pub place : (p : ℕ → Bool) (xs : List ℕ) (i : ℕ) → position p xs ≡ Some i
     → (position_or_len p xs ≡ i) × (position_or_len p xs < length xs)
 place p xs i h =
     elim (cases_lt (position_or_len p xs) (length xs)) [
@@ -22,7 +22,7 @@ place p xs i h =
           absurd (let clash : None ≡ Some i = sym is ∙ h in cc)
     ]
 
-nowhere : (p : ℕ → Bool) (xs : List ℕ) → position p xs ≡ None → length xs ≤ position_or_len p xs
+pub nowhere : (p : ℕ → Bool) (xs : List ℕ) → position p xs ≡ None → length xs ≤ position_or_len p xs
 nowhere p xs h =
     elim (cases_lt (position_or_len p xs) (length xs)) [
       | inl inside ↦ let is : position p xs ≡ Some (position_or_len p xs) = rw (lt-ltb _ _ inside) in

@@ -1,4 +1,5 @@
 pub mod Cuts
 pub mod Decimals
 pub mod Digits
+pub mod Spaces
 pub mod Spelled

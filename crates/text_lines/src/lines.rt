@@ -1,9 +1,15 @@
 //! The lines of a text, and the first word of a line, as slices of it.
 
-ghost use Rattle.std.specs.Prelude.{◌≡◌, ◌≢◌, ◌==◌, ◌<◌, ◌^◌, ◌∷◌, [], MatchOption, length, position, slice_index};
+ghost use Rattle.std.specs.Prelude.{◌≡◌, ◌≢◌, ◌==◌, ◌<◌, ◌≤◌, ◌^◌, ◌∷◌, [], MatchOption, length, position};
+ghost use Rattle.std.specs.Prelude.{slice_index, take};
+ghost use Rattle.std.specs.List.{position_or_len};
 ghost use Rattle.text_lines.specs.Lines.{last_line, lines_of, words_in};
 
 use memchr::memchr;
+use std::simd::prelude::*;
+
+/// How many bytes are compared at once.
+const LANES: usize = 8;
 
 /// The first line of a text that is not empty, without its line feed, and what follows it. The last line may lack the
 /// line feed.
@@ -68,9 +74,40 @@ fn without_spaces(line: &[u8]) -> &[u8]
     rest
 }
 
-/// The place of the first space.
+/// The place of the first space. Most words end among the bytes that are compared at once.
+#[tactic(auto, using(crate::proofs::Spaces::near))]
 fn space(line: &[u8]) -> Option<usize>
     ensures { result ≡ position (λ b. b == 32) line.now }
 {
+    if line.len() < LANES {
+        return space_by_byte(line);
+    }
+    let before = bytes_before_space(line);
+    if before < LANES {
+        return Some(before);
+    }
+    let after = space_by_byte(&line[LANES..])?;
+    Some(LANES + after)
+}
+
+/// The same, one byte after the other.
+fn space_by_byte(line: &[u8]) -> Option<usize>
+    ensures { result ≡ position (λ b. b == 32) line.now }
+{
     line.iter().position(|b| *b == b' ')
+}
+
+/// How many of the bytes that are compared at once come before the first space among them.
+fn bytes_before_space(line: &[u8]) -> usize
+    requires { LANES ≤ length line.now }
+    ensures { result ≡ position_or_len (λ b. b == 32) (take LANES line.now) }
+{
+    let spaces = u8x8::from_slice(line)
+        .simd_eq(u8x8::splat(b' '))
+        .to_bitmask();
+    if spaces == 0 {
+        LANES
+    } else {
+        spaces.trailing_zeros() as usize
+    }
 }

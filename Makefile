@@ -20,7 +20,7 @@ VERSION = $(shell sed -n 's/.*\.version("\(.*\)").*/\1/p' crates/tracer_cli/src/
 	tools library archive c-header library-test rust-test install-library install-program install clean
 
 all: kit
-	@echo "make: proving the program and what it stands on, over what earlier runs kept (the first time: up to 45 minutes)"
+	@echo "make: proving the program and what it stands on, over what earlier runs kept (the first time: 40 minutes)"
 	@RT="$(RT)" $(PYTHON) tools/build.py tracer
 	@mkdir -p bin && cp crates/tracer/out/tracer bin/tracer
 	@echo "make: bin/tracer is built"

@@ -1,8 +1,11 @@
+pub mod CommandsSpelled
 pub mod FirstOf
+pub mod LitmusBack
 pub mod LitmusCopies
 pub mod LitmusFiles
 pub mod LitmusForward
 pub mod LitmusPlaces
 pub mod LitmusRanges
 pub mod LitmusSteps
+pub mod SpelledExample
 pub mod ThreadNames

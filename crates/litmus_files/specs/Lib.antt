@@ -1,7 +1,9 @@
+pub mod CommandText
 pub mod LitmusCondition
 pub mod LitmusDraft
 pub mod LitmusFile
 pub mod LitmusGrammar
 pub mod LitmusLine
 pub mod LitmusReply
+pub mod LitmusSpelling
 pub mod Required

@@ -19,7 +19,7 @@ use Rattle.stop_explorer.proofs.Logs.{own_none, own_one, progress_one}
 use Rattle.outcome_text.proofs.SetLists.{get_set_other, set_there}
 use Rattle.outcome_text.specs.declared.turn_texts.WrittenTurn.{WrittenTurn}
 use Rattle.outcome_text.specs.AnswerText.{answer_text}
-use Rattle.outcome_text.specs.CommandText.{command_text}
+use Rattle.litmus_files.specs.CommandText.{command_text}
 use Rattle.outcome_text.specs.KeptLines.{AreLinesKept}
 use Rattle.outcome_text.specs.OutcomeText.{command_of_turn, done_line, name_at, order_lines, order_text, quiet_line}
 use Rattle.outcome_text.specs.OutcomeText.{thread_head, thread_lines, thread_text, thread_word, told_lines, turn_line}

@@ -3,7 +3,7 @@ use Rattle.std.proofs.Common.{refl, ◌≡◌, ◌++◌, ◌∷◌, ◌∙◌, [
 use Rattle.std.proofs.Common.{subst, sym}
 use Rattle.std.specs.List.{join_with_byte}
 use Rattle.text_lines.specs.Lines.{line_text}
-use Rattle.outcome_text.specs.CommandText.{spaced}
+use Rattle.outcome_text.specs.SpacedWords.{spaced}
 
 -- after the first word each has a space before it
 pub joined : (first : List ℕ) (words : List (List ℕ)) → join_with_byte 32 (first ∷ words) ≡ first ++ spaced words

@@ -1,6 +1,5 @@
 pub mod AnswerText
 pub mod Chosen
-pub mod CommandText
 pub mod Conditions
 pub mod CutOff
 pub mod Halving
@@ -10,5 +9,6 @@ pub mod OutcomeOrder
 pub mod OutcomeText
 pub mod Printed
 pub mod Searched
+pub mod SpacedWords
 pub mod TurnTexts
 pub mod Waiting

@@ -11,7 +11,7 @@ use Rattle.stop_explorer.specs.Program.{Log, command_after, index_after, own_tur
 use Rattle.stop_explorer.specs.Progress.{is_quiet}
 use Rattle.stop_explorer.specs.Run.{EndedRun}
 use Rattle.outcome_text.specs.AnswerText.{answer_text, waits_text}
-use Rattle.outcome_text.specs.CommandText.{command_text}
+use Rattle.litmus_files.specs.CommandText.{command_text}
 use Rattle.replay_files.specs.Replies.{state_text}
 
 -- ---- names

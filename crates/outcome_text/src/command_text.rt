@@ -2,7 +2,8 @@
 
 ghost use Rattle.std.specs.Prelude.{◌≡◌, ◌++◌, ◌∷◌, [], ℕ, List, OnOk, decimal, string_bytes};
 ghost use Rattle.std.specs.List.{join_with_byte};
-ghost use Rattle.outcome_text.specs.CommandText.{board_call_words, command_text, spaced, tracee_word};
+ghost use Rattle.litmus_files.specs.CommandText.{board_call_words, command_text, tracee_word};
+ghost use Rattle.outcome_text.specs.SpacedWords.{spaced};
 ghost use Rattle.replay_files.specs.Spelling.{death_words, kind_word, stop_words};
 
 use replay_files::{tid_at, write_number};

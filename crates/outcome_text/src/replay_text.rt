@@ -2,7 +2,7 @@
 
 ghost use Rattle.std.specs.Prelude.{◌≡◌, ◌++◌, ℕ, false, List, OnOk, string_bytes};
 ghost use Rattle.text_lines.specs.Lines.{line_text};
-ghost use Rattle.outcome_text.specs.CommandText.{board_call_words};
+ghost use Rattle.litmus_files.specs.CommandText.{board_call_words};
 ghost use Rattle.replay_files.specs.Spelling.{order_words, row_words, rows_text, words_about};
 
 use crate::command_text::write_call;

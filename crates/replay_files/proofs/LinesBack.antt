@@ -37,7 +37,7 @@ row_line_are_words row has = (refl, row_are_words row has)
 
 -- ---- commands
 
-tracer_read : (c : ℕ) → c < TRACERS → tracer_number (decimal c) ≡ Ok c
+pub tracer_read : (c : ℕ) → c < TRACERS → tracer_number (decimal c) ≡ Ok c
 tracer_read c some = decimal_between 0 (TRACERS - 1) c (omega arith) (omega arith) (lit< tt)
 
 plain_said : (tid name : List ℕ) (t : ℕ) (s : Stop) → id_of tid ≡ Ok t → plain_stop name ≡ Ok s
@@ -108,11 +108,11 @@ ending_killed_said tid number t n id is =
 state_said : (tid : List ℕ) (t : ℕ) → id_of tid ≡ Ok t → state_line tid ≡ Ok (line.Command t command.State)
 state_said tid t id = ap (λ r. r >>= λ t. Ok (line.Command t command.State)) id
 
-kind_read : (k : Kind) → kind_of (kind_word k) ≡ Ok k
+pub kind_read : (k : Kind) → kind_of (kind_word k) ≡ Ok k
 kind_read kind.Syscall = refl
 kind_read kind.Cont = refl
 
-kind_is_word : (k : Kind) → is_word (kind_word k) ≡ true
+pub kind_is_word : (k : Kind) → is_word (kind_word k) ≡ true
 kind_is_word kind.Syscall = refl
 kind_is_word kind.Cont = refl
 

@@ -1,12 +1,14 @@
 -- What `decimal` writes is a word, and is read as its number.
 use Rattle.std.proofs.Common.{refl, ◌≡◌, ◌+◌, ◌*◌, ◌^◌, ◌<◌, ◌≤◌, ◌&&◌, ◌∷◌, [], ℕ, Bool, true, false, nat_lt, nat_le}
 use Rattle.std.proofs.Common.{List, Some, None, Ok, length, drop, cond, arith, eqb, ne_eqb, lt-ltb, le-leb, decimal}
-use Rattle.std.proofs.Common.{suc, ap, ◌∙◌, ℤ, pos, negsuc}
+use Rattle.std.proofs.Common.{suc, ap, sym, ◌∙◌, ℤ, pos, negsuc, bytes_eq, inl, inr}
 use Rattle.std.specs.Prelude.{neg_ℤ}
 use Rattle.std.specs.Fmt.{signed_decimal}
 use Rattle.std.specs.Int.Signed.{mag}
-use Rattle.std.proofs.lemmas.Bool.{and_from}
+use Rattle.std.proofs.lemmas.Bool.{and_from, cases_Bool}
 use Rattle.std.proofs.lemmas.Fmt.{decimal_is_IsNumeral}
+use Rattle.std.proofs.lemmas.Option.{none-some}
+use Rattle.std.proofs.lemmas.Slice.Eq.{bytes_eq-Decides}
 use Rattle.std.proofs.lemmas.Str.Parse.{digit_from_value}
 use Rattle.std.specs.Char.{digit_value}
 use Rattle.std.specs.Str.Parse.{AllDigits, IsNumeral, digits_value, digits_value_after}
@@ -58,6 +60,16 @@ decimal_read n small =
     (not_hex (decimal n) known.0.1)
     ∙ ap within_u64 (numeral_read (decimal n) known.0 ∙ ap Some known.1)
     ∙ ap (λ b. cond b (Some n) None) (lt-ltb n (2 ^ 64) small)
+
+-- so it is no word that is no number
+pub is_no_word : (n : ℕ) (word : List ℕ) → n < 2 ^ 64 → number_of word ≡ None → bytes_eq (decimal n) word ≡ false
+is_no_word n word small none =
+    elim (cases_Bool (bytes_eq (decimal n) word)) [
+      | inl same ↦
+          let is : decimal n ≡ word = (bytes_eq-Decides (decimal n) word).0 same in
+          absurd (none-some n (sym none ∙ sym (ap number_of is) ∙ decimal_read n small))
+      | inr other ↦ other
+    ]
 
 -- and in its range
 pub decimal_between : (low high n : ℕ) → low ≤ n → n ≤ high → high < 2 ^ 64 → number_between low high (decimal n) ≡ Ok n

@@ -3,7 +3,7 @@ use Rattle.std.proofs.Common.{refl, ◌≡◌, ◌+◌, ◌-◌, ◌<◌, ◌≤
 use Rattle.std.proofs.Common.{Some, None, Ok, Err, arith, ap, sym, subst, ◌∙◌, nat_le, lt-ltb, le-leb, ne_eqb, codes}
 use Rattle.std.proofs.Common.{append_assoc, append-nil, length-append, leb-true}
 use Rattle.std.specs.Prelude.{IfSome, ◌&&◌, ◌^◌, not, if◌then◌else◌}
-use Rattle.std.specs.List.{AllByRecursion, join_with_byte}
+use Rattle.std.specs.List.{AllByRecursion}
 use Rattle.stop_history.specs.History.{is_next_child}
 use Rattle.stop_history.specs.Roster.{fault_after, first_fault, is_leader, push_fault, row_at, row_of}
 use Rattle.trace_pages.specs.FlatMemory.{FlatMemory}
@@ -15,7 +15,7 @@ use Rattle.stop_history.specs.declared.roster.Row.{Row}
 use Rattle.stop_history.proofs.Rosters.{both_none, few_rows}
 use Rattle.text_lines.specs.Lines.{last_line, line_text, lines_of}
 use Rattle.text_lines.specs.Ranges.{◌>>=◌}
-use Rattle.text_lines.proofs.Spelled.{AreWords, line_spelled, words_joined}
+use Rattle.text_lines.proofs.Spelled.{AreWords}
 use Rattle.trace_script.specs.declared.case.keyword.Place.{Place}
 use Rattle.trace_script.specs.declared.case.keyword.Place.TheVariants.{Loading, Outside}
 use Rattle.trace_script.specs.declared.case.late.Late.{Late}
@@ -34,16 +34,17 @@ use Rattle.trace_script.specs.CaseLine as line
 use Rattle.trace_script.specs.CaseSpelling.{IsImage, IsSpelled, IsSpelledScript, IsSpelledStep, block_lines}
 use Rattle.trace_script.specs.CaseSpelling.{blocks_lines, case_spelling, image_lines, image_parts, lines_text}
 use Rattle.trace_script.specs.CaseSpelling.{part_words, step_lines, step_words, steps_lines}
-use Rattle.trace_script.specs.Reading.{most_bytes, read_after, with_cause}
+use Rattle.trace_script.specs.Reading.{most_bytes, read_after}
 use Rattle.trace_script.specs.RowWords.{spelled_row}
 use Rattle.trace_script.specs.Script.{Fill, Image, Script, Step}
 use Rattle.trace_script.specs.Script as step
 use Rattle.trace_script.proofs.ImagesBack.{image_loads, parts_are_spelled, parts_loaded}
-use Rattle.trace_script.proofs.LinesRead.{all_read, goes_on}
+use Rattle.trace_script.proofs.LinesRead.{all_read}
 use Rattle.trace_script.proofs.LinesSpelled.{HasNumbers, IsInside, IsPart, end_says, part_are_words, part_says}
 use Rattle.trace_script.proofs.LinesSpelled.{row_says, step_are_words, step_says, without_image}
 use Rattle.trace_script.proofs.OpenBlocks.{in_force_after}
 use Rattle.trace_script.proofs.RowsBack.{HasRanges, row_are_words, row_fits, row_ranges, rows_fine}
+use Rattle.trace_script.proofs.SpelledLines.{first_line}
 
 -- ---- steps that are taken
 abbrev IfExec : Step → Type 0
@@ -200,17 +201,14 @@ one : (all : List Row) (words : List (List ℕ)) (said : Line) (s t : Reading) �
     → line_of s.place words ≡ Ok said
     → Makes all said s t → Leads all (words ∷ []) s t
 one all words said s t are says makes = λ n late rest fine.
-    let x = makes n late fine in
-    let read : line_read n (with_late s late) (join_with_byte 32 words) ≡ Ok (with_late t x.0) =
-    ap (λ ws. with_cause (line_of s.place ws) >>= with_line n (with_late s late)) (words_joined words are)
-    ∙ ap (λ r. with_cause r >>= with_line n (with_late s late)) says ∙ x.2 in (
+    let x = makes n late fine in (
       n + 1,
       x.0,
       x.1,
       ap (λ l. read_after line_read n (with_late s late) (lines_of l))
           (ap (λ l. l ++ rest) (append-nil (line_text words)))
-          ∙ ap (read_after line_read n (with_late s late)) (line_spelled words rest are)
-          ∙ goes_on line_read n (with_late s late) (with_late t x.0) (join_with_byte 32 words) (lines_of rest) read,
+          ∙ first_line (λ (r : Reading). line_of r.place) with_line n (with_late s late) (with_late t x.0) words said
+          rest are says x.2,
     )
 
 -- ---- the places of a reading

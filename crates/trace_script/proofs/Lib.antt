@@ -19,6 +19,7 @@ pub mod Refusals
 pub mod Reloads
 pub mod RowsBack
 pub mod Settings
+pub mod SpelledLines
 pub mod StepActs
 pub mod StepFacts
 pub mod Steps

@@ -10,7 +10,6 @@ use Rattle.std.specs.List.{AllByRecursion, list_all}
 use Rattle.std.specs.Result.{result_unwrap_or}
 use Rattle.std.proofs.lemmas.Bool.{and_from, and_parts, cases_lt, lt-leb}
 use Rattle.std.proofs.lemmas.List.Sums.{list_all-from_AllPass}
-use Rattle.std.proofs.lemmas.Fmt.{decimal_is_IsNumeral}
 use Rattle.std.proofs.Math.Facts.{sfits_to_z}
 use Rattle.std.proofs.lemmas.Int.{of_z-to_z}
 use Rattle.hex.specs.declared.error.FromHexError.{FromHexError}
@@ -19,7 +18,7 @@ use Rattle.hex.proofs.HexLemmas.{decode_of-encode_lower, decode_of-ok}
 use Rattle.text_lines.specs.declared.fault.LineFault.TheVariants.{BadHex, BadNumber, UnknownWord}
 use Rattle.text_lines.specs.Lines.{has_letters}
 use Rattle.text_lines.specs.Ranges.{◌>>=◌}
-use Rattle.text_lines.proofs.Decimals.{decimal_is_word, decimal_read, integer_is_word, integer_read}
+use Rattle.text_lines.proofs.Decimals.{decimal_is_word, decimal_read, integer_is_word, integer_read, is_no_word}
 use Rattle.text_lines.proofs.Spelled.{AreWords, all_above, is_word}
 use Rattle.trace_script.specs.declared.case.keyword.Place.{Place}
 use Rattle.trace_script.specs.declared.case.keyword.Place.TheVariants.{Loading, Outside, Stepping}
@@ -40,8 +39,6 @@ use Rattle.stop_history.specs.declared.roster.Row.{Row}
 use Rattle.trace_options.specs.Syscalls.{SyscallRow, syscall_named, syscall_numbered, syscall_table}
 use Rattle.trace_options.proofs.Rows.{found_by_name}
 use Rattle.trace_options.proofs.Tables.{found}
-use Rattle.std.specs.Str.Parse.{AllDigits}
-use Rattle.std.proofs.lemmas.Str.Parse.{digit_from_value}
 
 some_same : {X : Type 0} (x y : X) → Some x ≡ Some y → x ≡ y
 some_same x y is = cc
@@ -200,14 +197,8 @@ name_is_word nr known =
     name_word (syscall_numbered nr) known
     (found {X = SyscallRow} (λ call. call.number == nr) (λ call. is_word call.name ≡ true) syscall_table is_named)
 
-no_equals : (ds : List ℕ) → AllDigits 10 ds → is_equals ds ≡ false
-no_equals [] h = refl
-no_equals (d ∷ ds) h =
-    let range = digit_from_value d h.0 in
-    rw (ne_eqb d 61 (λ same. omega arith)) refl
-
 no_equals_in : (n : ℕ) → n < 2 ^ 64 → is_equals (decimal n) ≡ false
-no_equals_in n small = no_equals (decimal n) (decimal_is_IsNumeral n small).0.1
+no_equals_in n small = is_no_word n (codes "=") small refl
 
 six_before : (a b c d e f : List ℕ) (rest : List (List ℕ)) → is_equals a ≡ false → is_equals b ≡ false
     → is_equals c ≡ false → is_equals d ≡ false → is_equals e ≡ false → is_equals f ≡ false

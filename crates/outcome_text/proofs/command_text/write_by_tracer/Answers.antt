@@ -1,6 +1,6 @@
 -- The tracer is one word more.
 use Rattle.std.proofs.Common.{◌∷◌, [], decimal}
-use Rattle.outcome_text.specs.CommandText.{tracee_word}
+use Rattle.litmus_files.specs.CommandText.{tracee_word}
 use Rattle.outcome_text.proofs.WordsWritten.{in_words}
 use Rattle.outcome_text.proofs.command_text.write_by_tracer.Goals as goal
 

@@ -1,6 +1,6 @@
 -- Each call's words are those that were written.
 use Rattle.std.proofs.Common.{◌∷◌, ◌∙◌, [], ap, codes, decimal}
-use Rattle.outcome_text.specs.CommandText.{board_call_words, tracee_word}
+use Rattle.litmus_files.specs.CommandText.{board_call_words, tracee_word}
 use Rattle.replay_files.specs.Spelling.{death_words, kind_word, stop_words}
 use Rattle.outcome_text.proofs.WordsWritten.{parts_written, words_written}
 use Rattle.outcome_text.proofs.command_text.write_call.Goals as goal

@@ -32,8 +32,3 @@ board_call_words tracee waits (call.Exit death) = words_about tracee (command.Ex
 abbrev pub command_text : List Row → ThreadCommand → List ℕ
 command_text rows command =
     join_with_byte 32 (board_call_words (tracee_word rows command.which) command.waits command.call)
-
--- words as they are after others: with a space before each of them
-abbrev pub spaced : List (List ℕ) → List ℕ
-spaced [] = []
-spaced (word ∷ words) = 32 ∷ (word ++ spaced words)

@@ -28,6 +28,7 @@ use Rattle.text_lines.proofs.Cuts.{first_nowhere}
 use Rattle.text_lines.proofs.Decimals.{decimal_between, is_no_word}
 use Rattle.text_lines.proofs.Spelled.{AreWords, is_word}
 use Rattle.text_lines.specs.declared.fault.LineFault.{LineFault}
+use Rattle.text_lines.specs.Numbers.{number_of}
 use Rattle.text_lines.specs.Ranges.{◌>>=◌}
 use Rattle.text_lines.specs.Words.{split_at}
 use Rattle.trace_script.proofs.RowsBack.{ends_id, id_ends, id_read, id_word, up_to_last}
@@ -47,9 +48,9 @@ use Rattle.litmus_files.specs.declared.line.LitmusCommand.{LitmusCommand}
 use Rattle.litmus_files.specs.declared.line.Within.TheVariants as within
 use Rattle.litmus_files.specs.CommandText.{board_call_words, tracee_word}
 use Rattle.litmus_files.specs.LitmusFile.{which_of}
-use Rattle.litmus_files.specs.LitmusGrammar.{IsLitmusCall, any_or_tid, as_in_replay, asking, bare_command_of, claim_call}
-use Rattle.litmus_files.specs.LitmusGrammar.{claim_command, claim_of_words, command_parted, group_aim, it_or_tid}
-use Rattle.litmus_files.specs.LitmusGrammar.{litmus_line_of, litmus_rest_of, resume_of_words}
+use Rattle.litmus_files.specs.LitmusGrammar.{IsLitmusCall, any_or_tid, as_in_replay, asking, bare_command_of}
+use Rattle.litmus_files.specs.LitmusGrammar.{claim_call, claim_command, claim_of_words, command_parted, group_aim}
+use Rattle.litmus_files.specs.LitmusGrammar.{it_or_tid, litmus_line_of, litmus_rest_of, resume_of_words}
 use Rattle.litmus_files.specs.LitmusLine.{Said}
 use Rattle.litmus_files.specs.LitmusLine as line
 use Rattle.litmus_files.specs.LitmusSpelling.{IsSpelledCall, IsSpelledWait, IsSpelledWhich, IsTarget}
@@ -99,19 +100,13 @@ known_row : (rows : List Row) (row : ℕ) → IsRoster rows → row < length row
 known_row rows row roster there =
     ap (λ found. ok_or found NoSuchTracee >>= λ row. Ok (which.Row row)) (row_of-tid rows roster row there)
 
--- a number in the place of a TID is no other word there
-tid_or_any : (n : ℕ) → is_id n ≡ true → any_or_tid (decimal n) ≡ Ok (aim.Tid n)
-tid_or_any n id =
+-- a tid is read where another word may be
+tid_said : (n : ℕ) (word : List ℕ) (other : Aim) → is_id n ≡ true → number_of word ≡ None
+    → cond (bytes_eq (decimal n) word) (Ok other) (id_of (decimal n) >>= λ t. Ok (aim.Tid t)) ≡ Ok (aim.Tid n)
+tid_said n word other id none =
     let most = (id_ends n id).1 in
-    ap (λ b. cond b (Ok aim.Any) (id_of (decimal n) >>= λ t. Ok (aim.Tid t)))
-    (is_no_word n (codes "any") (omega (arith, most)) refl)
-    ∙ ap (λ r. r >>= λ t. Ok (aim.Tid t)) (id_read n id)
-
-tid_or_it : (n : ℕ) → is_id n ≡ true → it_or_tid (decimal n) ≡ Ok (aim.Tid n)
-tid_or_it n id =
-    let most = (id_ends n id).1 in
-    ap (λ b. cond b (Ok aim.It) (id_of (decimal n) >>= λ t. Ok (aim.Tid t)))
-    (is_no_word n (codes "it") (omega (arith, most)) refl)
+    ap (λ b. cond b (Ok other) (id_of (decimal n) >>= λ t. Ok (aim.Tid t)))
+    (is_no_word n word (omega (arith, most)) none)
     ∙ ap (λ r. r >>= λ t. Ok (aim.Tid t)) (id_read n id)
 
 abbrev pub aim_of : List Row → Which → Aim
@@ -166,7 +161,8 @@ target_said rows (which.Row row) word c roster there some =
     record {
       are = (id_word tid id, (up_to_last c (omega arith), tt));
       none = (no_sign tid (id_ends tid id).1, (no_sign c (omega arith), tt));
-      says = claim_said word (any_or_tid (decimal tid)) (aim.Tid tid) c (tid_or_any tid id) some;
+      says = claim_said word (any_or_tid (decimal tid)) (aim.Tid tid) c
+          (tid_said tid (codes "any") aim.Any id refl) some;
       means = known_row rows row roster there;
     }
 target_said rows which.Any word c roster there some = record {
@@ -304,7 +300,7 @@ command_line rows (call.Resume c how) (which.Row row) waits roster asks spelled 
     let tid : ℕ = (row_at rows row).tid in
     let id = known_id rows row roster there in
     resume_line rows (which.Row row) c how waits asks.1 asks.0 (id_word tid id) (no_sign tid (id_ends tid id).1)
-    (tid_or_it tid id) (known_row rows row roster there) waiting
+    (tid_said tid (codes "it") aim.It id refl) (known_row rows row roster there) waiting
 command_line rows (call.Resume c how) which.Last waits roster asks spelled there waiting =
     resume_line rows which.Last c how waits asks.1 asks.0 refl refl refl refl waiting
 command_line rows (call.Look c) about true roster asks spelled there waiting =

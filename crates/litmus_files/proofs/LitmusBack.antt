@@ -1,7 +1,7 @@
 -- A program that is spelled as a litmus file is read back, row by row, and then thread by thread.
 use Rattle.std.proofs.Common.{refl, ◌≡◌, ◌∙◌, ◌<◌, ◌≤◌, ◌+◌, ◌-◌, ◌++◌, ◌∷◌, [], ℕ, Bool, true, false, cond, List}
-use Rattle.std.proofs.Common.{Option, Some, None, Result, Ok, Err, IfSome, ap, append-nil, append_assoc, arith, eqb, filter}
-use Rattle.std.proofs.Common.{le-leb, length, length-append, ne_eqb, sym}
+use Rattle.std.proofs.Common.{Option, Some, None, Result, Ok, Err, IfSome, ap, append-nil, append_assoc, arith, eqb}
+use Rattle.std.proofs.Common.{filter, le-leb, length, length-append, ne_eqb, sym}
 use Rattle.std.proofs.lemmas.List.Elements.{All-filter, All-head, All-map, All-tail}
 use Rattle.std.specs.List.{All}
 use Rattle.stop_explorer.specs.declared.command.ProgramLine.{ProgramLine}
@@ -32,8 +32,8 @@ use Rattle.litmus_files.specs.declared.required.NumberedLine.{NumberedLine}
 use Rattle.litmus_files.specs.CommandText.{command_text}
 use Rattle.litmus_files.specs.LitmusFile.{LitmusContent, LitmusReading, content_unless_open, current_thread}
 use Rattle.litmus_files.specs.LitmusFile.{litmus_content_of, litmus_line_added, litmus_line_read}
-use Rattle.litmus_files.specs.LitmusFile.{litmus_lines_after, numbered_command, place_past, plain_lines, thread_command}
-use Rattle.litmus_files.specs.LitmusFile.{wanted_of, within_of}
+use Rattle.litmus_files.specs.LitmusFile.{litmus_lines_after, no_lines, numbered_command, place_past, plain_lines}
+use Rattle.litmus_files.specs.LitmusFile.{thread_command, wanted_of, within_of}
 use Rattle.litmus_files.specs.LitmusGrammar.{is_thread_name, litmus_line_of, thread_line}
 use Rattle.litmus_files.specs.LitmusLine.{Said}
 use Rattle.litmus_files.specs.LitmusLine as line
@@ -41,23 +41,15 @@ use Rattle.litmus_files.specs.LitmusSpelling.{IsSpelledLitmus, IsSpelledThreadCo
 use Rattle.litmus_files.specs.LitmusSpelling.{lines_in_turn, litmus_spelling, name_words, spelled_threads}
 use Rattle.litmus_files.specs.LitmusSpelling.{thread_commands, threads_in_turn, voice_word}
 use Rattle.litmus_files.proofs.CommandsSpelled.{IsLineOf, command_line, said_of}
-use Rattle.litmus_files.proofs.LitmusFiles.{few_bytes}
+use Rattle.litmus_files.proofs.LitmusFiles.{content_read, few_bytes}
 use Rattle.litmus_files.proofs.LitmusSteps.{added, room_for, taken_once, thread_taken}
 use Rattle.litmus_files.proofs.ThreadNames.{name_is_word}
 
 -- ---- what was read so far, and what a line of words says there
 
 abbrev reading : List Row → List (Option (List ℕ)) → List Voice → (before : ℕ) → List NumberedLine → LitmusReading
-reading rows names voices before lines = record {
-  rows = rows;
-  names = names;
-  voices = voices;
-  lines = lines;
-  before = before;
-  repeat = None;
-  requirements = [];
-  conditions = [];
-}
+reading rows names voices before lines =
+    record no_lines { rows = rows; names = names; voices = voices; lines = lines; before = before }
 
 abbrev of_rows : List Row → LitmusReading
 of_rows rows = reading rows [] [] 0 []
@@ -196,8 +188,8 @@ commands_read n rows names voices before lines thread at (command ∷ commands) 
       later.0,
       ap (λ text. litmus_lines_after n (reading rows names voices before lines) (lines_of text))
           (append_assoc (command_text rows command ++ 10 ∷ []) (commands_text rows commands) rest)
-          ∙ command_read n rows names voices before lines thread at command (commands_text rows commands ++ rest) roster
-          (All-head Spelled command commands are) place (omega (arith, few))
+          ∙ command_read n rows names voices before lines thread at command (commands_text rows commands ++ rest)
+          roster (All-head Spelled command commands are) place (omega (arith, few))
           ∙ later.1
           ∙ ap (λ ls. litmus_lines_after later.0 (reading rows names voices before ls) (lines_of rest))
           (append_assoc lines one (lines_in_turn thread (at + 1) commands)),
@@ -205,15 +197,8 @@ commands_read n rows names voices before lines thread at (command ∷ commands) 
 
 -- ---- threads
 
-abbrev content : List Row → List (Option (List ℕ)) → List Voice → List NumberedLine → LitmusContent
-content rows names voices lines = record {
-  rows = rows;
-  names = names;
-  voices = voices;
-  lines = lines;
-  requirements = [];
-  conditions = [];
-}
+abbrev read_as : List Row → List (Option (List ℕ)) → List Voice → List NumberedLine → LitmusContent
+read_as rows names voices lines = content_read (reading rows names voices 0 lines)
 
 abbrev closed : (last : ℕ) → Result LitmusReading CaseError → Result LitmusContent CaseError
 closed last lines = lines >>= λ all. content_unless_open last all all.repeat
@@ -234,13 +219,13 @@ module _ (last : ℕ) (rows : List Row) (roster : IsRoster rows) (commands : ℕ
       → length lines + length (threads_in_turn commands thread (length names)) ≤ MOST_COMMANDS
       → closed last (litmus_lines_after n (reading rows old old_voices before lines)
       (lines_of (spelled_threads rows commands thread names voices)))
-      ≡ Ok (content rows (old ++ names) (old_voices ++ voices)
+      ≡ Ok (read_as rows (old ++ names) (old_voices ++ voices)
       (lines ++ threads_in_turn commands thread (length names)))
   threads_read n old old_voices before lines thread [] [] named heard begun room few =
       ap (closed last) (all_read litmus_line_read n (reading rows old old_voices before lines))
-      ∙ ap (λ ns. Ok (content rows ns old_voices lines)) (sym (append-nil old))
-      ∙ ap (λ vs. Ok (content rows (old ++ []) vs lines)) (sym (append-nil old_voices))
-      ∙ ap (λ ls. Ok (content rows (old ++ []) (old_voices ++ []) ls)) (sym (append-nil lines))
+      ∙ ap (λ ns. Ok (read_as rows ns old_voices lines)) (sym (append-nil old))
+      ∙ ap (λ vs. Ok (read_as rows (old ++ []) vs lines)) (sym (append-nil old_voices))
+      ∙ ap (λ ls. Ok (read_as rows (old ++ []) (old_voices ++ []) ls)) (sym (append-nil lines))
   threads_read n old old_voices before lines thread [] (voice ∷ voices) named heard begun room few =
       absurd (omega (arith, heard))
   threads_read n old old_voices before lines thread (name ∷ names) [] named heard begun room few =
@@ -264,11 +249,11 @@ module _ (last : ℕ) (rows : List Row) (roster : IsRoster rows) (commands : ℕ
       ∙ threads_read mine.0 (old ++ name ∷ []) (old_voices ++ voice ∷ []) (length lines) (lines ++ own) (thread + 1)
       names voices (All-tail IsName name names named) (omega (arith, heard)) (omega (arith, one, begun))
       (omega (arith, one, room)) (omega (arith, few, size, own_size, all_size))
-      ∙ ap (λ ns. Ok (content rows ns ((old_voices ++ voice ∷ []) ++ voices) ((lines ++ own) ++ more)))
+      ∙ ap (λ ns. Ok (read_as rows ns ((old_voices ++ voice ∷ []) ++ voices) ((lines ++ own) ++ more)))
       (append_assoc old (name ∷ []) names)
-      ∙ ap (λ vs. Ok (content rows (old ++ name ∷ names) vs ((lines ++ own) ++ more)))
+      ∙ ap (λ vs. Ok (read_as rows (old ++ name ∷ names) vs ((lines ++ own) ++ more)))
       (append_assoc old_voices (voice ∷ []) voices)
-      ∙ ap (λ ls. Ok (content rows (old ++ name ∷ names) (old_voices ++ voice ∷ voices) ls))
+      ∙ ap (λ ls. Ok (read_as rows (old ++ name ∷ names) (old_voices ++ voice ∷ voices) ls))
       (append_assoc lines own more)
 
 -- ---- files
@@ -297,7 +282,7 @@ litmus_back all is =
     ∙ threads_read (last_line text) all.rows is.roster commands (λ thread. own_spelled all thread is.commands) rows.0
     [] [] 0 [] 0 all.names all.voices is.names is.voices refl (omega (arith, is.few_threads))
     (omega (arith, few, is.few_commands))
-    ∙ ap (λ ls. Ok (content all.rows all.names all.voices ls)) is.in_turn
-    ∙ ap (λ rs. Ok (record (content all.rows all.names all.voices all.lines) { requirements = rs }))
+    ∙ ap (λ ls. Ok (read_as all.rows all.names all.voices ls)) is.in_turn
+    ∙ ap (λ rs. Ok (record (read_as all.rows all.names all.voices all.lines) { requirements = rs }))
     (sym is.no_requirement)
     ∙ ap (λ cs. Ok (record all { conditions = cs })) (sym is.no_condition)

@@ -45,7 +45,7 @@ pub is_open : (times : Option ℕ) (body : List NumberedCommand) → is_some (re
 is_open None body = refl
 is_open (Some times) body = refl
 
-abbrev content_read : LitmusReading → LitmusContent
+abbrev pub content_read : LitmusReading → LitmusContent
 content_read all = record {
   rows = all.rows;
   names = all.names;

@@ -1,6 +1,6 @@
 -- A program as a litmus file, which is written here by hand: it can be spelled, it is spelled so, and so it is read.
-use Rattle.std.proofs.Common.{refl, ◌≡◌, ◌∙◌, ◌+◌, ◌++◌, ◌∷◌, [], ℕ, Bool, true, false, List, Some, None, Ok, IfSome, ap, arith}
-use Rattle.std.proofs.Common.{codes, sym}
+use Rattle.std.proofs.Common.{refl, ◌≡◌, ◌∙◌, ◌+◌, ◌++◌, ◌∷◌, [], ℕ, Bool, true, false, List, Some, None, Ok, IfSome}
+use Rattle.std.proofs.Common.{ap, arith, codes, sym}
 use Rattle.std.proofs.lemmas.List.Elements.{All-from_recursion}
 use Rattle.std.specs.Fmt.{digits}
 use Rattle.std.specs.List.{AllByRecursion}

@@ -38,7 +38,8 @@ byte_is_above c is = grind (arith, nat_tests)
 are_above : (word : List ℕ) → list_all is_name_byte word ≡ true → all_above word ≡ true
 are_above [] all = refl
 are_above (c ∷ more) all =
-    and_from (nat_lt 32 c) (all_above more) (byte_is_above c (and_left (is_name_byte c) (list_all is_name_byte more) all))
+    and_from (nat_lt 32 c) (all_above more)
+    (byte_is_above c (and_left (is_name_byte c) (list_all is_name_byte more) all))
     (are_above more (and_right (is_name_byte c) (list_all is_name_byte more) all))
 
 begun : (word : List ℕ) → is_ascii_alphabetic (slice_index word 0) ≡ true → has_letters word ≡ true

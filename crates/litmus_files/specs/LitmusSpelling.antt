@@ -83,8 +83,8 @@ IsSpelledWhich rows (call.Resume tracer how) which.Last = Unit {0}
 IsSpelledWhich rows asked (which.Row row) = row < length rows
 IsSpelledWhich rows asked other = ⊥
 
--- a claim and a look that wait are `wait` and `look`, others `claim` and `peek`; a publish and an exit always wait, and
--- a question for the state and a resume never do
+-- a claim and a look that wait are `wait` and `look`, others `claim` and `peek`; a publish and an exit always wait,
+-- and a question for the state and a resume never do
 abbrev pub IsSpelledWait : BoardCall → (waits : Bool) → Type 0
 IsSpelledWait (call.Publish stop) waits = waits ≡ true
 IsSpelledWait (call.Exit death) waits = waits ≡ true

@@ -1,6 +1,6 @@
 -- Rows that are spelled are read one by one, in any file that has rows first.
-use Rattle.std.proofs.Common.{◌≡◌, ◌+◌, ◌<◌, ◌≤◌, ◌++◌, ◌∷◌, [], ℕ, None, List, Result, Ok, length, length-append, arith}
-use Rattle.std.proofs.Common.{append_assoc, append-nil, ap, sym, ◌∙◌}
+use Rattle.std.proofs.Common.{◌≡◌, ◌+◌, ◌<◌, ◌≤◌, ◌++◌, ◌∷◌, [], ℕ, None, List, Result, Ok, length, arith}
+use Rattle.std.proofs.Common.{length-append, append_assoc, append-nil, ap, sym, ◌∙◌}
 use Rattle.stop_history.specs.declared.roster.Row.{Row}
 use Rattle.stop_history.specs.declared.limits.TheConstants.{MOST_ROWS}
 use Rattle.stop_history.specs.Roster.{fault_after, first_fault}

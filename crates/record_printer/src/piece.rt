@@ -20,6 +20,8 @@ pub struct Piece<A: Allocator = Global> {
     tid: u32,
     number: u32,
     given: Given<A>,
+    /// Where a folder looks first for the row of the thread id.
+    row: u32,
 }
 
 /// What gives a piece.
@@ -47,14 +49,25 @@ impl<A: Allocator> Piece<A> {
             tid,
             number,
             given: Given::Stop(note),
+            row: 0,
         }
     }
 
-    /// The thread id, the number, and what gave the piece.
-    pub(crate) fn into_parts(self) -> (u32, u32, Given<A>)
+    /// The same piece. A folder looks for its row at this place of the roster first, and searches where that row has
+    /// another thread id.
+    #[inline(always)]
+    pub fn with_row(mut self, row: u32) -> Piece<A>
+        ensures { result ≡ self }
+    {
+        self.row = row;
+        self
+    }
+
+    /// The thread id, the number, what gave the piece, and where to look for its row first.
+    pub(crate) fn into_parts(self) -> (u32, u32, Given<A>, u32)
         ensures { self ≡ piece_of result.0 result.1 result.2 }
     {
-        (self.tid, self.number, self.given)
+        (self.tid, self.number, self.given, self.row)
     }
 }
 
@@ -67,5 +80,6 @@ pub fn death_piece<A: Allocator>(tid: u32, number: u32, death: Death) -> Piece<A
         tid,
         number,
         given: Given::Death(death),
+        row: 0,
     }
 }

@@ -34,8 +34,6 @@ use trace_options::NoMemory;
 pub struct Folder<A: Allocator = Global> {
     rows: Vec<Row, A>,
     kept: Vec<KeptRow<A>, A>,
-    /// The row of the last piece, which is often that of the next one.
-    near: usize,
 }
 
 impl<A: Allocator> Model for Folder<A> {
@@ -58,11 +56,7 @@ impl<A: Allocator + Copy> Folder<A> {
     {
         let rows = Vec::from_slice(alloc, roster.rows())?;
         let kept = new_rows(alloc, rows.len())?;
-        Ok(Folder {
-            rows,
-            kept,
-            near: 0,
-        })
+        Ok(Folder { rows, kept })
     }
 
     /// Adds a piece, or answers why not and leaves the folder as it was, the first reason first: `Stranger` for a piece
@@ -78,12 +72,7 @@ impl<A: Allocator + Copy> Folder<A> {
         ensures rows { self.new.rows ≡ self.old.rows }
         ensures err { OnErr result (self.new ≡ self.old) }
     {
-        add_piece(
-            self.rows.as_slice(),
-            self.kept.as_mut_slice(),
-            &mut self.near,
-            piece,
-        )
+        add_piece(self.rows.as_slice(), self.kept.as_mut_slice(), piece)
     }
 
     /// The text of the pieces that were added: `Lost` with the first row in the roster's order that must be whole and
@@ -188,7 +177,6 @@ fn join<A: Allocator>(
 fn add_piece<A: Allocator + Copy>(
     rows: &[Row],
     kept: &mut [KeptRow<A>],
-    near: &mut usize,
     piece: Piece<A>,
 ) -> Result<(), FoldError>
     requires roster { IsRoster rows.now }
@@ -201,11 +189,10 @@ fn add_piece<A: Allocator + Copy>(
         → OnOk result (Represents (record { rows = rows.now; kept = kept.new }) (piece ∷ came)) }
     ensures err { OnErr result (kept.new ≡ kept.old) }
 {
-    let (tid, number, given) = piece.into_parts();
-    let Some(row) = place_near(rows, tid, *near) else {
+    let (tid, number, given, near) = piece.into_parts();
+    let Some(row) = place_near(rows, tid, near as usize) else {
         return Err(FoldError::Stranger);
     };
-    *near = row;
     match given {
         Given::Stop(note) => add_stop(rows, kept, row, number, note),
         Given::Death(death) => kept[row].add_death(number, death),

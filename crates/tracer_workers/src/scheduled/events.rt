@@ -74,7 +74,7 @@ pub(crate) fn publish_stop<A: Allocator + Copy>(
 {
     let number = one_thread::publish(world, row, traced.content.stop);
     traced.number = number;
-    add(folder, piece)
+    add(folder, piece.with_row(row))
 }
 
 /// Ends a row and adds the piece of its death, unless another row of its group holds it back; whether it has ended.
@@ -99,6 +99,7 @@ pub(crate) fn end_row<A: Allocator + Copy>(
     if !one_thread::exit(world, row, death) {
         return Ok(false);
     }
-    add(folder, death_piece(traced.tid, traced.number, death))?;
+    let piece = death_piece(traced.tid, traced.number, death).with_row(row);
+    add(folder, piece)?;
     Ok(true)
 }

@@ -1,5 +1,8 @@
 -- The World publishes the stop, and its number is kept.
-use Rattle.std.proofs.Common.{refl}
+use Rattle.std.proofs.Common.{◌∷◌, refl, subst}
+use Rattle.std.specs.Prelude.{OnOk}
+use Rattle.record_printer.specs.Piece.{Piece}
+use Rattle.record_printer.specs.Represents.{Represents}
 use Rattle.tracer_workers.proofs.Rounds.{on_ok}
 use Rattle.tracer_workers.proofs.scheduled.events.publish_stop.Goals as goal
 
@@ -12,3 +15,8 @@ returns-clause-made g c =
 pub publish-number-requires-clause-answer : goal.publish-number-requires-clause-answer
 publish-number-requires-clause-answer g c =
     rw (← c.traced.view_is, ← c.traced-inside.view_is) at c.requires.answer
+
+pub returns-clause-came : goal.returns-clause-came
+returns-clause-came g c came stands =
+    subst (λ (p : Piece). OnOk c.add.result (Represents c.add.new.folder (p ∷ came))) c.with_row.ensures
+    (c.add.ensures.came came stands)

@@ -5,7 +5,7 @@ mod Points
 mod Rests
 mod Retries
 mod Scans
-mod Settled
+pub mod Settled
 mod Told
 mod Tries
 pub mod Turns

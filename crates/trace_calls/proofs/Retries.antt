@@ -66,6 +66,7 @@ module _ (request : WaitRequest) (a c b : CallsHandle) (only : OnlyLooked a c) w
     raw = is.raw;
     is_found = found_from request a.view c.view b.view only.2 found.row found.number is.raw is.is_found;
     is_status = subst (λ rows. IsStatusOf rows found.row is.raw found.status) only.2.grows.same.roster is.is_status;
+    reports = is.reports;
     counts = is.counts ∙ ap (λ counts. set counts found.row found.number) only.1.0;
     records = is.records ∙ ap (records_with b.view found.row) only.1.1;
   }

@@ -187,7 +187,7 @@ module _ (request : WaitRequest) (u v w : View) (k : ℕ) (before : Bool) (roste
       → IsFinding {A = A} request u w (finding.Ended k death number)
   found_death {A} death number told =
       elim told [
-        | inl t ↦ (t.1.0, claims_first k number (death_status death) refl t.1.0 t.0 t.1.1, t.1.2)
+        | inl t ↦ (t.1.0, claims_first k number (death_status death) refl t.1.0 t.0 t.1.1, t.1.2, t.1.3)
         | inr skips ↦ cc skips.2
       ]
 

@@ -1,5 +1,5 @@
 -- What a scan found, as it is answered and kept.
-use Rattle.std.proofs.Common.{refl, ◌≡◌, ◌≢◌, ◌<◌, ◌∷◌, [], ℕ, Bool, true, false, List, length}
+use Rattle.std.proofs.Common.{refl, ◌≡◌, ◌≢◌, ◌<◌, ◌+◌, ◌*◌, ◌∷◌, [], ℕ, Bool, true, false, List, length}
 use Rattle.std.proofs.Common.{Option, Some, None, Result, ◌∙◌, sym, ap, cond, inl, inr, arith, set, subst}
 use Rattle.std.specs.List.{slice_get}
 use Rattle.std.proofs.lemmas.Bool.{cases_eq}
@@ -8,7 +8,7 @@ use Rattle.std.proofs.lemmas.Option.{slice_get-get_or}
 use Rattle.trace_options.specs.declared.errno.Errno.{Errno}
 use Rattle.trace_status.specs.WaitStatus.{pid_of}
 use Rattle.trace_record.specs.Content.{Content}
-use Rattle.trace_record.specs.Death.{death_status, death_wait_status}
+use Rattle.trace_record.specs.Death.{IsDeath, death_status, death_wait_status}
 use Rattle.trace_record.specs.Stop.{stop_status, stop_wait_status}
 use Rattle.trace_record.specs.declared.death.Death.{Death}
 use Rattle.trace_record.specs.declared.death.Death.TheVariants as death
@@ -34,6 +34,7 @@ use Rattle.trace_calls.specs.declared.scan.Finding.{Finding}
 use Rattle.trace_calls.specs.declared.scan.Finding.TheVariants as finding
 use Rattle.trace_calls.specs.Answer.{IsRowAnswer, IsStatusOf, records_with}
 use Rattle.trace_calls.specs.Handle.{CallsHandle, IsCalls, KeepsClaim, KeepsClaims, handle_of, records_of}
+use Rattle.trace_calls.specs.RowStatus.{ReportsDeath}
 use Rattle.trace_calls.specs.Scan.{IsFinding}
 use Rattle.trace_calls.specs.Settling.{AnswersStatus, CanSettle, IsReportable, Settles}
 use Rattle.trace_calls.specs.Waiting.{Found, ReportsStatus, Took}
@@ -57,6 +58,24 @@ pid_of_stop pid (stop.Ending death) = refl
 pub pid_of_death : (pid : ℕ) (d : Death) → pid_of (death_wait_status pid d) ≡ Some pid
 pid_of_death pid (death.Exited code) = refl
 pid_of_death pid (death.Signaled signal core) = refl
+
+-- the low byte of a stop's raw status
+stop_low : (s : Stop) → (high : ℕ) × (stop_status s ≡ high * 0x100 + 127)
+stop_low stop.Start = (128 * 0x100 + 5, refl)
+stop_low stop.Enter = (0x85, refl)
+stop_low stop.Exit = (0x85, refl)
+stop_low (stop.Seccomp ret_data) = (7 * 0x100 + 5, refl)
+stop_low (stop.Fork child) = (1 * 0x100 + 5, refl)
+stop_low (stop.Clone child) = (3 * 0x100 + 5, refl)
+stop_low (stop.Exec former) = (4 * 0x100 + 5, refl)
+stop_low (stop.Signal signal) = (signal, refl)
+stop_low (stop.Ending death) = (6 * 0x100 + 5, refl)
+
+-- a stop's raw status reports no death
+pub no_death : (s : Stop) (d : Death) → IsDeath d → stop_status s ≡ death_status d → ⊥
+no_death s (death.Exited code) ranged same = let low = (stop_low s).1 in omega (arith, low, same)
+no_death s (death.Signaled signal true) ranged same = let low = (stop_low s).1 in omega (arith, low, same, ranged)
+no_death s (death.Signaled signal false) ranged same = let low = (stop_low s).1 in omega (arith, low, same, ranged)
 
 -- the events of one row are in range with all others
 ranged_events : (row : ℕ) (h : History) → AreInRange h → AreInRange (events_of row h)
@@ -258,7 +277,7 @@ module _ {A : Type 0} (request : WaitRequest) (rows : List Row) (t t' : TracerHa
   held_long held' counts' result (finding.Ended row d number) s =
       (ap length s.1, ap length s.0.1 ∙ length-set counts row number)
   held_long held' counts' result (finding.Shows row number status) s =
-      (ap length s.1, ap length s.0.1 ∙ length-set counts row number)
+      (ap length s.1, ap length s.0.2.1 ∙ length-set counts row number)
   held_long held' counts' result finding.NothingYet s = (ap length s.1, ap length s.2)
   held_long held' counts' result finding.NoChild s = (ap length s.1, ap length s.2)
 
@@ -283,16 +302,17 @@ module _ {A : Type 0} (request : WaitRequest) (rows : List Row) (t t' : TracerHa
   after held' counts' = handle_of t' counts' (records_of held')
 
   answers_row : (held' : List (Option (Claim A))) (counts' : List ℕ) (result : Result (Option RowStatus) Errno)
-      (row number raw : ℕ) → Found request t.view t'.view row number raw
-      → AnswersStatus rows counts counts' row number raw result
+      (row number raw : ℕ) (died : Option Death) → Found request t.view t'.view row number raw → ReportsDeath raw died
+      → AnswersStatus rows counts counts' row number raw died result
       → records_of held' ≡ records_with t'.view row (records_of held)
       → IsRowAnswer request before (after held' counts') result
-  answers_row held' counts' result row number raw f s records =
+  answers_row held' counts' result row number raw died f reports s records =
       subst (IsRowAnswer request before (after held' counts')) (sym s.0.1)
       (record {
         raw = raw;
         is_found = f;
         is_status = subst (λ rs. IsStatusOf rs row raw s.0.0) calls.roster s.0.2;
+        reports = reports;
         counts = s.1;
         records = records;
       })
@@ -302,15 +322,16 @@ module _ {A : Type 0} (request : WaitRequest) (rows : List Row) (t t' : TracerHa
       → Settles rows held held' counts counts' found result
       → IsRowAnswer request before (after held' counts') result
   answered held' counts' result (finding.Stop claim) f s =
-      answers_row held' counts' result claim.row claim.stop.number (stop_status claim.stop.stop) f.1 s.0
+      answers_row held' counts' result claim.row claim.stop.number (stop_status claim.stop.stop) None f.1
+      (λ d ranged same. no_death claim.stop.stop d ranged (sym same)) s.0
       (ap records_of s.1 ∙ record_set held claim.row (Some claim)
       ∙ kept_record t'.view claim.row claim.stop (records_of held)
       (holding_held t'.view claim.row claim.word claim.stop f.2) f.3)
   answered held' counts' result (finding.Ended row d number) f s =
-      answers_row held' counts' result row number (death_status d) f.1 s.0
+      answers_row held' counts' result row number (death_status d) (Some d) f.1 (f.3, refl) s.0
       (ap records_of s.1 ∙ no_record t'.view row (records_of held) f.2)
   answered held' counts' result (finding.Shows row number status) f s =
-      answers_row held' counts' result row number status f.1 s.0
+      answers_row held' counts' result row number status s.0.0 f.1 s.0.1 s.0.2
       (ap records_of s.1
       ∙ no_record t'.view row (records_of held)
       (shown_free request t t'.view row number status request.keeps f.0 is f.1.0.selected.0 f.1.1))

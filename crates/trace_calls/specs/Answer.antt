@@ -14,6 +14,7 @@ use Rattle.stop_table.specs.Entry.{content_after}
 use Rattle.stop_table.specs.Tracer.{is_held}
 use Rattle.stop_table.specs.View.{View}
 use Rattle.trace_calls.specs.Handle.{CallsHandle, KeepsRows}
+use Rattle.trace_calls.specs.RowStatus.{ReportsDeath}
 use Rattle.stop_history.specs.declared.selection.Selection.{Selection}
 use Rattle.stop_history.specs.WaitRequest.{claiming}
 use Rattle.trace_calls.specs.Waiting.{Found, NoChild, NothingYet}
@@ -56,14 +57,15 @@ abbrev pub IsWaitAnswer : Option WaitRequest → CallsHandle → CallsHandle →
 IsWaitAnswer None a b result = (result ≡ Err errno.EINVAL) × (b ≡ a)
 IsWaitAnswer (Some request) a b result = IsRequestAnswer request a b result
 
--- ---- with the row and the number
+-- ---- with the row, the number and the death
 
--- A status of a row was answered, with the row and the number: that of the first selected row that had one. The row's
--- count is now this number; the other counts are as they were.
+-- A status of a row was answered, with the row, the number and the death: that of the first selected row that had one.
+-- The row's count is now this number; the other counts are as they were.
 pub record AnswersByRow (request : WaitRequest) (a b : CallsHandle) (found : RowStatus) : Type 0 where
   pub raw : ℕ
   pub is_found : Found request a.view b.view found.row found.number raw
   pub is_status : IsStatusOf a.view.roster found.row raw found.status
+  pub reports : ReportsDeath raw found.death
   pub counts : b.counts ≡ slice_set a.counts found.row found.number
   pub records : b.records ≡ records_with b.view found.row a.records
 
@@ -84,7 +86,7 @@ abbrev pub IsWaitRowAnswer : Option WaitRequest → CallsHandle → CallsHandle 
 IsWaitRowAnswer None a b result = (result ≡ Err errno.EINVAL) × (b ≡ a)
 IsWaitRowAnswer (Some request) a b result = IsRowAnswer request a b result
 
--- the answer without the row and the number
+-- the answer without the row, the number and the death
 abbrev pub without_row : Result (Option RowStatus) Errno → Result WaitStatus Errno
 without_row (Ok (Some found)) = Ok found.status
 without_row (Ok None) = Ok StillAlive

@@ -3,6 +3,7 @@ pub mod ByPid
 pub mod ByRow
 pub mod Handle
 pub mod Retry
+pub mod RowStatus
 pub mod Scan
 pub mod Settling
 pub mod Waiting

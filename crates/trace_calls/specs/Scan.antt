@@ -1,6 +1,6 @@
 -- What a scan of the rows finds, before it is answered.
 use Rattle.std.specs.Prelude.{◌≡◌, ◌⊎◌, ◌<◌, ℕ, Bool, true, false, Option, Some, None}
-use Rattle.trace_record.specs.Death.{death_status}
+use Rattle.trace_record.specs.Death.{IsDeath, death_status}
 use Rattle.trace_record.specs.Stop.{stop_status}
 use Rattle.stop_history.specs.Over.{IsOver, is_gone}
 use Rattle.stop_table.specs.declared.shown.Shown.{Shown}
@@ -38,7 +38,7 @@ IsTried request v w row (tried.Stop claim) =
     × IsHolding w row claim.word claim.stop × (claim.row ≡ row) × (claim.stop ≡ content_after w.roster w.seen row)
 IsTried request v w row (tried.Ended death number) =
     (request.keeps ≡ false) × Claimed request.deaths v w row number (death_status death)
-    × (is_held w row ≡ false)
+    × (is_held w row ≡ false) × IsDeath death
 IsTried request v w row (tried.Shows number status) =
     (request.keeps ≡ true) × Showed request.deaths v w row number status
 IsTried request v w row (tried.Passes pending) =
@@ -71,6 +71,7 @@ IsFinding request v w (finding.Stop claim) =
     × IsHolding w claim.row claim.word claim.stop × (claim.stop ≡ content_after w.roster w.seen claim.row)
 IsFinding request v w (finding.Ended row death number) =
     (request.keeps ≡ false) × Found request v w row number (death_status death) × (is_held w row ≡ false)
+    × IsDeath death
 IsFinding request v w (finding.Shows row number status) =
     (request.keeps ≡ true) × Found request v w row number status
 IsFinding request v w finding.NothingYet = NothingYet request v w

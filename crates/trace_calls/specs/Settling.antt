@@ -13,6 +13,7 @@ use Rattle.trace_calls.specs.declared.row_status.RowStatus.{RowStatus}
 use Rattle.trace_calls.specs.declared.scan.Finding.{Finding}
 use Rattle.trace_calls.specs.declared.scan.Finding.TheVariants as finding
 use Rattle.trace_calls.specs.Answer.{IsStatusOf}
+use Rattle.trace_calls.specs.RowStatus.{ReportsDeath}
 
 -- the raw status of a stop or a death that a tracee can have
 abbrev pub IsReportable : ℕ → Type 0
@@ -29,23 +30,26 @@ CanSettle rows held (finding.Shows row number status) = (row < length rows) × I
 CanSettle rows held finding.NothingYet = Unit {0}
 CanSettle rows held finding.NoChild = Unit {0}
 
--- the status of a row is answered, and counted
-abbrev pub AnswersStatus : List Row → (counts counts' : List ℕ) → (row number raw : ℕ) → Result (Option RowStatus) Errno
-    → Type 0
-AnswersStatus rows counts counts' row number raw result =
-    ((status : WaitStatus) × (result ≡ Ok (Some (record { row = row; number = number; status = status })))
+-- the status of a row is answered, with this death, and counted
+abbrev pub AnswersStatus : List Row → (counts counts' : List ℕ) → (row number raw : ℕ) → Option Death
+    → Result (Option RowStatus) Errno → Type 0
+AnswersStatus rows counts counts' row number raw death result =
+    ((status : WaitStatus)
+    × (result ≡ Ok (Some (record { row = row; number = number; status = status; death = death })))
     × IsStatusOf rows row raw status)
     × (counts' ≡ slice_set counts row number)
 
 abbrev pub Settles : {A : Type 0} → List Row → (held held' : List (Option (Claim A))) → (counts counts' : List ℕ)
     → Finding A → Result (Option RowStatus) Errno → Type 0
 Settles rows held held' counts counts' (finding.Stop claim) result =
-    AnswersStatus rows counts counts' claim.row claim.stop.number (stop_status claim.stop.stop) result
+    AnswersStatus rows counts counts' claim.row claim.stop.number (stop_status claim.stop.stop) None result
     × (held' ≡ slice_set held claim.row (Some claim))
 Settles rows held held' counts counts' (finding.Ended row death number) result =
-    AnswersStatus rows counts counts' row number (death_status death) result × (held' ≡ held)
+    AnswersStatus rows counts counts' row number (death_status death) (Some death) result × (held' ≡ held)
 Settles rows held held' counts counts' (finding.Shows row number status) result =
-    AnswersStatus rows counts counts' row number status result × (held' ≡ held)
+    ((death : Option Death) × ReportsDeath status death
+    × AnswersStatus rows counts counts' row number status death result)
+    × (held' ≡ held)
 Settles rows held held' counts counts' finding.NothingYet result =
     (result ≡ Ok None) × (held' ≡ held) × (counts' ≡ counts)
 Settles rows held held' counts counts' finding.NoChild result =

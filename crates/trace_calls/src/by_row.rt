@@ -5,6 +5,7 @@ ghost use Rattle.stop_table.specs.Handle.{IsRowOrParent, LooksAt, LooksOnce, Tri
 ghost use Rattle.trace_calls.specs.Answer.{IsRowAnswer, IsWaitRowAnswer, without_row};
 ghost use Rattle.trace_calls.specs.ByRow.{HasClaimedRow, HasNotClaimedRow, IsRowRestart, row_request};
 ghost use Rattle.trace_calls.specs.Handle.{KeepsRows, KeepsTable, claimed_record};
+ghost use Rattle.stop_history.specs.Roster.{row_at};
 ghost use Rattle.stop_history.specs.WaitRequest.{one_row, waitid_request};
 ghost use Rattle.trace_calls.specs.Waiting.{IsOneTry};
 
@@ -21,7 +22,16 @@ use trace_record::{Resume, StopRecord};
 use trace_status::WaitStatus;
 
 impl<A: Allocator> Calls<A> {
-    /// `waitid` that reports the row and the number beside the status. None where there is nothing to report yet.
+    /// The thread id of a row.
+    pub fn tid(&self, row: u32) -> u32
+        requires { row < length self.now.view.roster }
+        ensures { result ≡ (row_at self.now.view.roster row).tid }
+    {
+        self.roster.row(row).tid
+    }
+
+    /// `waitid` that reports the row, the number and the death beside the status. None where there is nothing to report
+    /// yet.
     pub fn wait_row(&mut self, id: Id, flags: WaitFlags) -> Result<Option<RowStatus>, Errno>
         ensures table { KeepsTable self.old self.new }
         ensures answer { IsWaitRowAnswer (waitid_request id flags) self.old self.new result }
@@ -120,7 +130,7 @@ impl<A: Allocator> Calls<A> {
     }
 }
 
-/// An answer without the row and the number.
+/// An answer without the row, the number and the death.
 pub(crate) fn without_row(answer: Result<Option<RowStatus>, Errno>) -> Result<WaitStatus, Errno>
     ensures { result ≡ without_row answer }
 {

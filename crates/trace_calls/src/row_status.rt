@@ -1,5 +1,6 @@
 //! What a wait reports of a row.
 
+use trace_record::Death;
 use trace_status::WaitStatus;
 
 /// What a wait reports of a row of the roster.
@@ -11,4 +12,6 @@ pub struct RowStatus {
     pub number: u32,
     /// Its status, with its thread id.
     pub status: WaitStatus,
+    /// Its death, where the status reports one.
+    pub death: Option<Death>,
 }

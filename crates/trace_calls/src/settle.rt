@@ -2,6 +2,7 @@
 
 ghost use Rattle.std.specs.Prelude.{◌≡◌, ◌<◌, None, Some, length, slice_get, slice_set};
 ghost use Rattle.trace_calls.specs.Answer.{IsStatusOf};
+ghost use Rattle.trace_calls.specs.RowStatus.{ReportsDeath};
 ghost use Rattle.trace_calls.specs.Settling.{CanSettle, IsReportable, Settles};
 
 use crate::row_status::RowStatus;
@@ -10,6 +11,7 @@ use std::alloc::Allocator;
 use stop_history::Roster;
 use stop_table::Claim;
 use trace_options::Errno;
+use trace_record::Death;
 use trace_record::laws::statuses_are_encoded;
 use trace_status::{WaitStatus, decode};
 
@@ -25,19 +27,19 @@ pub(crate) fn settle<A: Allocator>(
     requires counts { length counts.old.items ≡ length roster.now }
     ensures { Settles roster.now held.old.items held.new.items counts.old.items counts.new.items found result }
 {
-    let (row, number, raw) = match found {
+    let (row, number, raw, death) = match found {
         Finding::Stop(claim) => {
             let (row, number) = (claim.row(), claim.record().number);
             let raw = claim.record().status();
             put(held, claim);
-            (row, number, raw)
+            (row, number, raw, None)
         }
-        Finding::Ended { row, death, number } => (row, number, death.status()),
+        Finding::Ended { row, death, number } => (row, number, death.status(), Some(death)),
         Finding::Shows {
             row,
             number,
             status,
-        } => (row, number, status),
+        } => (row, number, status, death_in(status)),
         Finding::NothingYet => return Ok(None),
         Finding::NoChild => return Err(Errno::ECHILD),
     };
@@ -47,7 +49,15 @@ pub(crate) fn settle<A: Allocator>(
         row,
         number,
         status,
+        death,
     }))
+}
+
+/// The death that a raw status reports, if it reports one.
+fn death_in(raw: u32) -> Option<Death>
+    ensures { ReportsDeath raw result }
+{
+    Death::from_status(raw)
 }
 
 /// The wait status of a row with this raw status.

@@ -39,25 +39,23 @@ use Rattle.trace_options.specs.declared.errno.Errno.{Errno}
 use Rattle.trace_options.specs.declared.errno.Errno.TheVariants as errno
 use Rattle.trace_calls.proofs.Keeping.{claim_at, free_row, keeps_beside, keeps_look}
 use Rattle.trace_record.specs.Content.{Content, empty_content}
+use Rattle.trace_calls.proofs.Settled.{no_death}
+use Rattle.trace_calls.specs.RowStatus.{ReportsDeath}
 use Rattle.trace_record.specs.Death.{IsDeath, death_status}
 use Rattle.trace_record.specs.Resume.{IsResume}
 use Rattle.trace_record.specs.Stop.{IsStop, stop_status}
 use Rattle.trace_record.specs.declared.death.Death.{Death}
-use Rattle.trace_record.specs.declared.death.Death.TheVariants.{Exited, Signaled}
+use Rattle.trace_record.proofs.Deaths.{same_death}
 use Rattle.trace_record.specs.declared.resume.Resume.{Resume as Restart}
 use Rattle.trace_record.specs.declared.stop.Stop.{Stop}
-use Rattle.trace_record.specs.declared.stop.Stop.TheVariants as stop
 use Rattle.trace_script.specs.CaseFile.{CaseContent}
-use Rattle.trace_status.specs.WaitStatus.{Encodes, pid_of}
-use Rattle.trace_status.specs.declared.wait_status.WaitStatus.{WaitStatus}
-use Rattle.trace_status.specs.declared.wait_status.WaitStatus.TheVariants as status
 use Rattle.tracer_workers.specs.Config.{plan_of, policy_of, show_of}
 use Rattle.tracer_workers.specs.Driven.{IsRestarted, IsTraced}
 use Rattle.tracer_workers.specs.DrivenBy.{AreDrivenBy}
 use Rattle.tracer_workers.specs.HistoryPieces.{stop_piece}
 use Rattle.tracer_workers.specs.WorkerThread.{AreKept, AreOverForGood, AreServices, HasServed, HasWaited}
 use Rattle.tracer_workers.specs.WorkerThread.{IsService, Restarts, RestartsByPolicy}
-use Rattle.tracer_workers.specs.WorkerThread.{claimed_piece, death_in, own_pieces, pieces_claimed, worker_pieces_with}
+use Rattle.tracer_workers.specs.WorkerThread.{claimed_piece, own_pieces, pieces_claimed, worker_pieces_with}
 use Rattle.tracer_workers.specs.declared.config.Config.{Config}
 use Rattle.tracer_workers.proofs.AfterClaim.{not_by_claim}
 use Rattle.tracer_workers.proofs.Claims.{last_stop, mode_in_range}
@@ -171,55 +169,6 @@ dead_last born (event.Exit row death ∷ es) number raw is =
     let second : death_status death ≡ raw = cc in
     (row, death, es, refl, second, first)
 
--- ---- what statuses report
-
--- the low byte of a stop's raw value
-stop_low : (at : Stop) → (high : ℕ) × (stop_status at ≡ high * 0x100 + 127)
-stop_low stop.Start = (128 * 0x100 + 5, refl)
-stop_low stop.Enter = (0x85, refl)
-stop_low stop.Exit = (0x85, refl)
-stop_low (stop.Seccomp ret_data) = (7 * 0x100 + 5, refl)
-stop_low (stop.Fork child) = (1 * 0x100 + 5, refl)
-stop_low (stop.Clone child) = (3 * 0x100 + 5, refl)
-stop_low (stop.Exec former) = (4 * 0x100 + 5, refl)
-stop_low (stop.Signal signal) = (signal, refl)
-stop_low (stop.Ending death) = (6 * 0x100 + 5, refl)
-
--- a stop's reports no death
-stop_reports : (s : WaitStatus) (at : Stop) → Encodes s (stop_status at) → death_in s ≡ None
-stop_reports (status.Exited pid code) at is = let low = (stop_low at).1 in absurd (omega (arith, low, is.1))
-stop_reports (status.Signaled pid signal true) at is = let low = (stop_low at).1 in absurd (omega (arith, low, is))
-stop_reports (status.Signaled pid signal false) at is = let low = (stop_low at).1 in absurd (omega (arith, low, is))
-stop_reports (status.Stopped pid signal) at is = refl
-stop_reports (status.PtraceEvent pid signal event) at is = refl
-stop_reports (status.PtraceSyscall pid) at is = refl
-stop_reports status.StillAlive at is = absurd is
-
--- a death's reports that death
-death_reports : (s : WaitStatus) (d : Death) → IsDeath d → Encodes s (death_status d) → death_in s ≡ Some d
-death_reports (status.Exited pid code) (Exited own) ranged is =
-    let same : code ≡ own = omega (arith, is.1) in ap (λ (n : ℕ). Some (Exited n)) same
-death_reports (status.Exited pid code) (Signaled signal true) ranged is = absurd (omega (arith, is.1, ranged))
-death_reports (status.Exited pid code) (Signaled signal false) ranged is = absurd (omega (arith, is.1, ranged))
-death_reports (status.Signaled pid signal true) (Exited own) ranged is = absurd (omega (arith, is))
-death_reports (status.Signaled pid signal false) (Exited own) ranged is = absurd (omega (arith, is))
-death_reports (status.Signaled pid signal true) (Signaled own true) ranged is =
-    let same : signal ≡ own = omega (arith, is.1) in ap (λ (n : ℕ). Some (Signaled n true)) same
-death_reports (status.Signaled pid signal false) (Signaled own false) ranged is =
-    let same : signal ≡ own = omega (arith, is.1) in ap (λ (n : ℕ). Some (Signaled n false)) same
-death_reports (status.Signaled pid signal true) (Signaled own false) ranged is = absurd (omega (arith, is, ranged))
-death_reports (status.Signaled pid signal false) (Signaled own true) ranged is = absurd (omega (arith, is, ranged))
-death_reports (status.Stopped pid signal) (Exited own) ranged is = absurd (omega (arith, is.1))
-death_reports (status.Stopped pid signal) (Signaled own true) ranged is = absurd (omega (arith, is, ranged))
-death_reports (status.Stopped pid signal) (Signaled own false) ranged is = absurd (omega (arith, is, ranged))
-death_reports (status.PtraceEvent pid signal event) (Exited own) ranged is = absurd (omega (arith, is.2))
-death_reports (status.PtraceEvent pid signal event) (Signaled own true) ranged is = absurd (omega (arith, is.2, ranged))
-death_reports (status.PtraceEvent pid signal event) (Signaled own false) ranged is = absurd (omega (arith, is.2, ranged))
-death_reports (status.PtraceSyscall pid) (Exited own) ranged is = absurd (omega (arith, is))
-death_reports (status.PtraceSyscall pid) (Signaled own true) ranged is = absurd (omega (arith, is, ranged))
-death_reports (status.PtraceSyscall pid) (Signaled own false) ranged is = absurd (omega (arith, is, ranged))
-death_reports status.StillAlive d ranged is = absurd is
-
 -- ---- rows that are free
 
 no_row : (f : ℕ → Bool) (start count : ℕ) → ((k : ℕ) → start ≤ k → k < start + count → f k ≡ false)
@@ -304,9 +253,6 @@ module _ (v : View) (b : CallsHandle) (found : RowStatus) (mine : is_among v.num
   abbrev w : View
   w = b.view
 
-  abbrev s : WaitStatus
-  s = found.status
-
   abbrev before : List Entry
   before = h.claimed.0
 
@@ -331,7 +277,7 @@ module _ (v : View) (b : CallsHandle) (found : RowStatus) (mine : is_among v.num
   state_is = state_within v.roster (history_of before) found.row h.within
 
   -- a stop is its row's last event
-  stop_last : death_in s ≡ None → (row : ℕ) × (at : Stop) × (older : List Event)
+  stop_last : found.death ≡ None → (row : ℕ) × (at : Stop) × (older : List Event)
       × (es ≡ event.Publish row found.number at ∷ older) × (stop_status at ≡ h.raw)
   stop_last silent =
       elim h.claimed.2 [
@@ -340,26 +286,24 @@ module _ (v : View) (b : CallsHandle) (found : RowStatus) (mine : is_among v.num
         | inr dead ↦
             (let last = dead_last (is_born v.roster (history_of before) found.row) es found.number h.raw (sym state_is ∙ dead.1) in
             let ranged : IsDeath last.1 = subst IsNewestInRange last.3 newest in
-            let clash : Some last.1 ≡ None =
-            sym (death_reports s last.1 ranged (subst (Encodes s) (sym last.4) h.is_status.1)) ∙ silent in cc)
+            let unreported : ReportsDeath h.raw None = subst (ReportsDeath h.raw) silent h.reports in
+            absurd (unreported last.1 ranged last.4))
       ]
 
   -- and so is a death
-  death_last : (d : Death) → death_in s ≡ Some d → (row : ℕ) × (older : List Event)
+  death_last : (d : Death) → found.death ≡ Some d → (row : ℕ) × (older : List Event)
       × (es ≡ event.Exit row d ∷ older) × (number_in older ≡ found.number)
   death_last d says =
+      let reported : ReportsDeath h.raw (Some d) = subst (ReportsDeath h.raw) says h.reports in
       elim h.claimed.2 [
         | inl stopped ↦
             (let last =
             stopped_last (is_born v.roster (history_of before) found.row) es found.number h.raw (sym state_is ∙ stopped) in
-            let clash : Some d ≡ None = sym says ∙ stop_reports s last.1 (subst (Encodes s) (sym last.4) h.is_status.1) in
-            cc)
+            absurd (no_death last.1 d reported.0 (last.4 ∙ sym reported.1)))
         | inr dead ↦
             (let last = dead_last (is_born v.roster (history_of before) found.row) es found.number h.raw (sym state_is ∙ dead.1) in
             let ranged : IsDeath last.1 = subst IsNewestInRange last.3 newest in
-            let is : Some last.1 ≡ Some d =
-            sym (death_reports s last.1 ranged (subst (Encodes s) (sym last.4) h.is_status.1)) ∙ says in
-            let same : last.1 ≡ d = cc in
+            let same : last.1 ≡ d = same_death last.1 d ranged reported.0 (last.4 ∙ sym reported.1) in
             (last.0, last.2, last.3 ∙ ap (λ y. event.Exit last.0 y ∷ last.2) same, last.5))
       ]
 
@@ -373,7 +317,7 @@ module _ (v : View) (b : CallsHandle) (found : RowStatus) (mine : is_among v.num
   own =
       (λ i. cell_after (made.same.roster i) (made.seen i) found.row) ∙ own_cell v.roster x before found.row refl
 
-  pub holds : death_in s ≡ None → HasClaimedRow b found.row
+  pub holds : found.death ≡ None → HasClaimedRow b found.row
   holds silent =
       let last = stop_last silent in
       let claimed : claimed_phase v.number es ≡ phase.Claimed v.number = ap (claimed_phase v.number) last.3 in
@@ -385,7 +329,7 @@ module _ (v : View) (b : CallsHandle) (found : RowStatus) (mine : is_among v.num
       )
 
   -- the pieces with that of the stop, and with that of the death
-  pub stop_kept : (show : Show) → death_in s ≡ None → claimed_record b found.row ≡ content_after w.roster w.seen found.row
+  pub stop_kept : (show : Show) → found.death ≡ None → claimed_record b found.row ≡ content_after w.roster w.seen found.row
       → own_pieces show w ≡ own_pieces show v ++ stop_piece show (claimed_record b found.row) ∷ []
   stop_kept show silent recorded =
       let last = stop_last silent in
@@ -396,19 +340,19 @@ module _ (v : View) (b : CallsHandle) (found : RowStatus) (mine : is_among v.num
       ++ claimed_piece show (row_at v.roster found.row).tid (content_after v.roster before found.row) es ∷ []) last.3
       ∙ ap (λ c. own_pieces show v ++ stop_piece show c ∷ []) content
 
-  pub death_kept : (show : Show) (tid : ℕ) → pid_of s ≡ Some tid → (d : Death) → death_in s ≡ Some d
+  pub death_kept : (show : Show) (tid : ℕ) → tid ≡ (row_at w.roster found.row).tid → (d : Death) → found.death ≡ Some d
       → own_pieces show w ≡ own_pieces show v ++ Died tid found.number d ∷ []
   death_kept show tid says d dies =
       let last = death_last d dies in
-      let is : Some (row_at v.roster found.row).tid ≡ Some tid = sym h.is_status.0 ∙ says in
-      let same : (row_at v.roster found.row).tid ≡ tid = cc in
+      let same : (row_at v.roster found.row).tid ≡ tid =
+      sym (says ∙ ap (λ rows. (row_at rows found.row).tid) made.same.roster) in
       pieces_claim show v w before found.row found.number mine made
       ∙ ap (λ es. own_pieces show v
       ++ claimed_piece show (row_at v.roster found.row).tid (content_after v.roster before found.row) es ∷ []) last.2
       ∙ (λ i. own_pieces show v ++ Died (same i) (last.3 i) d ∷ [])
 
   -- after the claim of a death no row is held
-  pub death_free : (d : Death) → death_in s ≡ Some d → held_rows w ≡ []
+  pub death_free : (d : Death) → found.death ≡ Some d → held_rows w ≡ []
   death_free d dies =
       let last = death_last d dies in
       let reaped : claimed_phase v.number es ≡ phase.Reaped = ap (claimed_phase v.number) last.2 in
@@ -460,7 +404,7 @@ module _ (v : View) (b : CallsHandle) (found : RowStatus) (mine : is_among v.num
   -- what was served is more
   module _ (config : Config) (u : View) (kept more : List Piece) (short later : Bool)
       (served : HasServed config u v kept short) where
-    pub served_death : (tid : ℕ) → pid_of s ≡ Some tid → (d : Death) → death_in s ≡ Some d
+    pub served_death : (tid : ℕ) → tid ≡ (row_at w.roster found.row).tid → (d : Death) → found.death ≡ Some d
         → AreKept (own_pieces (show_of config) u) (own_pieces (show_of config) v ++ Died tid found.number d ∷ []) more later
         → HasServed config u w more later
     served_death tid says d dies k = record {
@@ -471,7 +415,7 @@ module _ (v : View) (b : CallsHandle) (found : RowStatus) (mine : is_among v.num
       restarts = claim_restarts config u served.same served.restarts;
     }
 
-    pub served_stop : death_in s ≡ None → claimed_record b found.row ≡ content_after w.roster w.seen found.row
+    pub served_stop : found.death ≡ None → claimed_record b found.row ≡ content_after w.roster w.seen found.row
         → (z : View) → Restarts config w z found.row
         → AreKept (own_pieces (show_of config) u)
         (own_pieces (show_of config) v ++ stop_piece (show_of config) (claimed_record b found.row) ∷ []) more later
@@ -543,8 +487,16 @@ waited a b found has =
       raw = is.raw;
       within = is.is_found.0.selected.0;
       claimed = is.is_found.1;
-      is_status = is.is_status;
+      reports = is.reports;
     }
+
+-- the row that a wait has found is one of the roster
+pub found_within : (a b : CallsHandle) (found : RowStatus) → HasFound a b found → found.row < length b.view.roster
+found_within a b found has =
+    let is = waited a b found has in
+    let there = is.within in
+    let long = ap length is.claimed.1.same.roster in
+    omega (arith, there, long)
 
 -- the record of a stop that a wait has claimed is the one that its tracee published
 pub recorded : (a b : CallsHandle) (found : RowStatus) → HasFound a b found → HasClaimedRow b found.row → HasRecords b

@@ -1,6 +1,6 @@
 -- A worker's thread: it waits for stops and deaths, keeps the piece of each, and restarts by the policy what it has claimed
 -- (waitid(2); ptrace(2), "Restarting"; strace(1)).
-use Rattle.std.specs.Prelude.{◌≡◌, ◌==◌, ◌<◌, ◌∷◌, ◌++◌, [], ℕ, Bool, true, false, List, Option, Some, None, length}
+use Rattle.std.specs.Prelude.{◌≡◌, ◌==◌, ◌<◌, ◌∷◌, ◌++◌, [], ℕ, Bool, true, false, List, length}
 use Rattle.std.specs.Prelude.{if◌then◌else◌}
 use Rattle.record_printer.specs.Piece.{Died, Piece}
 use Rattle.record_printer.specs.declared.call.show.Show.{Show}
@@ -16,14 +16,10 @@ use Rattle.stop_table.specs.Entry.{AreLegal, Entry, content_after, history_of, r
 use Rattle.stop_table.specs.Handle.{EndsWith, IsSame}
 use Rattle.stop_table.specs.Tracer.{held_rows}
 use Rattle.stop_table.specs.View.{View, actors_of}
-use Rattle.trace_calls.specs.Answer.{IsStatusOf}
+use Rattle.trace_calls.specs.RowStatus.{ReportsDeath}
 use Rattle.trace_calls.specs.declared.row_status.RowStatus.{RowStatus}
 use Rattle.trace_calls.specs.Waiting.{Claimed}
 use Rattle.trace_record.specs.Content.{Content}
-use Rattle.trace_record.specs.declared.death.Death.{Death}
-use Rattle.trace_record.specs.declared.death.Death.TheVariants as death
-use Rattle.trace_status.specs.declared.wait_status.WaitStatus.{WaitStatus}
-use Rattle.trace_status.specs.declared.wait_status.WaitStatus.TheVariants as status
 use Rattle.tracer_workers.specs.Config.{policy_of, show_of}
 use Rattle.tracer_workers.specs.HistoryPieces.{stop_piece}
 use Rattle.tracer_workers.specs.declared.config.Config.{Config}
@@ -102,13 +98,7 @@ pub record HasWaited (v w : View) (found : RowStatus) : Type 0 where
   pub raw : ℕ
   pub within : found.row < length v.roster
   pub claimed : Claimed true v w found.row found.number raw
-  pub is_status : IsStatusOf v.roster found.row raw found.status
-
--- the death that a status reports, if it reports one
-abbrev pub death_in : WaitStatus → Option Death
-death_in (status.Exited pid code) = Some (death.Exited code)
-death_in (status.Signaled pid signal core) = Some (death.Signaled signal core)
-death_in other = None
+  pub reports : ReportsDeath raw found.death
 
 -- the row was restarted by the policy, with the content of its stop
 abbrev pub Restarts : Config → View → View → ℕ → Type 0

@@ -1,6 +1,6 @@
 //! A worker's thread.
 
-ghost use Rattle.std.specs.Prelude.{◌≡◌, ◌≢◌, ◌∷◌, ◌++◌, [], List, MatchOption, None, Ok, Some, false};
+ghost use Rattle.std.specs.Prelude.{◌≡◌, ◌≢◌, ◌∷◌, ◌++◌, [], List, MatchOption, Ok, Some, false};
 ghost use Rattle.record_printer.specs.Piece as pieces;
 ghost use Rattle.stop_table.specs.Entry.{content_after};
 ghost use Rattle.stop_table.specs.Handle.{IsSame};
@@ -11,11 +11,9 @@ ghost use Rattle.trace_calls.specs.ByRow.{HasClaimedRow};
 ghost use Rattle.trace_calls.specs.Handle.{KeepsTable, claimed_record, tracer_of};
 ghost use Rattle.stop_history.specs.WaitRequest.{anyone};
 ghost use Rattle.trace_calls.specs.Waiting.{NoChild};
-ghost use Rattle.trace_status.specs.WaitStatus.{pid_of};
 ghost use Rattle.tracer_workers.specs.Config.{show_of};
 ghost use Rattle.tracer_workers.specs.HistoryPieces.{stop_piece};
-ghost use Rattle.tracer_workers.specs.WorkerThread.{AreKept, Restarts, RestartsByPolicy};
-ghost use Rattle.tracer_workers.specs.WorkerThread.{AreOverForGood, death_in, own_pieces};
+ghost use Rattle.tracer_workers.specs.WorkerThread.{AreKept, AreOverForGood, Restarts, RestartsByPolicy, own_pieces};
 
 use crate::config::{Config, policy};
 use crate::gate::Gate;
@@ -27,7 +25,6 @@ use std::time::Clock;
 use trace_calls::{Calls, Id, Patience, RowStatus};
 use trace_options::{Errno, WaitFlags};
 use trace_record::Death;
-use trace_status::WaitStatus;
 
 /// How many workers look again at once where there is nothing to serve. With 16 that do, a run of 64 rows on four
 /// processors takes 1.4 times as long as with 4.
@@ -75,8 +72,8 @@ pub fn run_worker<A: Allocator + Copy, R: Wait + Clock, G: Gate>(
             return worked;
         };
         from = found.row.saturating_add(1);
-        match death_of(found.status) {
-            Some((tid, death)) => worked.keep_death(tid, found.number, death),
+        match found.death {
+            Some(death) => worked.keep_death(calls.tid(found.row), found, death),
             None => {
                 invariants::of_calls(calls);
                 worked.keep_stop(alloc, calls, found.row, config);
@@ -127,18 +124,6 @@ fn status_in(answer: Result<Option<RowStatus>, Errno>) -> Option<RowStatus>
     }
 }
 
-/// The death that a status reports, with the thread id, if it reports one.
-fn death_of(status: WaitStatus) -> Option<(u32, Death)>
-    ensures { MatchOption result (death_in status ≡ None)
-        (λ r. (pid_of status ≡ Some r.0) × (death_in status ≡ Some r.1)) }
-{
-    match status {
-        WaitStatus::Exited(tid, code) => Some((tid, Death::Exited(code))),
-        WaitStatus::Signaled(tid, signal, core) => Some((tid, Death::Signaled { signal, core })),
-        _ => None,
-    }
-}
-
 impl<A: Allocator> Worked<A> {
     /// Keeps a piece, unless a growth was refused.
     fn keep(&mut self, piece: Piece<A>)
@@ -153,13 +138,13 @@ impl<A: Allocator> Worked<A> {
     }
 
     /// Keeps the piece of a death that was claimed, with the number of the last stop.
-    fn keep_death(&mut self, tid: u32, number: u32, death: Death)
+    fn keep_death(&mut self, tid: u32, found: RowStatus, death: Death)
         ensures { (before after : List pieces.Piece) →
             AreKept before after self.old.pieces.items self.old.short →
-            AreKept before (after ++ pieces.Died tid number death ∷ []) self.new.pieces.items self.new.short }
+            AreKept before (after ++ pieces.Died tid found.number death ∷ []) self.new.pieces.items self.new.short }
     {
         if !self.short {
-            self.keep(death_piece(tid, number, death));
+            self.keep(death_piece(tid, found.number, death).with_row(found.row));
         }
     }
 }
@@ -180,7 +165,7 @@ impl<A: Allocator + Copy> Worked<A> {
             return;
         }
         match piece_of(alloc, stop, &config.show()) {
-            Ok(piece) => self.keep(piece),
+            Ok(piece) => self.keep(piece.with_row(row)),
             Err(_) => self.short = true,
         }
     }

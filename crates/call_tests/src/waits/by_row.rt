@@ -16,7 +16,7 @@ use stop_table::Shown;
 use test_support::START;
 use trace_calls::{Calls, Id, Patience, RowStatus};
 use trace_options::{Errno, WaitFlags};
-use trace_record::{Kind, Resume, Stop};
+use trace_record::{Death, Kind, Resume, Stop};
 use trace_status::WaitStatus;
 
 /// The report of this row at `Stop::Start`, which is its first stop.
@@ -26,6 +26,7 @@ fn start_of(row: u32, pid: u32) -> Result<Option<RowStatus>, Errno> {
             row,
             number: 1,
             status,
+            death: None,
         })
     })
 }
@@ -175,6 +176,7 @@ fn a_wait_for_one_row_reaps_its_death(rt: HostRuntime) -> Result<(), Fail> {
         row: 0,
         number: 0,
         status: WaitStatus::Exited(100, 3),
+        death: Some(Death::Exited(3)),
     }));
     same(&rt, &waited_for(&mut calls, 0), &Some(died));
     same(&rt, &waited_for(&mut calls, 0), &Some(Err(Errno::ECHILD)));
@@ -218,6 +220,7 @@ fn a_death_is_reported_with_its_row(rt: HostRuntime) -> Result<(), Fail> {
         row: 0,
         number: 0,
         status: WaitStatus::Exited(100, 3),
+        death: Some(Death::Exited(3)),
     }));
     let peek = both(WaitFlags::WEXITED, WaitFlags::WNOWAIT);
     same(

@@ -4,7 +4,7 @@ use Rattle.record_printer.specs.Piece.{Piece}
 use Rattle.tracer_workers.specs.Config.{show_of}
 use Rattle.tracer_workers.specs.WorkerThread.{HasServed, own_pieces}
 use Rattle.tracer_workers.proofs.WorkerThreads.{holds, no_child, served_death, served_look, served_none, served_stop}
-use Rattle.tracer_workers.proofs.WorkerThreads.{none_found, recorded, tracer_on, waited}
+use Rattle.tracer_workers.proofs.WorkerThreads.{found_within, none_found, recorded, tracer_on, waited}
 use Rattle.tracer_workers.proofs.worker_thread.run_worker.Goals as goal
 
 pub loop-init : goal.loop-init
@@ -47,8 +47,12 @@ returns-in_default-clause-over g c =
     (no_child c.loop.calls c.next_found.new.calls (none_found c.loop.calls c.next_found.new.calls c.next_found.result
     c.in_default.not-Some c.next_found.ensures.answer)).1
 
-pub loop-preserved-in-Some-death_of : goal.loop-preserved-in-Some-death_of
-loop-preserved-in-Some-death_of g c =
+pub tid-requires : goal.tid-requires
+tid-requires g c =
+    found_within c.loop.calls c.next_found.new.calls c.in-Some-next_found.found c.in-Some-next_found.ensures.answer
+
+pub loop-preserved-in-Some-death : goal.loop-preserved-in-Some-death
+loop-preserved-in-Some-death g c =
     let i = c.loop.invariant in
     let some = waited c.loop.calls c.next_found.new.calls c.in-Some-next_found.found c.in-Some-next_found.ensures.answer in
     let u = c.args.calls.now.view in
@@ -62,7 +66,7 @@ loop-preserved-in-Some-death_of g c =
       c.next_found.ensures.table ∙ i.3,
       served_death v b c.in-Some-next_found.found i.2.mine i.4.free some c.args.config.now u
           c.loop.worked.pieces.items c.keep_death.new.self.pieces.items c.loop.worked.short c.keep_death.new.self.short i.4
-          c.in-Some-death_of.tid c.in-Some-death_of.ensures.0 c.in-Some-death_of.death c.in-Some-death_of.ensures.1 kept,
+          c.tid.result c.tid.ensures c.in-Some-death.death c.in-Some-death.is kept,
     )
 
 pub keep_stop-requires : goal.keep_stop-requires
@@ -70,23 +74,23 @@ keep_stop-requires g c =
     let i = c.loop.invariant in
     let some = waited c.loop.calls c.next_found.new.calls c.in-Some-next_found.found c.in-Some-next_found.ensures.answer in
     holds c.loop.calls.view c.next_found.new.calls c.in-Some-next_found.found i.2.mine i.4.free some
-    c.in-None-death_of.ensures
+    c.in-None-death.is
 
 pub restart-requires-clause-row : goal.restart-requires-clause-row
 restart-requires-clause-row g c =
     let i = c.loop.invariant in
     let some = waited c.loop.calls c.next_found.new.calls c.in-Some-next_found.found c.in-Some-next_found.ensures.answer in
     holds c.loop.calls.view c.next_found.new.calls c.in-Some-next_found.found i.2.mine i.4.free some
-    c.in-None-death_of.ensures
+    c.in-None-death.is
 
 pub restart-requires-clause-record : goal.restart-requires-clause-record
 restart-requires-clause-record g c =
     let i = c.loop.invariant in
     let some = waited c.loop.calls c.next_found.new.calls c.in-Some-next_found.found c.in-Some-next_found.ensures.answer in
     let has = holds c.loop.calls.view c.next_found.new.calls c.in-Some-next_found.found i.2.mine i.4.free some
-    c.in-None-death_of.ensures in
+    c.in-None-death.is in
     recorded c.loop.calls c.next_found.new.calls c.in-Some-next_found.found c.in-Some-next_found.ensures.answer has
-    c.of_calls-in-None-death_of.ensures.records
+    c.of_calls-in-None-death.ensures.records
 
 pub loop-preserved : goal.loop-preserved
 loop-preserved g c =
@@ -98,9 +102,9 @@ loop-preserved g c =
     let show = show_of c.args.config.now in
     let kept = c.keep_stop.ensures (own_pieces show u) (own_pieces show v) i.4.pieces in
     let made = c.restart.ensures.restarts in
-    let has = holds v b c.in-Some-next_found.found i.2.mine i.4.free some c.in-None-death_of.ensures in
+    let has = holds v b c.in-Some-next_found.found i.2.mine i.4.free some c.in-None-death.is in
     let stands = recorded c.loop.calls b c.in-Some-next_found.found c.in-Some-next_found.ensures.answer has
-    c.of_calls-in-None-death_of.ensures.records in (
+    c.of_calls-in-None-death.ensures.records in (
       tt,
       tt,
       tracer_on b c.restart.new.calls (tracer_on c.loop.calls b i.2 some.claimed.1.same some.claimed.1.legal) made.2.same
@@ -108,5 +112,5 @@ loop-preserved g c =
       c.restart.ensures.table ∙ c.next_found.ensures.table ∙ i.3,
       served_stop v b c.in-Some-next_found.found i.2.mine i.4.free some c.args.config.now u
           c.loop.worked.pieces.items c.keep_stop.new.self.pieces.items c.loop.worked.short c.keep_stop.new.self.short i.4
-          c.in-None-death_of.ensures stands c.restart.new.calls.view made kept,
+          c.in-None-death.is stands c.restart.new.calls.view made kept,
     )

@@ -22,4 +22,4 @@ pub use run_error::RunError;
 pub use scheduled::run_scheduled;
 pub use threaded::run_case;
 pub use tracee_thread::run_tracee;
-pub use worker_thread::{Worked, run_worker};
+pub use worker_thread::{KeptPieces, run_worker};

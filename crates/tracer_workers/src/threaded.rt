@@ -6,16 +6,14 @@
 //! are joined, and what they give back is gathered.
 
 ghost use denote.Param.Send.{Frees, IsSend, IsSync};
-ghost use Rattle.std.specs.Prelude.{◌≡◌, ◌≢◌, ◌++◌, ◌≤◌, [], All, IfErr, IfOk, OnOk, false, length, map, min, reverse};
-ghost use Rattle.std.specs.Prelude.{true};
+ghost use Rattle.std.specs.Prelude.{◌≡◌, ◌≢◌, ◌++◌, ◌≤◌, All, IfErr, IfOk, OnOk, false, length, map, min, reverse, true};
 ghost use Rattle.std.specs.List.{AllZip, flat_map};
-ghost use Rattle.std.specs.Vec.{vec_capacity, vec_len};
+ghost use Rattle.std.specs.Vec.{vec_len};
 ghost use Rattle.atomic_table.specs.Seated.{TableId};
 ghost use Rattle.stop_history.specs.declared.limits.TheConstants.{TRACERS};
 ghost use Rattle.stop_table.specs.Opening.{AreTracees};
-ghost use Rattle.stop_table.specs.Tracer.{held_rows};
 ghost use Rattle.tracer_workers.specs.Config.{plain, plan_of, text_of};
-ghost use Rattle.tracer_workers.specs.Threaded.{CanRun, HasRun, HasWorked};
+ghost use Rattle.tracer_workers.specs.Threaded.{AreGivenBack, CanBeHanded, HasRoomFor};
 ghost use Rattle.tracer_workers.specs.TraceeThread.{IsToStart};
 ghost use Rattle.tracer_workers.specs.declared.run_error.RunError.TheVariants as run_error;
 
@@ -34,7 +32,9 @@ use crate::run_error::RunError;
 use crate::threaded::shared::Shared;
 use crate::threaded::starting_line::StartingLine;
 use crate::threaded::tracee_threads::{Scripted, TraceeThread, join_tracees, start_tracees};
-use crate::threaded::worker_threads::{Served, WorkerThread, join_workers, start_workers};
+use crate::threaded::worker_threads::{
+    TracerWithPieces, WorkerThread, join_workers, start_workers,
+};
 use record_printer::{Piece, Text};
 use std::alloc::Allocator;
 use std::sync::Wait;
@@ -70,52 +70,43 @@ fn with_machines<A: Allocator + Copy>(
 
 /// What the threads of a run are handed: each tracee with its machine, and the tracers of the workers.
 #[derive(Drop)]
-struct Handed<A: Allocator> {
+struct RunHandles<A: Allocator> {
     scripted: Vec<Scripted<A>, A>,
     tracers: Vec<Tracer<A>, A>,
 }
 
 /// The threads of a run that were started.
 #[derive(Drop)]
-struct Started<A: Allocator> {
+struct StartedThreads<A: Allocator> {
     tracees: Vec<TraceeThread<A>, A>,
     workers: Vec<WorkerThread<A>, A>,
 }
 
 /// What the threads of a run have given back.
 #[derive(Drop)]
-struct Back<A: Allocator> {
+struct ReturnedHandles<A: Allocator> {
     tracees: Vec<Tracee<A>, A>,
-    served: Vec<Served<A>, A>,
+    workers: Vec<TracerWithPieces<A>, A>,
 }
 
-/// The lists of a run, which have room for all that comes into them.
-#[derive(Drop)]
-struct Room<A: Allocator> {
-    started: Started<A>,
-    back: Back<A>,
-}
-
-/// Makes the lists of a run with this many tracees and workers.
-fn make_room<A: Allocator + Copy>(
+/// The lists of a run with this many tracees and workers: for the threads, and for what they give back.
+fn make_lists<A: Allocator + Copy>(
     alloc: A,
     rows: usize,
     workers: usize,
-) -> Result<Room<A>, NoMemory>
-    ensures started { IfOk result (λ r. (r.started.tracees.items ≡ []) × (rows ≤ vec_capacity r.started.tracees)
-        × (r.started.workers.items ≡ []) × (workers ≤ vec_capacity r.started.workers)) }
-    ensures back { IfOk result (λ r. (r.back.tracees.items ≡ []) × (rows ≤ vec_capacity r.back.tracees)
-        × (r.back.served.items ≡ []) × (workers ≤ vec_capacity r.back.served)) }
+) -> Result<(StartedThreads<A>, ReturnedHandles<A>), NoMemory>
+    ensures started { IfOk result (λ lists. HasRoomFor rows lists.0.tracees × HasRoomFor workers lists.0.workers) }
+    ensures back { IfOk result (λ lists. HasRoomFor rows lists.1.tracees × HasRoomFor workers lists.1.workers) }
 {
-    let started = Started {
+    let started = StartedThreads {
         tracees: Vec::with_capacity(alloc, rows)?,
         workers: Vec::with_capacity(alloc, workers)?,
     };
-    let back = Back {
+    let back = ReturnedHandles {
         tracees: Vec::with_capacity(alloc, rows)?,
-        served: Vec::with_capacity(alloc, workers)?,
+        workers: Vec::with_capacity(alloc, workers)?,
     };
-    Ok(Room { started, back })
+    Ok((started, back))
 }
 
 /// Starts the threads of all tracees and workers, for which there is room; whether all could be started.
@@ -129,14 +120,12 @@ fn start_all<
     scope: &Scope<'s, &'e ()>,
     rt: &'e R,
     shared: &'e Shared<'e, A, G>,
-    handed: Handed<A>,
-    started: &mut Started<A>,
+    handed: RunHandles<A>,
+    started: &mut StartedThreads<A>,
 ) -> bool
-    requires tracees { All (λ s. CanRun s.tracee s.machine) handed.scripted.items }
-    requires tracers { All (λ e. (shared.now.roster.now ≡ e.view.roster) × (held_rows e.view ≡ []))
-        handed.tracers.items }
-    requires room { (started.old.tracees.items ≡ []) × (vec_len handed.scripted ≤ vec_capacity started.old.tracees)
-        × (started.old.workers.items ≡ []) × (vec_len handed.tracers ≤ vec_capacity started.old.workers) }
+    requires handed { CanBeHanded shared.now.roster.now handed }
+    requires room { HasRoomFor (vec_len handed.scripted) started.old.tracees
+        × HasRoomFor (vec_len handed.tracers) started.old.workers }
     ensures few { (vec_len started.new.tracees ≤ vec_len handed.scripted)
         × (vec_len started.new.workers ≤ vec_len handed.tracers) }
     ensures tracees { result ≡ true → AllZip (λ s h. (h.promise.tracee.value ≡ s.tracee)
@@ -144,14 +133,15 @@ fn start_all<
     ensures workers { result ≡ true → AllZip (λ e h. (h.promise.tracer.value ≡ e)
         × (h.promise.config ≡ shared.now.config.now)) handed.tracers.items started.new.workers.items }
 {
-    let Handed { scripted, tracers } = handed;
+    let RunHandles { scripted, tracers } = handed;
     if !start_tracees(scope, rt, shared.line, scripted, &mut started.tracees) {
         return false;
     }
     start_workers(scope, rt, shared, tracers, &mut started.workers)
 }
 
-/// Starts all threads, tells them to go once all have what they need, and otherwise to leave, and joins them.
+/// Makes the lists, starts all threads, tells them to go once all have what they need, and otherwise to leave, and joins
+/// them.
 fn run_threads<
     's,
     'e: 's,
@@ -162,35 +152,19 @@ fn run_threads<
     scope: &Scope<'s, &'e ()>,
     rt: &'e R,
     shared: &'e Shared<'e, A, G>,
-    handed: Handed<A>,
-    room: Room<A>,
-) -> Result<Back<A>, RunError>
-    requires tracees { All (λ s. CanRun s.tracee s.machine) handed.scripted.items }
-    requires tracers { All (λ e. (shared.now.roster.now ≡ e.view.roster) × (held_rows e.view ≡ []))
-        handed.tracers.items }
-    requires started { (room.started.tracees.items ≡ [])
-        × (vec_len handed.scripted ≤ vec_capacity room.started.tracees)
-        × (room.started.workers.items ≡ []) × (vec_len handed.tracers ≤ vec_capacity room.started.workers) }
-    requires back { (room.back.tracees.items ≡ []) × (vec_len handed.scripted ≤ vec_capacity room.back.tracees)
-        × (room.back.served.items ≡ []) × (vec_len handed.tracers ≤ vec_capacity room.back.served) }
-    ensures tracees { IfOk result (λ back. AllZip (λ s t. HasRun s.tracee s.machine t)
-        handed.scripted.items back.tracees.items) }
-    ensures workers { IfOk result (λ back. AllZip (λ e s.
-        HasWorked shared.now.config.now e s.tracer s.worked.pieces.items s.worked.short)
-        handed.tracers.items back.served.items) }
+    handed: RunHandles<A>,
+) -> Result<ReturnedHandles<A>, RunError>
+    requires { CanBeHanded shared.now.roster.now handed }
+    ensures back { IfOk result (AreGivenBack shared.now.config.now handed) }
     ensures kept { IfErr result (λ error. error ≢ run_error.Lost) }
 {
-    let Room {
-        mut started,
-        mut back,
-    } = room;
-    let count = handed.tracers.len() as u64;
+    let workers = handed.tracers.len();
+    let (mut started, mut back) = make_lists(shared.alloc, handed.scripted.len(), workers)?;
     let are_started = start_all(scope, rt, shared, handed, &mut started);
-    let are_ready = are_started && shared.line.await_workers(rt, count);
+    let are_ready = are_started && shared.line.await_workers(rt, workers as u64);
     shared.line.tell(are_ready);
-    let Started { tracees, workers } = started;
-    join_tracees(rt, tracees, &mut back.tracees);
-    join_workers(rt, workers, &mut back.served);
+    join_tracees(rt, started.tracees, &mut back.tracees);
+    join_workers(rt, started.workers, &mut back.workers);
     if !are_started {
         return Err(RunError::Threads);
     }
@@ -205,45 +179,21 @@ fn run_in_scope<
     A: Allocator + Copy + Send + Sync,
     R: Threads + Wait + Clock + Sync,
     G: Gate + Sync,
->(rt: &R, shared: &Shared<'_, A, G>, handed: Handed<A>, room: Room<A>) -> Result<Back<A>, RunError>
-    requires tracees { All (λ s. CanRun s.tracee s.machine) handed.scripted.items }
-    requires tracers { All (λ e. (shared.now.roster.now ≡ e.view.roster) × (held_rows e.view ≡ []))
-        handed.tracers.items }
-    requires started { (room.started.tracees.items ≡ [])
-        × (vec_len handed.scripted ≤ vec_capacity room.started.tracees)
-        × (room.started.workers.items ≡ []) × (vec_len handed.tracers ≤ vec_capacity room.started.workers) }
-    requires back { (room.back.tracees.items ≡ []) × (vec_len handed.scripted ≤ vec_capacity room.back.tracees)
-        × (room.back.served.items ≡ []) × (vec_len handed.tracers ≤ vec_capacity room.back.served) }
-    ensures tracees { IfOk result (λ back. AllZip (λ s t. HasRun s.tracee s.machine t)
-        handed.scripted.items back.tracees.items) }
-    ensures workers { IfOk result (λ back. AllZip (λ e s.
-        HasWorked shared.now.config.now e s.tracer s.worked.pieces.items s.worked.short)
-        handed.tracers.items back.served.items) }
+>(rt: &R, shared: &Shared<'_, A, G>, handed: RunHandles<A>) -> Result<ReturnedHandles<A>, RunError>
+    requires { CanBeHanded shared.now.roster.now handed }
+    ensures back { IfOk result (AreGivenBack shared.now.config.now handed) }
     ensures kept { IfErr result (λ error. error ≢ run_error.Lost) }
 {
     thread::scope(
         thread::scope_env(),
         rt,
-        move |scope| -> Result<Back<A>, RunError>
+        move |scope| -> Result<ReturnedHandles<A>, RunError>
             requires shared { IsSend A.row × IsSync A.row × IsSync R.row × IsSync G.row
                 × Frees A.Allocator A.dealloc_token }
-            requires tracees { All (λ s. CanRun s.tracee s.machine) handed.scripted.items }
-            requires tracers { All (λ e. (shared.now.roster.now ≡ e.view.roster) × (held_rows e.view ≡ []))
-                handed.tracers.items }
-            requires started { (room.started.tracees.items ≡ [])
-                × (vec_len handed.scripted ≤ vec_capacity room.started.tracees)
-                × (room.started.workers.items ≡ [])
-                × (vec_len handed.tracers ≤ vec_capacity room.started.workers) }
-            requires back { (room.back.tracees.items ≡ [])
-                × (vec_len handed.scripted ≤ vec_capacity room.back.tracees)
-                × (room.back.served.items ≡ []) × (vec_len handed.tracers ≤ vec_capacity room.back.served) }
-            ensures tracees { IfOk result (λ back. AllZip (λ s t. HasRun s.tracee s.machine t)
-                handed.scripted.items back.tracees.items) }
-            ensures workers { IfOk result (λ back. AllZip (λ e s.
-                HasWorked shared.entry.now.config.now e s.tracer s.worked.pieces.items s.worked.short)
-                handed.tracers.items back.served.items) }
+            requires handed { CanBeHanded shared.now.roster.now handed }
+            ensures back { IfOk result (AreGivenBack shared.entry.now.config.now handed) }
             ensures kept { IfErr result (λ error. error ≢ run_error.Lost) }
-        { run_threads(scope, rt, shared, handed, room) },
+        { run_threads(scope, rt, shared, handed) },
     )
 }
 
@@ -251,21 +201,21 @@ fn run_in_scope<
 /// refused memory.
 fn take_apart<A: Allocator + Copy>(
     alloc: A,
-    served: Vec<Served<A>, A>,
+    workers: Vec<TracerWithPieces<A>, A>,
     tracers: &mut Vec<Tracer<A>, A>,
 ) -> Result<Vec<Piece<A>, A>, NoMemory>
-    ensures tracers { IfOk result (λ _. tracers.new.items ≡ tracers.old.items ++ map (λ s. s.tracer) served.items) }
-    ensures pieces { IfOk result (λ p. p.items ≡ flat_map (λ s. s.worked.pieces.items) served.items) }
-    ensures whole { OnOk result (All (λ s. s.worked.short ≡ false) served.items) }
+    ensures tracers { IfOk result (λ _. tracers.new.items ≡ tracers.old.items ++ map (λ w. w.tracer) workers.items) }
+    ensures pieces { IfOk result (λ p. p.items ≡ flat_map (λ w. w.kept.pieces.items) workers.items) }
+    ensures whole { OnOk result (All (λ w. w.kept.short ≡ false) workers.items) }
 {
     let mut pieces = Vec::new(alloc);
-    for one in served {
-        let Served { tracer, worked } = one;
-        if worked.short {
+    for one in workers {
+        let TracerWithPieces { tracer, kept } = one;
+        if kept.short {
             return Err(NoMemory);
         }
         tracers.push(tracer)?;
-        let mut more = worked.pieces;
+        let mut more = kept.pieces;
         pieces.append(&mut more)?;
     }
     Ok(pieces)
@@ -316,7 +266,6 @@ pub fn run_case<
     let scripted = with_machines(alloc, case, config, ends.tracees)?;
     let mut tracers = ends.tracers;
     let mut spare = split_spare(alloc, &mut tracers, config.workers)?;
-    let room = make_room(alloc, scripted.len(), tracers.len())?;
     let line = StartingLine::new();
     let shared = Shared {
         alloc,
@@ -325,8 +274,8 @@ pub fn run_case<
         config,
         gate,
     };
-    let back = run_in_scope(rt, &shared, Handed { scripted, tracers }, room)?;
-    let pieces = take_apart(alloc, back.served, &mut spare)?;
+    let back = run_in_scope(rt, &shared, RunHandles { scripted, tracers })?;
+    let pieces = take_apart(alloc, back.workers, &mut spare)?;
     let (_tracer, text) = gather(alloc, roster, spare, back.tracees, pieces)?;
     Ok(text)
 }

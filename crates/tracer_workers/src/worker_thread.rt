@@ -30,9 +30,9 @@ use trace_record::Death;
 /// processors takes 1.4 times as long as with 4.
 const AT_ONCE: u32 = 4;
 
-/// What a worker brings back.
+/// What a worker brings back: what it has kept of the stops and deaths that it has claimed.
 #[derive(Drop)]
-pub struct Worked<A: Allocator = Global> {
+pub struct KeptPieces<A: Allocator = Global> {
     /// The pieces of the stops and deaths that it has claimed, in the order of the claims.
     pub pieces: Vec<Piece<A>, A>,
     /// Whether a growth was refused: then the pieces from there on are missing.
@@ -52,7 +52,7 @@ pub fn run_worker<A: Allocator + Copy, R: Wait + Clock, G: Gate>(
     config: &Config,
     worker: u32,
     gate: &G,
-) -> Worked<A>
+) -> KeptPieces<A>
     requires { held_rows calls.old.view ≡ [] }
     ensures handle { KeepsTable calls.old calls.new × IsSame calls.old.view calls.new.view }
     ensures free { held_rows calls.new.view ≡ [] }
@@ -61,7 +61,7 @@ pub fn run_worker<A: Allocator + Copy, R: Wait + Clock, G: Gate>(
         result.pieces.items result.short }
     ensures over { AreOverForGood calls.new.view.roster calls.new.view.seen }
 {
-    let mut worked = Worked {
+    let mut kept = KeptPieces {
         pieces: Vec::new(alloc),
         short: false,
     };
@@ -69,14 +69,14 @@ pub fn run_worker<A: Allocator + Copy, R: Wait + Clock, G: Gate>(
     let mut from = 0;
     for _ in rt.forever() {
         let Some(found) = next_found(rt, calls, worker, from) else {
-            return worked;
+            return kept;
         };
         from = found.row.saturating_add(1);
         match found.death {
-            Some(death) => worked.keep_death(calls.tid(found.row), found, death),
+            Some(death) => kept.keep_death(calls.tid(found.row), found, death),
             None => {
                 invariants::of_calls(calls);
-                worked.keep_stop(alloc, calls, found.row, config);
+                kept.keep_stop(alloc, calls, found.row, config);
                 restart(calls, found.row, config, worker, gate);
             }
         }
@@ -124,7 +124,7 @@ fn status_in(answer: Result<Option<RowStatus>, Errno>) -> Option<RowStatus>
     }
 }
 
-impl<A: Allocator> Worked<A> {
+impl<A: Allocator> KeptPieces<A> {
     /// Keeps a piece, unless a growth was refused.
     fn keep(&mut self, piece: Piece<A>)
         requires { self.old.short ≡ false }
@@ -149,7 +149,7 @@ impl<A: Allocator> Worked<A> {
     }
 }
 
-impl<A: Allocator + Copy> Worked<A> {
+impl<A: Allocator + Copy> KeptPieces<A> {
     /// Keeps the piece of a stop that is claimed.
     fn keep_stop<B: Allocator>(&mut self, alloc: A, calls: &Calls<B>, row: u32, config: &Config)
         requires { HasClaimedRow calls.now row }

@@ -24,7 +24,7 @@ use stop_history::Roster;
 use stop_table::{Ends, Tracee, Tracer, open};
 use trace_options::check;
 use trace_script::Case;
-use tracer_workers::{RunError, Worked, gather};
+use tracer_workers::{KeptPieces, RunError, gather};
 
 /// The root stops when it starts, at the two ends of write(2), at the entry to fork(2), at the fork, at the exit from
 /// fork(2), and when it calls exit(2). Its child stops when it starts and when it calls exit(2).
@@ -50,7 +50,7 @@ struct Back<A: Allocator> {
     root: Tracee<A>,
     child: Tracee<A>,
     tracer: Tracer<A>,
-    worked: Worked<A>,
+    worked: KeptPieces<A>,
 }
 
 /// The tracees of a case of two rows, and a tracer; None where a growth is refused.
@@ -136,7 +136,7 @@ fn run_family<A: Allocator + Copy + Send + Sync, R: Threads + Wait + Clock + Syn
             ensures child { (id : _) (rows : List Row) → IsFreeTracee id rows child.tracee →
                 IsFreeTracee id rows result.1 }
         { run_both(rt, word, root, child) },
-        move || -> Option<(Tracer<A>, Worked<A>)>
+        move || -> Option<(Tracer<A>, KeptPieces<A>)>
             requires { (roster.now ≡ tracer.view.roster) × (held_rows tracer.view ≡ []) }
             ensures { (id : _) (rows : List Row) → IsFreeTracer id rows tracer →
                 IfSome result (λ s. IsFreeTracer id rows s.0) }
@@ -214,7 +214,7 @@ enum Refused {
 /// Whether a worker that has come to its end was refused a growth. Its fault where it has not served each stop, or
 /// where what it says of its pieces is not so.
 fn refused_serving<A: Allocator>(
-    worked: &Worked<A>,
+    worked: &KeptPieces<A>,
     stops: u32,
     has_refused: bool,
 ) -> Result<Refused, &'static str> {

@@ -18,7 +18,7 @@ use std::time::Clock;
 use stop_history::Roster;
 use stop_table::{Tracee, Tracer};
 use trace_calls::Calls;
-use tracer_workers::{Worked, run_tracee, run_worker};
+use tracer_workers::{KeptPieces, run_tracee, run_worker};
 
 /// What the worker says to the tracees: nothing yet.
 const WAIT: u32 = 0;
@@ -91,7 +91,7 @@ pub(crate) fn serve<A: Allocator + Copy, R: Wait + Clock>(
     tracer: Tracer<A>,
     roster: &Roster<A>,
     gate: &Counting,
-) -> Option<(Tracer<A>, Worked<A>)>
+) -> Option<(Tracer<A>, KeptPieces<A>)>
     requires { (roster.now ≡ tracer.view.roster) × (held_rows tracer.view ≡ []) }
     ensures { (id : _) (rows : List Row) → IsFreeTracer id rows tracer →
         IfSome result (λ s. IsFreeTracer id rows s.0) }

@@ -18,7 +18,7 @@ use std::thread::Threads;
 use std::time::Clock;
 use stop_table::{Tracee, Tracer};
 use trace_script::Case;
-use tracer_workers::Worked;
+use tracer_workers::KeptPieces;
 
 /// A root that makes one call and exits.
 const ROOT: &str = "tracee 100 100 77 0\ncall getpid = 100\nexit 0\nend\n";
@@ -57,7 +57,7 @@ fn outcome_of<A: Allocator + Copy + Send + Sync, R: Threads + Wait + Clock + Syn
         move || -> Tracee<A>
             requires { CanRun scripted.tracee scripted.machine }
         { run_when_told(rt, word, scripted) },
-        move || -> Option<(Tracer<A>, Worked<A>)>
+        move || -> Option<(Tracer<A>, KeptPieces<A>)>
             requires { (roster.now ≡ tracer.view.roster) × (held_rows tracer.view ≡ []) }
         { serve(rt, alloc, word, tracer, roster, gate) },
     );

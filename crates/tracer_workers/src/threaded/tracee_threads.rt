@@ -1,9 +1,9 @@
 //! The threads of the tracees.
 
-ghost use Rattle.std.specs.Prelude.{◌≡◌, ◌≤◌, [], All, IfSome, length, true};
+ghost use Rattle.std.specs.Prelude.{◌≡◌, ◌≤◌, All, IfSome, length, true};
 ghost use Rattle.std.specs.List.{AllZip};
-ghost use Rattle.std.specs.Vec.{vec_capacity, vec_len};
-ghost use Rattle.tracer_workers.specs.Threaded.{CanRun, HasRun};
+ghost use Rattle.std.specs.Vec.{vec_len};
+ghost use Rattle.tracer_workers.specs.Threaded.{CanRun, HasRoomFor, HasRun};
 
 use crate::threaded::starting_line::StartingLine;
 use crate::tracee_thread::run_tracee;
@@ -91,7 +91,7 @@ pub(crate) fn start_tracees<
     all: Vec<Scripted<A>, A>,
     threads: &mut Vec<TraceeThread<A>, A>,
 ) -> bool
-    requires room { (threads.old.items ≡ []) × (vec_len all ≤ vec_capacity threads.old) }
+    requires room { HasRoomFor (vec_len all) threads.old }
     requires ready { All (λ s. CanRun s.tracee s.machine) all.items }
     ensures few { vec_len threads.new ≤ vec_len all }
     ensures all { result ≡ true → AllZip (λ s h. (h.promise.tracee.value ≡ s.tracee)
@@ -112,7 +112,7 @@ pub(crate) fn join_tracees<A: Allocator, R: Threads>(
     threads: Vec<TraceeThread<A>, A>,
     tracees: &mut Vec<Tracee<A>, A>,
 )
-    requires { (tracees.old.items ≡ []) × (vec_len threads ≤ vec_capacity tracees.old) }
+    requires { HasRoomFor (vec_len threads) tracees.old }
     ensures { AllZip (λ h t. HasRun h.promise.tracee.value h.promise.machine.value t) threads.items tracees.new.items }
 {
     for thread in threads {

@@ -2,14 +2,14 @@
 
 ghost use Rattle.std.specs.Prelude.{◌≡◌, ◌≤◌, [], All, IfSome, length, true};
 ghost use Rattle.std.specs.List.{AllZip};
-ghost use Rattle.std.specs.Vec.{vec_capacity, vec_len};
+ghost use Rattle.std.specs.Vec.{vec_len};
 ghost use Rattle.stop_table.specs.Tracer.{held_rows};
-ghost use Rattle.tracer_workers.specs.Threaded.{HasWorked};
+ghost use Rattle.tracer_workers.specs.Threaded.{CanWork, HasRoomFor, HasWorked};
 
 use crate::config::Config;
 use crate::gate::Gate;
 use crate::threaded::shared::Shared;
-use crate::worker_thread::{Worked, run_worker};
+use crate::worker_thread::{KeptPieces, run_worker};
 use std::alloc::Allocator;
 use std::snapshot::Snapshot;
 use std::sync::Wait;
@@ -20,36 +20,36 @@ use trace_calls::Calls;
 
 /// What a worker's thread gives back: its tracer, and what the worker has kept.
 #[derive(Drop)]
-pub(crate) struct Served<A: Allocator> {
+pub(crate) struct TracerWithPieces<A: Allocator> {
     pub(crate) tracer: Tracer<A>,
-    pub(crate) worked: Worked<A>,
+    pub(crate) kept: KeptPieces<A>,
 }
 
 /// What the thread of a worker promises.
 #[derive(Drop)]
-pub(crate) struct Serves<A: Allocator> {
+pub(crate) struct RunsWorker<A: Allocator> {
     tracer: Snapshot<Tracer<A>>,
     config: Config,
 }
 
-impl<A: Allocator> Promise<Served<A>> for Serves<A> {
+impl<A: Allocator> Promise<TracerWithPieces<A>> for RunsWorker<A> {
     ghost kept_by = { λ p s.
-        HasWorked p.config p.tracer.value s.tracer s.worked.pieces.items s.worked.short };
+        HasWorked p.config p.tracer.value s.tracer s.kept.pieces.items s.kept.short };
 }
 
 /// The thread of a worker that was started.
-pub(crate) type WorkerThread<A> = PromisedHandle<Served<A>, Serves<A>>;
+pub(crate) type WorkerThread<A> = PromisedHandle<TracerWithPieces<A>, RunsWorker<A>>;
 
 /// What a worker gives back that has not worked, since it was refused memory or told to leave. It counts as short: it has
 /// kept no piece.
-fn idle<A: Allocator + Copy>(alloc: A, tracer: Tracer<A>) -> Served<A>
-    ensures { (result.tracer ≡ tracer) × (result.worked.pieces.items ≡ []) × (result.worked.short ≡ true) }
+fn idle<A: Allocator + Copy>(alloc: A, tracer: Tracer<A>) -> TracerWithPieces<A>
+    ensures { (result.tracer ≡ tracer) × (result.kept.pieces.items ≡ []) × (result.kept.short ≡ true) }
 {
-    let worked = Worked {
+    let kept = KeptPieces {
         pieces: Vec::new(alloc),
         short: true,
     };
-    Served { tracer, worked }
+    TracerWithPieces { tracer, kept }
 }
 
 /// The tracer of calls that hold no claim.
@@ -68,10 +68,9 @@ fn work_when_told<A: Allocator + Copy, R: Wait + Clock, G: Gate>(
     rt: &R,
     shared: &Shared<'_, A, G>,
     tracer: Tracer<A>,
-) -> Served<A>
-    requires roster { shared.now.roster.now ≡ tracer.view.roster }
-    requires idle { held_rows tracer.view ≡ [] }
-    ensures { HasWorked shared.now.config.now tracer result.tracer result.worked.pieces.items result.worked.short }
+) -> TracerWithPieces<A>
+    requires { CanWork shared.now.roster.now tracer }
+    ensures { HasWorked shared.now.config.now tracer result.tracer result.kept.pieces.items result.kept.short }
 {
     let alloc = shared.alloc;
     let worker = tracer.number();
@@ -86,10 +85,10 @@ fn work_when_told<A: Allocator + Copy, R: Wait + Clock, G: Gate>(
     if !shared.line.wait_for_go(rt) {
         return idle(alloc, spend(calls));
     }
-    let worked = run_worker(rt, alloc, &mut calls, shared.config, worker, shared.gate);
-    Served {
+    let kept = run_worker(rt, alloc, &mut calls, shared.config, worker, shared.gate);
+    TracerWithPieces {
         tracer: spend(calls),
-        worked,
+        kept,
     }
 }
 
@@ -106,19 +105,17 @@ fn start_worker<
     shared: &'e Shared<'e, A, G>,
     tracer: Tracer<A>,
 ) -> Option<WorkerThread<A>>
-    requires roster { shared.now.roster.now ≡ tracer.view.roster }
-    requires idle { held_rows tracer.view ≡ [] }
+    requires { CanWork shared.now.roster.now tracer }
     ensures { IfSome result (λ h. (h.promise.tracer.value ≡ tracer) × (h.promise.config ≡ shared.now.config.now)) }
 {
-    let promise = Serves {
+    let promise = RunsWorker {
         tracer: Snapshot::of(&tracer),
         config: *shared.config,
     };
-    let work = move || -> Served<A>
-        requires roster { shared.now.roster.now ≡ tracer.view.roster }
-        requires idle { held_rows tracer.view ≡ [] }
-        ensures { HasWorked shared.entry.now.config.now tracer result.tracer result.worked.pieces.items
-            result.worked.short }
+    let work = move || -> TracerWithPieces<A>
+        requires { CanWork shared.now.roster.now tracer }
+        ensures { HasWorked shared.entry.now.config.now tracer result.tracer result.kept.pieces.items
+            result.kept.short }
     { work_when_told(rt, shared, tracer) };
     scope.spawn_with(promise, work).ok()
 }
@@ -137,8 +134,8 @@ pub(crate) fn start_workers<
     tracers: Vec<Tracer<A>, A>,
     threads: &mut Vec<WorkerThread<A>, A>,
 ) -> bool
-    requires room { (threads.old.items ≡ []) × (vec_len tracers ≤ vec_capacity threads.old) }
-    requires ready { All (λ e. (shared.now.roster.now ≡ e.view.roster) × (held_rows e.view ≡ [])) tracers.items }
+    requires room { HasRoomFor (vec_len tracers) threads.old }
+    requires ready { All (CanWork shared.now.roster.now) tracers.items }
     ensures few { vec_len threads.new ≤ vec_len tracers }
     ensures all { result ≡ true → AllZip (λ e h. (h.promise.tracer.value ≡ e)
         × (h.promise.config ≡ shared.now.config.now)) tracers.items threads.new.items }
@@ -156,13 +153,13 @@ pub(crate) fn start_workers<
 pub(crate) fn join_workers<A: Allocator, R: Threads>(
     rt: &R,
     threads: Vec<WorkerThread<A>, A>,
-    served: &mut Vec<Served<A>, A>,
+    workers: &mut Vec<TracerWithPieces<A>, A>,
 )
-    requires { (served.old.items ≡ []) × (vec_len threads ≤ vec_capacity served.old) }
-    ensures { AllZip (λ h s. HasWorked h.promise.config h.promise.tracer.value s.tracer s.worked.pieces.items s.worked.short)
-        threads.items served.new.items }
+    requires { HasRoomFor (vec_len threads) workers.old }
+    ensures { AllZip (λ h s. HasWorked h.promise.config h.promise.tracer.value s.tracer s.kept.pieces.items s.kept.short)
+        threads.items workers.new.items }
 {
     for thread in threads {
-        served.push_reserved(thread.join(rt));
+        workers.push_reserved(thread.join(rt));
     }
 }

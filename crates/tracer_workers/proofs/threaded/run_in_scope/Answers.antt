@@ -14,22 +14,13 @@ scoped-requires g c =
           types.frees-A-Allocator,
         ),
         (
-          c.requires.tracees,
+          c.requires,
           (
-            c.requires.tracers,
-            (
-              c.requires.started,
-              (
-                c.requires.back,
-                (
-                  types.send-A,
-                  types.sync-A,
-                  record { shared = types.sync-R.shared },
-                  record { shared = types.sync-G.shared },
-                  types.frees-A-Allocator,
-                ),
-              ),
-            ),
+            types.send-A,
+            types.sync-A,
+            record { shared = types.sync-R.shared },
+            record { shared = types.sync-G.shared },
+            types.frees-A-Allocator,
           ),
         ),
       );

@@ -5,7 +5,7 @@ use Rattle.tracer_workers.proofs.threaded.take_apart.Given as goal
 
 abbrev pub invariant-loop-one : goal.invariant-loop-one
 invariant-loop-one g l = record {
-  tracers : l.tracers.items ≡ l.fn.tracers.items ++ map (λ s. s.tracer) l.yielded;
-  whole : All (λ s. s.worked.short ≡ false) l.yielded;
-  pieces : l.pieces.items ≡ flat_map (λ s. s.worked.pieces.items) l.yielded;
+  tracers : l.tracers.items ≡ l.fn.tracers.items ++ map (λ w. w.tracer) l.yielded;
+  whole : All (λ w. w.kept.short ≡ false) l.yielded;
+  pieces : l.pieces.items ≡ flat_map (λ w. w.kept.pieces.items) l.yielded;
 }

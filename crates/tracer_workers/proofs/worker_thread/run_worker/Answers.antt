@@ -24,7 +24,7 @@ returns-in_default-clause-free g c =
     let last = no_child c.loop.calls c.next_found.new.calls (none_found c.loop.calls c.next_found.new.calls c.next_found.result
     c.in_default.not-Some c.next_found.ensures.answer) in
     (served_look c.args.config.now c.args.calls.now.view c.loop.calls.view c.next_found.new.calls.view
-    c.loop.worked.pieces.items c.loop.worked.short i.2.mine last.0 i.4).free
+    c.loop.kept.pieces.items c.loop.kept.short i.2.mine last.0 i.4).free
 
 pub returns-in_default-clause-restarts : goal.returns-in_default-clause-restarts
 returns-in_default-clause-restarts g c =
@@ -32,7 +32,7 @@ returns-in_default-clause-restarts g c =
     let last = no_child c.loop.calls c.next_found.new.calls (none_found c.loop.calls c.next_found.new.calls c.next_found.result
     c.in_default.not-Some c.next_found.ensures.answer) in
     (served_look c.args.config.now c.args.calls.now.view c.loop.calls.view c.next_found.new.calls.view
-    c.loop.worked.pieces.items c.loop.worked.short i.2.mine last.0 i.4).restarts
+    c.loop.kept.pieces.items c.loop.kept.short i.2.mine last.0 i.4).restarts
 
 pub returns-in_default-clause-pieces : goal.returns-in_default-clause-pieces
 returns-in_default-clause-pieces g c =
@@ -40,7 +40,7 @@ returns-in_default-clause-pieces g c =
     let last = no_child c.loop.calls c.next_found.new.calls (none_found c.loop.calls c.next_found.new.calls c.next_found.result
     c.in_default.not-Some c.next_found.ensures.answer) in
     (served_look c.args.config.now c.args.calls.now.view c.loop.calls.view c.next_found.new.calls.view
-    c.loop.worked.pieces.items c.loop.worked.short i.2.mine last.0 i.4).pieces
+    c.loop.kept.pieces.items c.loop.kept.short i.2.mine last.0 i.4).pieces
 
 pub returns-in_default-clause-over : goal.returns-in_default-clause-over
 returns-in_default-clause-over g c =
@@ -65,7 +65,7 @@ loop-preserved-in-Some-death g c =
       tracer_on c.loop.calls b i.2 some.claimed.1.same some.claimed.1.legal,
       c.next_found.ensures.table ∙ i.3,
       served_death v b c.in-Some-next_found.found i.2.mine i.4.free some c.args.config.now u
-          c.loop.worked.pieces.items c.keep_death.new.self.pieces.items c.loop.worked.short c.keep_death.new.self.short i.4
+          c.loop.kept.pieces.items c.keep_death.new.self.pieces.items c.loop.kept.short c.keep_death.new.self.short i.4
           c.tid.result c.tid.ensures c.in-Some-death.death c.in-Some-death.is kept,
     )
 
@@ -111,6 +111,6 @@ loop-preserved g c =
           made.2.legal,
       c.restart.ensures.table ∙ c.next_found.ensures.table ∙ i.3,
       served_stop v b c.in-Some-next_found.found i.2.mine i.4.free some c.args.config.now u
-          c.loop.worked.pieces.items c.keep_stop.new.self.pieces.items c.loop.worked.short c.keep_stop.new.self.short i.4
+          c.loop.kept.pieces.items c.keep_stop.new.self.pieces.items c.loop.kept.short c.keep_stop.new.self.short i.4
           c.in-None-death.is stands c.restart.new.calls.view made kept,
     )

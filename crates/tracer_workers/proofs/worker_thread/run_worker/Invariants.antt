@@ -8,4 +8,4 @@ abbrev pub invariant-loop : goal.invariant-loop
 invariant-loop g l =
     (goal.iterator-loop g).can_next l.iterator' × (goal.iterator-loop g).is_finite l.iterator'
     × IsTracerHandle (tracer_of l.calls) × KeepsTable l.fn.calls l.calls
-    × HasServed l.fn.config l.fn.calls.view l.calls.view l.worked.pieces.items l.worked.short
+    × HasServed l.fn.config l.fn.calls.view l.calls.view l.kept.pieces.items l.kept.short

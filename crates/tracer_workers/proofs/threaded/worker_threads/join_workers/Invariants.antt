@@ -7,6 +7,7 @@ use Rattle.tracer_workers.proofs.threaded.worker_threads.join_workers.Given as g
 
 abbrev pub invariant-loop-thread : goal.invariant-loop-thread
 invariant-loop-thread g l = record {
-  zip : AllZip (λ h s. HasWorked h.promise.config h.promise.tracer.value s.tracer s.worked.pieces.items s.worked.short) l.yielded l.served.items;
-  room : vec_capacity l.served ≡ vec_capacity l.fn.served;
+  zip : AllZip (λ h w. HasWorked h.promise.config h.promise.tracer.value w.tracer w.kept.pieces.items w.kept.short)
+      l.yielded l.workers.items;
+  room : vec_capacity l.workers ≡ vec_capacity l.fn.workers;
 }

@@ -1,32 +1,22 @@
 -- Each tracer in turn gets its thread, unless one cannot be started.
-use Rattle.std.proofs.Common.{refl, ◌≡◌, ◌∙◌, length, [], sym, ap, arith}
+use Rattle.std.proofs.Common.{refl, ◌∙◌, length, sym, ap, arith}
 use Rattle.std.proofs.lemmas.Iterator.Adapters.{YieldsList-from_vec}
 use Rattle.std.proofs.lemmas.Iterator.Consumers.{YieldsList-end, YieldsList-turn}
 use Rattle.std.proofs.lemmas.List.{map-id}
-use Rattle.stop_table.specs.Tracer.{held_rows}
+use Rattle.tracer_workers.specs.Threaded.{CanWork}
 use Rattle.tracer_workers.proofs.Yielded.{next_holds}
 use Rattle.tracer_workers.proofs.Zips.{zip_length, zip_push, zip_same}
 use Rattle.tracer_workers.proofs.threaded.worker_threads.start_workers.Goals as goal
 
-pub start_worker-requires-clause-roster : goal.start_worker-requires-clause-roster
-start_worker-requires-clause-roster g c κs within =
+pub start_worker-requires-after_bounds : goal.start_worker-requires-after_bounds
+start_worker-requires-after_bounds g c κs within =
     let begun = c.into_iter-tracer-iterator.ensures.into_iter_gives in
     let turn = YieldsList-turn
     (YieldsList-from_vec {s = c.into_iter-tracer-iterator.result} c.args.tracers.items begun.0 (begun.1 ∙ c.args.tracers.ok.0))
     c.loop-tracer.yielded c.loop-tracer.tracer-iterator c.loop-tracer.yielded_by c.next.result c.next.new.self
     c.in-Some.tracer c.in-Some.is c.next.ensures.steps in
-    (next_holds (λ e. (c.args.shared.now.roster.now ≡ e.view.roster) × (held_rows e.view ≡ [])) c.args.tracers.items (length c.loop-tracer.yielded) c.in-Some.tracer
-    c.requires.ready turn).0
-
-pub start_worker-requires-clause-idle : goal.start_worker-requires-clause-idle
-start_worker-requires-clause-idle g c κs within =
-    let begun = c.into_iter-tracer-iterator.ensures.into_iter_gives in
-    let turn = YieldsList-turn
-    (YieldsList-from_vec {s = c.into_iter-tracer-iterator.result} c.args.tracers.items begun.0 (begun.1 ∙ c.args.tracers.ok.0))
-    c.loop-tracer.yielded c.loop-tracer.tracer-iterator c.loop-tracer.yielded_by c.next.result c.next.new.self
-    c.in-Some.tracer c.in-Some.is c.next.ensures.steps in
-    (next_holds (λ e. (c.args.shared.now.roster.now ≡ e.view.roster) × (held_rows e.view ≡ [])) c.args.tracers.items (length c.loop-tracer.yielded) c.in-Some.tracer
-    c.requires.ready turn).1
+    next_holds (CanWork c.args.shared.now.roster.now) c.args.tracers.items (length c.loop-tracer.yielded) c.in-Some.tracer
+    c.requires.ready turn
 
 pub push_reserved-requires : goal.push_reserved-requires
 push_reserved-requires g c =

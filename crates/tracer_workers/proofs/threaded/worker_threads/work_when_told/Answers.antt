@@ -6,21 +6,21 @@ use Rattle.tracer_workers.proofs.threaded.worker_threads.work_when_told.Goals as
 pub returns-in-Err : goal.returns-in-Err
 returns-in-Err g c =
     let is = c.idle.ensures.0 ∙ c.in-Err.ensures in
-    idle_worked c.args.shared.now.config.now c.args.tracer c.idle.result.tracer c.idle.result.worked.pieces.items
-    c.idle.result.worked.short (ap (λ e. e.table_id) is) (ap (λ e. e.view) is) c.requires.idle c.idle.ensures.1
+    idle_worked c.args.shared.now.config.now c.args.tracer c.idle.result.tracer c.idle.result.kept.pieces.items
+    c.idle.result.kept.short (ap (λ e. e.table_id) is) (ap (λ e. e.view) is) c.requires.1 c.idle.ensures.1
     c.idle.ensures.2
 
 pub returns-then-not-wait_for_go : goal.returns-then-not-wait_for_go
 returns-then-not-wait_for_go g c =
     let left = c.idle-then-not-wait_for_go in
-    idle_worked c.args.shared.now.config.now c.args.tracer left.result.tracer left.result.worked.pieces.items left.result.worked.short
+    idle_worked c.args.shared.now.config.now c.args.tracer left.result.tracer left.result.kept.pieces.items left.result.kept.short
     (ap (λ e. e.table_id) left.ensures.0 ∙ c.spend.ensures.0 ∙ ap (λ a. a.table_id) c.in-Ok.ensures)
-    (ap (λ e. e.view) left.ensures.0 ∙ c.spend.ensures.1 ∙ ap (λ a. a.view) c.in-Ok.ensures) c.requires.idle left.ensures.1
+    (ap (λ e. e.view) left.ensures.0 ∙ c.spend.ensures.1 ∙ ap (λ a. a.view) c.in-Ok.ensures) c.requires.1 left.ensures.1
     left.ensures.2
 
 pub returns : goal.returns
 returns g c =
-    let run = c.run_worker-worked in
+    let run = c.run_worker-kept in
     done_worked c.args.shared.now.config.now c.args.tracer c.spend-2.result c.in-Ok.calls.view run.new.calls.view
     run.result.pieces.items run.result.short
     (c.spend-2.ensures.0 ∙ run.ensures.handle.0 ∙ ap (λ a. a.table_id) c.in-Ok.ensures)

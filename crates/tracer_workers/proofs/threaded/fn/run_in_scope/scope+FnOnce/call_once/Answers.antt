@@ -8,6 +8,6 @@ scope-requires g c =
       shared.0,
       (
         shared.1,
-        (shared.2, (shared.3, (shared.4, (shared, (all.1.0, (all.1.1.0, (all.1.1.1.0, all.1.1.1.1.0))))))),
+        (shared.2, (shared.3, (shared.4, (shared, all.1.0)))),
       ),
     )

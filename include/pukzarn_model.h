@@ -95,7 +95,8 @@ void pukzarn_sim_case(pukzarn_sim *sim, const char *text);
 void pukzarn_sim_tracer(pukzarn_sim *sim, const char *name, void (*body)(void *), void *arg);
 
 /* The options (PTRACE_O_*) that every tracee has from its first stop on, until a tracer sets others. Without this they
- * are PTRACE_O_TRACESYSGOOD, PTRACE_O_TRACEFORK, PTRACE_O_TRACECLONE and PTRACE_O_TRACEEXEC. */
+ * are PTRACE_O_TRACESYSGOOD, PTRACE_O_TRACEFORK, PTRACE_O_TRACECLONE and PTRACE_O_TRACEEXEC. Options of either kind
+ * need TRACESYSGOOD, and TRACEFORK and TRACECLONE together, from before the first child on. */
 void pukzarn_sim_options(pukzarn_sim *sim, unsigned options);
 
 /* The first stop of each tracee. */

@@ -3,6 +3,8 @@ MODEL_LIBRARY ?= lib/libpukzarn_model.a
 # What a tracer is linked with: the archive needs the real functions, and so each of these.
 MODEL_CALLS = waitpid wait wait3 wait4 waitid ptrace kill tgkill process_vm_readv process_vm_writev syscall \
 	pthread_create fork sleep usleep nanosleep clock_nanosleep sched_yield exit _exit abort __assert_fail
+# What the archive needs of the C library: before glibc 2.34 threads and dlsym(3) are libraries of their own.
+MODEL_NEEDS = -lpthread -ldl
 MODEL_WRAPS = $(dir $(MODEL_LIBRARY))pukzarn_model.wraps
 MODEL_EXPORTS = $(MODEL_CALLS:%=__wrap_%) \
 	$(shell sed -n 's/^[a-zA-Z].*\(pukzarn_[a-z_]*\)(.*);$$/\1/p' include/pukzarn_model.h | grep -v '^pukzarn_test$$')
@@ -18,7 +20,7 @@ c-model: $(LIBRARY)
 	  $(CARGO_TARGET_DIR)/release/libpukzarn_model.a
 	@objcopy --strip-debug $(MODEL_EXPORTS:%=--keep-global-symbol=%) \
 	  $(foreach call,$(MODEL_CALLS),--redefine-sym $(call)=__real_$(call)) $(MODEL_LIBRARY:.a=.o)
-	@printf -- '-Wl,--wrap=%s\n' $(MODEL_CALLS) > $(MODEL_WRAPS)
+	@printf -- '%s\n' $(MODEL_CALLS:%=-Wl,--wrap=%) $(MODEL_NEEDS) > $(MODEL_WRAPS)
 	@ar rcs $(MODEL_LIBRARY) $(MODEL_LIBRARY:.a=.o) && rm $(MODEL_LIBRARY:.a=.o)
 
 # Each program as C99, with the sanitizers, and with what gcc leaves out where it may.
@@ -38,7 +40,7 @@ install-c-model: $(MODEL_LIBRARY)
 	@install -d $(DESTDIR)$(PREFIX)/include $(DESTDIR)$(PREFIX)/lib/pkgconfig
 	@install -m 644 include/pukzarn.h include/pukzarn_model.h $(DESTDIR)$(PREFIX)/include
 	@install -m 644 $(MODEL_LIBRARY) $(DESTDIR)$(PREFIX)/lib/libpukzarn_model.a
-	@sed 's|@PREFIX@|$(PREFIX)|; s|@VERSION@|$(VERSION)|; s|@WRAPS@|$(MODEL_CALLS:%=-Wl,--wrap=%)|' \
+	@sed 's|@PREFIX@|$(PREFIX)|; s|@VERSION@|$(VERSION)|; s|@WRAPS@|$(MODEL_CALLS:%=-Wl,--wrap=%) $(MODEL_NEEDS)|' \
 	  tools/pukzarn_model.pc.in > $(DESTDIR)$(PREFIX)/lib/pkgconfig/pukzarn_model.pc
 	@chmod 644 $(DESTDIR)$(PREFIX)/lib/pkgconfig/pukzarn_model.pc
 

@@ -135,8 +135,7 @@ def program_files(must_be_static):
 def built_files():
     """The libraries for C, and what a C compiler needs beside them."""
     model, wraps = needed("MODEL_LIBRARY"), given("MODEL_LIBRARY").with_name("pukzarn_model.wraps").read_text()
-    # In the GNU C library before 2.34 threads and dlsym are libraries of their own.
-    flags = f"{' '.join(wraps.split())} -lpthread -ldl"
+    flags = " ".join(wraps.split())
     return {
         "lib/libpukzarn.a": needed("LIBRARY"),
         "lib/libpukzarn_model.a": model,

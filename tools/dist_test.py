@@ -110,6 +110,7 @@ def in_c(place):
     for source, name in {"c/small_tracer": "pukzarn", "c_model/early_child": "pukzarn_model"}.items():
         made = pathlib.Path(source).name
         place.answer(f"cc -Wall -Werror -o ../{made} tests/{source}.c {FLAGS.replace('NAME', name)}")
+    place.answer("cc -o ../by_file tests/c_model/early_child.c -Iinclude lib/libpukzarn_model.a @lib/pukzarn_model.wraps")
     equal([place.answer("../small_tracer")], texts(place.folder / "docs/C.md"), "small_tracer.c")
     printed = re.split(r"(?m)^pukzarn: mended", place.answer("cd .. && ./early_child 2>&1"))[0]
     equal([printed], texts(place.folder / "docs/C_MODEL.md"), "early_child.c")

@@ -358,7 +358,7 @@ pub(crate) fn machine_options(options: u32) -> u32 {
 pub(crate) fn options_refused(options: u32, errno: Errno) -> String {
     format!(
         "pukzarn: options {options:#x} of a scripted tracee are not simulated ({errno}): they need TRACESYSGOOD, and \
-         TRACEFORK and TRACECLONE together, from before its first child on; a tracee that a closure plays takes any"
+         TRACEFORK and TRACECLONE together, from before its first child on; a tracee of a closure (in Rust) takes any"
     )
 }
 

@@ -31,6 +31,11 @@ ASTRAY = re.compile("PUKZARN|PKG_CONFIG|MAKE|CARGO_TARGET|LIBRARY|MODEL_LIBRARY|
 # What a page may link to and is not packed: the sources, and what is for those who change them.
 ELSEWHERE = re.compile(r"(crates|tools|bench|tests/cases)(/|$)|(CONTRIBUTING\.md|Makefile|tests/README\.md)$")
 FLAGS = "$(PKG_CONFIG_PATH=lib/pkgconfig pkg-config --cflags --libs NAME)"
+# Each program with the name that pkg-config has for its library, and with what the pages have it linked with by hand.
+PROGRAMS_IN_C = [
+    ("c/small_tracer", "pukzarn", "-Iinclude lib/libpukzarn.a"),
+    ("c_model/early_child", "pukzarn_model", "-Iinclude lib/libpukzarn_model.a @lib/pukzarn_model.wraps"),
+]
 
 
 class Failed(Exception):
@@ -107,10 +112,10 @@ def texts(page):
 
 
 def in_c(place):
-    for source, name in {"c/small_tracer": "pukzarn", "c_model/early_child": "pukzarn_model"}.items():
-        made = pathlib.Path(source).name
-        place.answer(f"cc -Wall -Werror -o ../{made} tests/{source}.c {FLAGS.replace('NAME', name)}")
-    place.answer("cc -o ../by_file tests/c_model/early_child.c -Iinclude lib/libpukzarn_model.a @lib/pukzarn_model.wraps")
+    has_pkg_config = place.run("command -v pkg-config").returncode == 0
+    for source, name, by_hand in PROGRAMS_IN_C:
+        for flags in [FLAGS.replace("NAME", name), by_hand][0 if has_pkg_config else 1:]:
+            place.answer(f"cc -Wall -Werror -o ../{pathlib.Path(source).name} tests/{source}.c {flags}")
     equal([place.answer("../small_tracer")], texts(place.folder / "docs/C.md"), "small_tracer.c")
     printed = re.split(r"(?m)^pukzarn: mended", place.answer("cd .. && ./early_child 2>&1"))[0]
     equal([printed], texts(place.folder / "docs/C_MODEL.md"), "early_child.c")

@@ -165,9 +165,15 @@ fn bare_command(keyword: CommandKeyword, words: Words<'_>) -> Result<LitmusComma
     ensures range { IfOk result IsLitmusCommand }
 {
     match keyword {
-        CommandKeyword::Publish => as_in_replay(keyword, replay_rest_of(ReplayKeyword::Publish, words)?),
+        CommandKeyword::Publish => as_in_replay(
+            keyword,
+            replay_rest_of(ReplayKeyword::Publish, words)?,
+        ),
         CommandKeyword::Exit => as_in_replay(keyword, replay_rest_of(ReplayKeyword::Exit, words)?),
-        CommandKeyword::State => as_in_replay(keyword, replay_rest_of(ReplayKeyword::State, words)?),
+        CommandKeyword::State => as_in_replay(
+            keyword,
+            replay_rest_of(ReplayKeyword::State, words)?,
+        ),
         CommandKeyword::Claim => claim_of(keyword, words),
         CommandKeyword::Wait => claim_of(keyword, words),
         CommandKeyword::Look => claim_of(keyword, words),

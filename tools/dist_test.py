@@ -114,7 +114,8 @@ def texts(page):
 def in_c(place):
     has_pkg_config = place.run("command -v pkg-config").returncode == 0
     for source, name, by_hand in PROGRAMS_IN_C:
-        for flags in [FLAGS.replace("NAME", name), by_hand][0 if has_pkg_config else 1:]:
+        ways = [by_hand, FLAGS.replace("NAME", name)] if has_pkg_config else [by_hand]
+        for flags in ways:
             place.answer(f"cc -Wall -Werror -o ../{pathlib.Path(source).name} tests/{source}.c {flags}")
     equal([place.answer("../small_tracer")], texts(place.folder / "docs/C.md"), "small_tracer.c")
     printed = re.split(r"(?m)^pukzarn: mended", place.answer("cd .. && ./early_child 2>&1"))[0]

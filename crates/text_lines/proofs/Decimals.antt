@@ -61,7 +61,7 @@ decimal_read n small =
     ∙ ap within_u64 (numeral_read (decimal n) known.0 ∙ ap Some known.1)
     ∙ ap (λ b. cond b (Some n) None) (lt-ltb n (2 ^ 64) small)
 
--- so it is no word that is no number
+-- a decimal differs from any word that cannot be read as a number
 pub is_no_word : (n : ℕ) (word : List ℕ) → n < 2 ^ 64 → number_of word ≡ None → bytes_eq (decimal n) word ≡ false
 is_no_word n word small none =
     elim (cases_Bool (bytes_eq (decimal n) word)) [

@@ -20,10 +20,10 @@ use Rattle.stop_history.proofs.Rosters.{row_of-tid, tid_in_range}
 use Rattle.stop_history.specs.declared.limits.TheConstants.{LAST_ID, TRACERS}
 use Rattle.stop_history.specs.declared.roster.Row.{Row}
 use Rattle.stop_history.specs.Roster.{IsRoster, is_id, row_at}
-use Rattle.stop_explorer.specs.declared.board_call.BoardCall.{BoardCall}
-use Rattle.stop_explorer.specs.declared.board_call.BoardCall.TheVariants as call
-use Rattle.stop_explorer.specs.declared.command.Which.{Which}
-use Rattle.stop_explorer.specs.declared.command.Which.TheVariants as which
+use Rattle.stop_program.specs.declared.board_call.BoardCall.{BoardCall}
+use Rattle.stop_program.specs.declared.board_call.BoardCall.TheVariants as call
+use Rattle.stop_program.specs.declared.command.Which.{Which}
+use Rattle.stop_program.specs.declared.command.Which.TheVariants as which
 use Rattle.text_lines.proofs.Cuts.{first_nowhere}
 use Rattle.text_lines.proofs.Decimals.{decimal_between, is_no_word}
 use Rattle.text_lines.proofs.Spelled.{AreWords, is_word}

@@ -1,7 +1,7 @@
 -- The first number of a range that passes a test, one by one.
 use Rattle.std.proofs.Common.{◌≡◌, ◌<◌, ◌≤◌, ◌+◌, ◌-◌, ℕ, Bool, true, false, None, Some, arith, ◌∙◌, ap}
 use Rattle.std.specs.List.{find, range_with_len}
-use Rattle.stop_explorer.proofs.AnyRow.{range_next}
+use Rattle.stop_program.proofs.AnyRow.{range_next}
 
 pub first_here : (test : ℕ → Bool) (i n : ℕ) → i < n → test i ≡ true → find test (range_with_len i (n - i)) ≡ Some i
 first_here test i n h passes = ap (find test) (range_next i n h) ∙ rw passes

@@ -4,12 +4,12 @@ use Rattle.std.proofs.Common.{Option, Some, None, Result, Ok, Err, IfSome, ap, a
 use Rattle.std.proofs.Common.{filter, le-leb, length, length-append, ne_eqb, sym}
 use Rattle.std.proofs.lemmas.List.Elements.{All-filter, All-head, All-map, All-tail}
 use Rattle.std.specs.List.{All}
-use Rattle.stop_explorer.specs.declared.command.ProgramLine.{ProgramLine}
-use Rattle.stop_explorer.specs.declared.command.ThreadCommand.{ThreadCommand}
-use Rattle.stop_explorer.specs.declared.voice.Voice.{Voice}
-use Rattle.stop_explorer.specs.declared.voice.Voice.TheVariants.{Loud, Quiet}
-use Rattle.stop_explorer.specs.Program.{is_line_of}
-use Rattle.stop_explorer.specs.Replies.{without_reply}
+use Rattle.stop_program.specs.declared.command.ProgramLine.{ProgramLine}
+use Rattle.stop_program.specs.declared.command.ThreadCommand.{ThreadCommand}
+use Rattle.stop_program.specs.declared.voice.Voice.{Voice}
+use Rattle.stop_program.specs.declared.voice.Voice.TheVariants.{Loud, Quiet}
+use Rattle.stop_program.specs.Program.{is_line_of}
+use Rattle.stop_program.specs.Replies.{without_reply}
 use Rattle.stop_history.proofs.Rosters.{few_rows}
 use Rattle.stop_history.specs.declared.limits.TheConstants.{MOST_ROWS}
 use Rattle.stop_history.specs.declared.roster.Row.{Row}

@@ -8,11 +8,11 @@ use Rattle.std.proofs.lemmas.Bool.{cases_Bool, eq-eqb, eqb-true}
 use Rattle.std.proofs.lemmas.List.{length-map, map-append}
 use Rattle.std.proofs.lemmas.List.Elements.{All-map, filter-append}
 use Rattle.std.proofs.lemmas.Option.{same_Some, slice_get-map, slice_get_within}
-use Rattle.stop_explorer.specs.declared.command.ProgramLine.{ProgramLine}
-use Rattle.stop_explorer.specs.declared.command.ThreadCommand.{ThreadCommand}
-use Rattle.stop_explorer.specs.Program.{is_line_of, own_commands}
-use Rattle.stop_explorer.specs.Replies.{GoForward, without_reply}
-use Rattle.stop_explorer.proofs.Commands.{no_commands}
+use Rattle.stop_program.specs.declared.command.ProgramLine.{ProgramLine}
+use Rattle.stop_program.specs.declared.command.ThreadCommand.{ThreadCommand}
+use Rattle.stop_program.specs.Program.{is_line_of, own_commands}
+use Rattle.stop_program.specs.Replies.{GoForward, without_reply}
+use Rattle.stop_program.proofs.Commands.{no_commands}
 use Rattle.litmus_files.specs.declared.required.NumberedCommand.{NumberedCommand}
 use Rattle.litmus_files.specs.declared.required.NumberedLine.{NumberedLine}
 use Rattle.litmus_files.specs.LitmusFile.{leaving_line, plain_lines}

@@ -7,10 +7,10 @@ use Rattle.std.specs.List.{All}
 use Rattle.std.proofs.lemmas.Bool.Decides.{nat_tests}
 use Rattle.std.proofs.lemmas.List.{length_push}
 use Rattle.std.proofs.lemmas.List.Elements.{All-append, All-map, All-nil, All-weaker}
-use Rattle.stop_explorer.specs.declared.command.ThreadCommand.{ThreadCommand}
-use Rattle.stop_explorer.specs.declared.voice.Voice.{Voice}
-use Rattle.stop_explorer.specs.Program.{own_commands}
-use Rattle.stop_explorer.specs.Replies.{GoForward}
+use Rattle.stop_program.specs.declared.command.ThreadCommand.{ThreadCommand}
+use Rattle.stop_program.specs.declared.voice.Voice.{Voice}
+use Rattle.stop_program.specs.Program.{own_commands}
+use Rattle.stop_program.specs.Replies.{GoForward}
 use Rattle.stop_history.specs.Roster.{push_fault}
 use Rattle.text_lines.specs.Lines.{last_line, lines_of, words_in}
 use Rattle.text_lines.specs.Ranges.{◌>>=◌}

@@ -5,8 +5,8 @@ use Rattle.std.proofs.Common.{Some, None, Result, Ok, Err, OnOk, IfSome, arith, 
 use Rattle.std.proofs.lemmas.Bool.Decides.{nat_tests}
 use Rattle.std.proofs.lemmas.List.{length_push}
 use Rattle.std.proofs.lemmas.List.Elements.{All-append, All-cons, All-map, All-nil, All-push}
-use Rattle.stop_explorer.specs.declared.command.ThreadCommand.{ThreadCommand}
-use Rattle.stop_explorer.specs.declared.voice.Voice.{Voice}
+use Rattle.stop_program.specs.declared.command.ThreadCommand.{ThreadCommand}
+use Rattle.stop_program.specs.declared.voice.Voice.{Voice}
 use Rattle.stop_history.specs.Roster.{push_fault}
 use Rattle.stop_history.specs.declared.roster.Row.{Row}
 use Rattle.text_lines.specs.Ranges.{◌>>=◌}

@@ -3,15 +3,13 @@ use Rattle.std.proofs.Common.{refl, ◌≡◌, ◌∙◌, ◌<◌, ◌+◌, ◌*
 use Rattle.std.proofs.Common.{List, Option, Some, None, Result, Ok, Err, IfErr, IsOk, OnOk, ap, arith, eqb, is_ok, is_some}
 use Rattle.std.proofs.Common.{length, map, nat_le, subst, sym}
 use Rattle.std.proofs.lemmas.Bool.Decides.{nat_tests}
-use Rattle.stop_explorer.specs.declared.command.ThreadCommand.{ThreadCommand}
-use Rattle.stop_explorer.specs.declared.voice.Voice.{Voice}
-use Rattle.stop_explorer.specs.declared.command.Which.TheVariants as which
+use Rattle.stop_program.specs.declared.command.ThreadCommand.{ThreadCommand}
+use Rattle.stop_program.specs.declared.voice.Voice.{Voice}
 use Rattle.text_lines.specs.Ranges.{◌>>=◌}
 use Rattle.trace_script.specs.Reading.{TakesLine}
 use Rattle.trace_script.specs.declared.cause.Cause.{Cause}
 use Rattle.trace_script.specs.declared.cause.Cause.TheVariants.{NoEnd, NoMemory, TooMany, UnknownWord}
 use Rattle.litmus_files.specs.declared.draft.TheConstants.{MOST_COMMANDS, MOST_THREADS}
-use Rattle.litmus_files.specs.declared.line.Aim.TheVariants as aim
 use Rattle.litmus_files.specs.declared.line.LitmusCommand.{LitmusCommand}
 use Rattle.litmus_files.specs.declared.required.NumberedCommand.{NumberedCommand}
 use Rattle.litmus_files.specs.declared.required.NumberedLine.{NumberedLine}

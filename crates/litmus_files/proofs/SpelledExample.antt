@@ -7,11 +7,11 @@ use Rattle.std.specs.List.{AllByRecursion}
 use Rattle.trace_record.specs.declared.death.Death.TheVariants as death
 use Rattle.trace_record.specs.declared.resume.Kind.TheVariants as kind
 use Rattle.trace_record.specs.declared.stop.Stop.TheVariants as stop
-use Rattle.stop_explorer.specs.declared.board_call.BoardCall.{BoardCall}
-use Rattle.stop_explorer.specs.declared.board_call.BoardCall.TheVariants as call
-use Rattle.stop_explorer.specs.declared.command.Which.{Which}
-use Rattle.stop_explorer.specs.declared.command.Which.TheVariants as which
-use Rattle.stop_explorer.specs.declared.voice.Voice.TheVariants.{Loud, Quiet}
+use Rattle.stop_program.specs.declared.board_call.BoardCall.{BoardCall}
+use Rattle.stop_program.specs.declared.board_call.BoardCall.TheVariants as call
+use Rattle.stop_program.specs.declared.command.Which.{Which}
+use Rattle.stop_program.specs.declared.command.Which.TheVariants as which
+use Rattle.stop_program.specs.declared.voice.Voice.TheVariants.{Loud, Quiet}
 use Rattle.litmus_files.specs.declared.required.NumberedLine.{NumberedLine}
 use Rattle.litmus_files.specs.LitmusFile.{LitmusContent, litmus_content_of}
 use Rattle.litmus_files.specs.LitmusGrammar.{is_thread_name}

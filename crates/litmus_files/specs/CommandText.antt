@@ -1,11 +1,11 @@
 -- The text of a thread's command: its words with one space between them, without the reply that it needs.
 use Rattle.std.specs.Prelude.{◌++◌, ◌∷◌, [], ℕ, Bool, true, false, List, codes, decimal}
 use Rattle.std.specs.List.{join_with_byte}
-use Rattle.stop_explorer.specs.declared.board_call.BoardCall.{BoardCall}
-use Rattle.stop_explorer.specs.declared.board_call.BoardCall.TheVariants as call
-use Rattle.stop_explorer.specs.declared.command.ThreadCommand.{ThreadCommand}
-use Rattle.stop_explorer.specs.declared.command.Which.{Which}
-use Rattle.stop_explorer.specs.declared.command.Which.TheVariants as which
+use Rattle.stop_program.specs.declared.board_call.BoardCall.{BoardCall}
+use Rattle.stop_program.specs.declared.board_call.BoardCall.TheVariants as call
+use Rattle.stop_program.specs.declared.command.ThreadCommand.{ThreadCommand}
+use Rattle.stop_program.specs.declared.command.Which.{Which}
+use Rattle.stop_program.specs.declared.command.Which.TheVariants as which
 use Rattle.stop_history.specs.declared.roster.Row.{Row}
 use Rattle.stop_history.specs.Roster.{row_at}
 use Rattle.replay_files.specs.declared.command.Command.TheVariants as command

@@ -6,8 +6,8 @@ use Rattle.litmus_files.specs.declared.required.NumberedCommand.{NumberedCommand
 use Rattle.litmus_files.specs.declared.draft.LitmusDraft.{LitmusDraft}
 use Rattle.litmus_files.specs.declared.file.LitmusFile.{LitmusFile}
 use Rattle.litmus_files.specs.declared.draft.TheConstants.{MOST_THREADS}
-use Rattle.stop_explorer.specs.Program.{own_commands}
-use Rattle.stop_explorer.specs.Replies.{GoForward}
+use Rattle.stop_program.specs.Program.{own_commands}
+use Rattle.stop_program.specs.Replies.{GoForward}
 use Rattle.litmus_files.specs.LitmusFile.{LitmusContent, LitmusReading, OpenRepeat, plain_lines}
 use Rattle.litmus_files.specs.LitmusGrammar.{IsLitmusCall}
 

@@ -6,13 +6,13 @@ use Rattle.std.specs.Prelude.{Bool, IsUtf8, bytes_eq, decimal, find, map, not, s
 use Rattle.std.specs.Prelude.{IfSome, is_some, Result, Ok, Err, if◌then◌else◌}
 use Rattle.std.specs.List.{range_with_len}
 use Rattle.std.specs.Option.{ok_or}
-use Rattle.stop_explorer.specs.declared.command.ThreadCommand.{ThreadCommand}
-use Rattle.stop_explorer.specs.declared.voice.Voice.{Voice}
-use Rattle.stop_explorer.specs.declared.reply.WantedReply.{WantedReply}
-use Rattle.stop_explorer.specs.declared.command.Which.{Which}
-use Rattle.stop_explorer.specs.declared.command.Which.TheVariants as which
-use Rattle.stop_explorer.specs.Program.{Program, own_commands}
-use Rattle.stop_explorer.specs.Replies.{GoForward}
+use Rattle.stop_program.specs.declared.command.ThreadCommand.{ThreadCommand}
+use Rattle.stop_program.specs.declared.voice.Voice.{Voice}
+use Rattle.stop_program.specs.declared.reply.WantedReply.{WantedReply}
+use Rattle.stop_program.specs.declared.command.Which.{Which}
+use Rattle.stop_program.specs.declared.command.Which.TheVariants as which
+use Rattle.stop_program.specs.Program.{Program, own_commands}
+use Rattle.stop_program.specs.Replies.{GoForward}
 use Rattle.stop_history.specs.Roster.{push_fault, row_of}
 use Rattle.stop_history.specs.declared.roster.Row.{Row}
 use Rattle.text_lines.specs.Lines.{last_line, words_in}

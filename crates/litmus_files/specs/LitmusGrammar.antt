@@ -5,11 +5,11 @@ use Rattle.std.specs.Prelude.{◌==◌, ◌&&◌, ◌||◌, ◌<◌, ◌∷◌, 
 use Rattle.std.specs.Prelude.{IfSome, IsUtf8, Option, Some, None, codes, Result, Ok, Err, slice_index, if◌then◌else◌}
 use Rattle.std.specs.Char.{is_ascii_alphabetic, is_ascii_alphanumeric}
 use Rattle.std.specs.List.{list_all}
-use Rattle.stop_explorer.specs.BoardCall.{IsBoardCall}
-use Rattle.stop_explorer.specs.declared.board_call.BoardCall.{BoardCall}
-use Rattle.stop_explorer.specs.declared.board_call.BoardCall.TheVariants as call
-use Rattle.stop_explorer.specs.declared.voice.Voice.{Voice}
-use Rattle.stop_explorer.specs.declared.voice.Voice.TheVariants.{Loud, Quiet}
+use Rattle.stop_program.specs.BoardCall.{IsBoardCall}
+use Rattle.stop_program.specs.declared.board_call.BoardCall.{BoardCall}
+use Rattle.stop_program.specs.declared.board_call.BoardCall.TheVariants as call
+use Rattle.stop_program.specs.declared.voice.Voice.{Voice}
+use Rattle.stop_program.specs.declared.voice.Voice.TheVariants.{Loud, Quiet}
 use Rattle.stop_history.specs.declared.limits.TheConstants.{TRACERS}
 use Rattle.text_lines.specs.declared.fault.LineFault.{LineFault}
 use Rattle.text_lines.specs.declared.fault.LineFault.TheVariants.{UnknownWord}

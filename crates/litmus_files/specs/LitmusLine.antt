@@ -1,6 +1,6 @@
 -- What a line of a litmus file says.
 use Rattle.std.specs.Prelude.{ℕ, List, Option, option_map}
-use Rattle.stop_explorer.specs.declared.voice.Voice.{Voice}
+use Rattle.stop_program.specs.declared.voice.Voice.{Voice}
 use Rattle.stop_history.specs.declared.roster.Row.{Row}
 use Rattle.litmus_files.specs.declared.line.LitmusCommand.{LitmusCommand}
 use Rattle.litmus_files.specs.declared.line.LitmusLine.{LitmusLine}

@@ -5,12 +5,12 @@ use Rattle.std.specs.Prelude.{None, Option, Result, Ok, Err, if◌then◌else◌
 use Rattle.stop_history.specs.declared.limits.TheConstants.{LAST_NUMBER}
 use Rattle.stop_history.specs.declared.refused.Refused.{Refused}
 use Rattle.stop_history.specs.declared.refused.Refused.TheVariants as refused
-use Rattle.stop_explorer.specs.declared.reply.WantedAnswer.{WantedAnswer}
-use Rattle.stop_explorer.specs.declared.reply.WantedAnswer.TheVariants as answer
-use Rattle.stop_explorer.specs.declared.reply.WantedGot.{WantedGot}
-use Rattle.stop_explorer.specs.declared.reply.WantedGot.TheVariants as got
-use Rattle.stop_explorer.specs.declared.reply.WantedState.{WantedState}
-use Rattle.stop_explorer.specs.declared.reply.WantedState.TheVariants as state
+use Rattle.stop_program.specs.declared.reply.WantedAnswer.{WantedAnswer}
+use Rattle.stop_program.specs.declared.reply.WantedAnswer.TheVariants as answer
+use Rattle.stop_program.specs.declared.reply.WantedGot.{WantedGot}
+use Rattle.stop_program.specs.declared.reply.WantedGot.TheVariants as got
+use Rattle.stop_program.specs.declared.reply.WantedState.{WantedState}
+use Rattle.stop_program.specs.declared.reply.WantedState.TheVariants as state
 use Rattle.text_lines.specs.declared.fault.LineFault.{LineFault}
 use Rattle.text_lines.specs.declared.fault.LineFault.TheVariants.{UnknownWord}
 use Rattle.text_lines.specs.Keywords.{value_beside}

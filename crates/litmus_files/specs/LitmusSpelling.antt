@@ -3,15 +3,15 @@
 use Rattle.std.specs.Prelude.{◌≡◌, ◌+◌, ◌++◌, ◌<◌, ◌≤◌, ◌∷◌, [], ℕ, suc, zero, Bool, true, false, IsTrue, List, length}
 use Rattle.std.specs.Prelude.{Option, Some, None, IfSome, codes}
 use Rattle.std.specs.List.{All}
-use Rattle.stop_explorer.specs.declared.board_call.BoardCall.{BoardCall}
-use Rattle.stop_explorer.specs.declared.board_call.BoardCall.TheVariants as call
-use Rattle.stop_explorer.specs.declared.command.ThreadCommand.{ThreadCommand}
-use Rattle.stop_explorer.specs.declared.command.Which.{Which}
-use Rattle.stop_explorer.specs.declared.command.Which.TheVariants as which
-use Rattle.stop_explorer.specs.declared.voice.Voice.{Voice}
-use Rattle.stop_explorer.specs.declared.voice.Voice.TheVariants.{Loud, Quiet}
-use Rattle.stop_explorer.specs.Program.{own_commands}
-use Rattle.stop_explorer.specs.Replies.{without_reply}
+use Rattle.stop_program.specs.declared.board_call.BoardCall.{BoardCall}
+use Rattle.stop_program.specs.declared.board_call.BoardCall.TheVariants as call
+use Rattle.stop_program.specs.declared.command.ThreadCommand.{ThreadCommand}
+use Rattle.stop_program.specs.declared.command.Which.{Which}
+use Rattle.stop_program.specs.declared.command.Which.TheVariants as which
+use Rattle.stop_program.specs.declared.voice.Voice.{Voice}
+use Rattle.stop_program.specs.declared.voice.Voice.TheVariants.{Loud, Quiet}
+use Rattle.stop_program.specs.Program.{own_commands}
+use Rattle.stop_program.specs.Replies.{without_reply}
 use Rattle.stop_history.specs.declared.roster.Row.{Row}
 use Rattle.stop_history.specs.Roster.{IsRoster, is_id}
 use Rattle.text_lines.specs.Lines.{line_text}

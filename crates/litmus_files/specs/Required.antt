@@ -1,9 +1,9 @@
 -- What a litmus file requires: its replies and conditions, numbered from 1 in the order of its lines. The program with
 -- the first n of them, and the conditions among these.
 use Rattle.std.specs.Prelude.{ℕ, nat_le, List, filter, map, if◌then◌else◌}
-use Rattle.stop_explorer.specs.declared.command.ProgramLine.{ProgramLine}
-use Rattle.stop_explorer.specs.Program.{Program}
-use Rattle.stop_explorer.specs.Replies.{without_reply}
+use Rattle.stop_program.specs.declared.command.ProgramLine.{ProgramLine}
+use Rattle.stop_program.specs.Program.{Program}
+use Rattle.stop_program.specs.Replies.{without_reply}
 use Rattle.litmus_files.specs.declared.required.Condition.{Condition}
 use Rattle.litmus_files.specs.declared.required.NumberedCondition.{NumberedCondition}
 use Rattle.litmus_files.specs.declared.required.NumberedLine.{NumberedLine}

@@ -13,7 +13,7 @@ use itoa::Buffer;
 use replay_files::{GUESSES, row_of};
 use std::alloc::Allocator;
 use stop_board::Roster;
-use stop_explorer::{ThreadCommand, WantedReply, Which};
+use stop_program::{ThreadCommand, WantedReply, Which};
 use trace_script::Cause;
 
 /// A line's command. Its `leave_to` is 0 until its place in the thread is known.

@@ -6,7 +6,7 @@ ghost use Rattle.litmus_files.specs.LitmusFile.{copies_of, leaving_line};
 use crate::required::{NumberedCommand, NumberedLine};
 use std::alloc::Allocator;
 use stop_board::NoMemory;
-use stop_explorer::{ProgramLine, ThreadCommand};
+use stop_program::{ProgramLine, ThreadCommand};
 
 /// A command as a line of a thread, which goes on at a place after "no child".
 pub(crate) fn leaving_line(thread: u32, leave_to: u32, numbered: NumberedCommand) -> NumberedLine

@@ -20,7 +20,7 @@ use crate::required::{NumberedCommand, NumberedCondition, NumberedLine};
 use replay_files::GUESSES;
 use std::alloc::Allocator;
 use stop_board::{Roster, Row};
-use stop_explorer::{ThreadCommand, Voice};
+use stop_program::{ThreadCommand, Voice};
 use text_lines::Words;
 use trace_script::Cause;
 

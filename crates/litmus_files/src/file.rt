@@ -12,7 +12,7 @@ use crate::draft::{LitmusDraft, new_draft, take_line};
 use crate::required::{NumberedCondition, NumberedLine};
 use std::alloc::Allocator;
 use stop_board::Roster;
-use stop_explorer::Voice;
+use stop_program::Voice;
 use text_lines::{cut_line, last_line};
 use trace_script::{CaseError, Cause, MOST_BYTES};
 

@@ -23,7 +23,7 @@ use crate::keyword::{
 use crate::line::{Aim, LitmusCommand, LitmusLine, Within};
 use crate::reply::reply_of;
 use replay_files::{Command, KINDS, Line, ReplayKeyword, replay_rest_of, tracer_of};
-use stop_explorer::{BoardCall, Voice};
+use stop_program::{BoardCall, Voice};
 use text_lines::{LineFault, Words, keyword, number_between};
 use trace_options::LAST_SIGNAL;
 use trace_record::Resume;

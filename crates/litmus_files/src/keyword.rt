@@ -5,7 +5,7 @@ ghost use Rattle.litmus_files.specs.LitmusGrammar.{litmus_keyword_in, litmus_may
 ghost use Rattle.litmus_files.specs.LitmusReply.{is_any_word, is_group_word, is_it_word};
 
 use crate::line::Within;
-use stop_explorer::Voice;
+use stop_program::Voice;
 use text_lines::{LineFault, keyword};
 
 /// The first word of a command.

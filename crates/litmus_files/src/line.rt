@@ -2,7 +2,7 @@
 
 use crate::condition::LitmusCondition;
 use stop_board::Row;
-use stop_explorer::{BoardCall, Voice, WantedAnswer};
+use stop_program::{BoardCall, Voice, WantedAnswer};
 
 /// Where a line is in its file.
 #[derive(Clone, Copy, Debug, PartialEq, Eq)]

@@ -15,7 +15,7 @@ use crate::keyword::{CommandKeyword, is_any_word, is_group_word, is_it_word};
 use crate::line::LitmusReply;
 use replay_files::{STATE_NAMES, StateName, tracer_of};
 use stop_board::{LAST_NUMBER, Refused};
-use stop_explorer::{WantedAnswer, WantedGot, WantedState};
+use stop_program::{WantedAnswer, WantedGot, WantedState};
 use text_lines::{LineFault, Words, keyword, number_between};
 use trace_script::id;
 

@@ -9,7 +9,7 @@ use crate::condition::Sense;
 use replay_files::StateName;
 use std::alloc::Allocator;
 use stop_board::NoMemory;
-use stop_explorer::{ProgramLine, ThreadCommand};
+use stop_program::{ProgramLine, ThreadCommand};
 
 /// What has to hold where an outcome ends.
 #[derive(Clone, Copy, Debug, PartialEq, Eq)]

@@ -4,11 +4,11 @@ use Rattle.std.proofs.Common.{None, Option, Some, sym}
 use Rattle.std.proofs.Math.Dec.{eqb-suc-zero}
 use Rattle.std.specs.Prelude.{filter, is_none, is_some, slice_get}
 use Rattle.std.proofs.lemmas.Bool.{and_from, and_parts, false≢true}
-use Rattle.stop_explorer.specs.declared.command.ThreadCommand.{ThreadCommand}
-use Rattle.stop_explorer.specs.Progress.{has_reply}
-use Rattle.stop_explorer.specs.Replies.{DoneCommand, done_by_thread}
-use Rattle.stop_explorer.specs.Run.{EndedRun}
-use Rattle.stop_explorer.specs.Search.{commands_in}
+use Rattle.stop_program.specs.declared.command.ThreadCommand.{ThreadCommand}
+use Rattle.stop_program.specs.Progress.{has_reply}
+use Rattle.stop_program.specs.Replies.{DoneCommand, done_by_thread}
+use Rattle.stop_program.specs.Run.{EndedRun}
+use Rattle.stop_program.specs.Threads.{commands_in}
 use Rattle.litmus_files.specs.declared.required.Condition.{Condition}
 use Rattle.outcome_text.specs.Chosen.{asks_nothing, chosen_of, has_come_true, has_no_reply, has_thread_come_true}
 use Rattle.outcome_text.specs.Chosen.{have_come_true, is_chosen, lacks_replies}

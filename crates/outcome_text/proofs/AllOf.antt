@@ -2,7 +2,7 @@
 use Rattle.std.proofs.Common.{refl, ◌≡◌, ◌<◌, ◌≤◌, ◌+◌, ◌-◌, ℕ, suc, zero, Bool, true, false, arith, ◌∙◌, ap, subst, inl, inr}
 use Rattle.std.specs.List.{list_all, range_with_len}
 use Rattle.std.proofs.lemmas.Bool.{and_from, and_parts, cases_eq}
-use Rattle.stop_explorer.proofs.AnyRow.{range_next}
+use Rattle.stop_program.proofs.AnyRow.{range_next}
 
 pub all_here : (test : ℕ → Bool) (i n : ℕ) → i < n → test i ≡ false → list_all test (range_with_len i (n - i)) ≡ false
 all_here test i n h fails = ap (list_all test) (range_next i n h) ∙ rw fails

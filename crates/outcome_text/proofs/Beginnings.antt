@@ -1,7 +1,7 @@
 -- Logs that begin alike, by what is read and printed one after another.
 use Rattle.std.proofs.Common.{◌≡◌, ◌≤◌, ℕ, arith, length, take, take-take, ◌∙◌, ap, sym}
+use Rattle.stop_program.specs.Program.{Log}
 use Rattle.stop_explorer.specs.OutcomeReader.{BeginAlike}
-use Rattle.stop_explorer.specs.Program.{Log}
 
 pub all_alike : (a b : Log) → a ≡ b → BeginAlike (length b) a b
 all_alike a b is = record {

@@ -4,11 +4,11 @@ use Rattle.std.proofs.Common.{IsSome, is_some, length, slice_get, arith, ◌∙�
 use Rattle.std.proofs.lemmas.Bool.{and_parts, cases_Bool, cases_lt, eq-eqb, eqb-true, false≢true, not_from_false, or_cases}
 use Rattle.std.proofs.lemmas.Bool.{or_left, or_right}
 use Rattle.std.proofs.lemmas.Option.{none-some, slice_get_within}
-use Rattle.stop_explorer.specs.declared.command.ThreadCommand.{ThreadCommand}
-use Rattle.stop_explorer.specs.Program.{Log}
-use Rattle.stop_explorer.specs.Replies.{DoneCommand, HaveComeTrue, WasDone, done_by_thread}
-use Rattle.stop_explorer.specs.Progress.{has_reply}
-use Rattle.stop_explorer.specs.Run.{EndedRun}
+use Rattle.stop_program.specs.declared.command.ThreadCommand.{ThreadCommand}
+use Rattle.stop_program.specs.Program.{Log}
+use Rattle.stop_program.specs.Replies.{DoneCommand, HaveComeTrue, WasDone, done_by_thread}
+use Rattle.stop_program.specs.Progress.{has_reply}
+use Rattle.stop_program.specs.Run.{EndedRun}
 use Rattle.litmus_files.specs.declared.required.Condition.{Condition}
 use Rattle.outcome_text.specs.Chosen.{has_come_true, has_thread_come_true, have_come_true, is_chosen, was_done}
 use Rattle.outcome_text.specs.Conditions.{conditions_hold}

@@ -2,11 +2,11 @@
 use Rattle.std.proofs.Common.{◌≡◌, ◌<◌, ◌≤◌, ◌+◌, ℕ, Bool, true, false, List, length, get_or, drop, slice_get, ◌∙◌, ap}
 use Rattle.std.proofs.Common.{eqb}
 use Rattle.std.proofs.lemmas.Bool.{eq-eqb, ne_eqb}
-use Rattle.stop_explorer.specs.declared.command.ThreadCommand.{ThreadCommand}
-use Rattle.stop_explorer.specs.declared.turn.Turn.{Turn}
-use Rattle.stop_explorer.specs.Program.{Log, index_after, own_turns}
-use Rattle.stop_explorer.specs.Replies.{done_from}
-use Rattle.stop_explorer.proofs.OwnTurns.{own_here, own_not_here, own_over}
+use Rattle.stop_program.specs.declared.command.ThreadCommand.{ThreadCommand}
+use Rattle.stop_program.specs.declared.turn.Turn.{Turn}
+use Rattle.stop_program.specs.Program.{Log, index_after, own_turns}
+use Rattle.stop_program.specs.Replies.{done_from}
+use Rattle.stop_program.proofs.OwnTurns.{own_here, own_not_here, own_over}
 use Rattle.outcome_text.specs.Chosen.{was_done}
 
 -- whether a command is among those that a thread's turns from here on do

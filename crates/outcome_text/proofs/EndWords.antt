@@ -8,7 +8,7 @@ use Rattle.std.proofs.lemmas.Slice.Zip.{get_or-zip, length-zip}
 use Rattle.stop_history.specs.declared.roster.Row.{Row}
 use Rattle.stop_history.specs.declared.state.State.{State}
 use Rattle.outcome_text.specs.OutcomeEnds.{last_state, listed, who_waits}
-use Rattle.stop_explorer.proofs.AnyRow.{range_next}
+use Rattle.stop_program.proofs.AnyRow.{range_next}
 
 -- a word more, beside those that are left
 pub mapped_push : {X : Type 0} (bytes : X → List ℕ) (old new : List X) (x : X) (word : List ℕ) (left : List (List ℕ))

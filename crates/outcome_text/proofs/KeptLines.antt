@@ -3,7 +3,7 @@ use Rattle.std.proofs.Common.{[], ℕ, List, Option, None, ◌∙◌, sym}
 use Rattle.std.specs.List.{All}
 use Rattle.std.proofs.lemmas.List.Elements.{All-from_get_or, All-get_or}
 use Rattle.stop_history.specs.declared.roster.Row.{Row}
-use Rattle.stop_explorer.specs.declared.command.ThreadCommand.{ThreadCommand}
+use Rattle.stop_program.specs.declared.command.ThreadCommand.{ThreadCommand}
 use Rattle.outcome_text.specs.KeptLines.{AreLinesKept, IsEmptyLine, IsLineKept, LineText}
 
 pub empty_lines : (rows : List Row) (names : List (Option (List ℕ))) (commands : ℕ → List ThreadCommand)

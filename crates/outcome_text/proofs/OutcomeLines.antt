@@ -8,9 +8,9 @@ use Rattle.std.proofs.lemmas.Slice.Zip.{get_or-zip, length-zip}
 use Rattle.std.specs.Prelude.{Some, slice_get}
 use Rattle.stop_history.specs.declared.roster.Row.{Row}
 use Rattle.stop_history.specs.declared.state.State.{State}
-use Rattle.stop_explorer.specs.declared.command.ThreadCommand.{ThreadCommand}
-use Rattle.stop_explorer.specs.declared.voice.Voice.{Voice}
-use Rattle.stop_explorer.specs.Run.{EndedRun}
+use Rattle.stop_program.specs.declared.command.ThreadCommand.{ThreadCommand}
+use Rattle.stop_program.specs.declared.voice.Voice.{Voice}
+use Rattle.stop_program.specs.Run.{EndedRun}
 use Rattle.litmus_files.specs.declared.required.Condition.{Condition}
 use Rattle.outcome_text.specs.Chosen.{chosen_of, ending_numbered, is_chosen}
 use Rattle.litmus_files.specs.LitmusDraft.{names_kept}

@@ -4,9 +4,9 @@ use Rattle.std.proofs.Common.{Some, None, ◌∙◌, ap, sym}
 use Rattle.std.specs.List.{cons_option}
 use Rattle.std.proofs.lemmas.List.{at_drop_all, drop_more, take_more}
 use Rattle.stop_history.specs.declared.roster.Row.{Row}
-use Rattle.stop_explorer.specs.declared.command.ThreadCommand.{ThreadCommand}
-use Rattle.stop_explorer.specs.declared.turn.Turn.{Turn}
-use Rattle.stop_explorer.specs.Program.{Log}
+use Rattle.stop_program.specs.declared.command.ThreadCommand.{ThreadCommand}
+use Rattle.stop_program.specs.declared.turn.Turn.{Turn}
+use Rattle.stop_program.specs.Program.{Log}
 use Rattle.text_lines.specs.Lines.{line_text}
 use Rattle.replay_files.specs.declared.order.Order.{Order}
 use Rattle.outcome_text.specs.OutcomeOrder.{order_of_turn, orders_after}

@@ -5,9 +5,9 @@ use Rattle.std.proofs.KnownBytes.{Appends-nil}
 use Rattle.std.specs.Io.KnownBytes.{Appends}
 use Rattle.std.specs.Prelude.{IfErr, OnOk}
 use Rattle.stop_history.specs.declared.roster.Row.{Row}
-use Rattle.stop_explorer.specs.declared.command.ThreadCommand.{ThreadCommand}
-use Rattle.stop_explorer.specs.declared.voice.Voice.{Voice}
-use Rattle.stop_explorer.specs.Run.{EndedRun}
+use Rattle.stop_program.specs.declared.command.ThreadCommand.{ThreadCommand}
+use Rattle.stop_program.specs.declared.voice.Voice.{Voice}
+use Rattle.stop_program.specs.Run.{EndedRun}
 use Rattle.outcome_text.specs.CutOff.{IsCollected, IsCutOff}
 use Rattle.outcome_text.specs.OutcomeText.{allowed_line, chosen_text, counts_line, outcome_texts}
 use Rattle.outcome_text.proofs.TextOfParts.{appends_both, cut_in_part}
@@ -100,3 +100,11 @@ pub whole_chosen : (rows : List Row) (names : List (Option (List ℕ))) (voices 
 whole_chosen rows names voices commands required told places count found same counted =
     (λ i. outcome_texts rows names voices commands 1 (counted i) found
     ++ (counts_line (counted i) (same i) ++ allowed_line required))
+
+-- ---- cut off in what is written first
+
+pub cut_first : (a b : Option (List ℕ)) (old first second : List ℕ) → old ≡ [] → IsCutOff a b (old ++ first)
+    → IsCutOff a b (first ++ second)
+cut_first a b old first second none off =
+    cut_in_part [] (old ++ first) second (first ++ second) a a b (ap (λ o. (o ++ first) ++ second) none)
+    (Appends-nil a) off

@@ -7,13 +7,14 @@ use Rattle.std.specs.List.{All, list_any}
 use Rattle.std.specs.Prelude.{Result, filter}
 use Rattle.stop_history.specs.Event.{History}
 use Rattle.stop_history.specs.declared.roster.Row.{Row}
-use Rattle.stop_explorer.specs.declared.command.ProgramLine.{ProgramLine}
-use Rattle.stop_explorer.specs.declared.command.ThreadCommand.{ThreadCommand}
-use Rattle.stop_explorer.specs.declared.voice.Voice.{Voice}
-use Rattle.stop_explorer.specs.Places.{HasMorePlaces, HasPlaces}
-use Rattle.stop_explorer.specs.Program.{Log, Program, is_line_of, own_commands}
-use Rattle.stop_explorer.specs.Progress.{is_quiet}
-use Rattle.stop_explorer.specs.Run.{AreDistinct, AreEndings, EndedRun, HasOutcome, IsRun, ended_run}
+use Rattle.stop_program.specs.declared.command.ProgramLine.{ProgramLine}
+use Rattle.stop_program.specs.declared.command.ThreadCommand.{ThreadCommand}
+use Rattle.stop_program.specs.declared.voice.Voice.{Voice}
+use Rattle.stop_program.specs.Order.{AreOrdered}
+use Rattle.stop_program.specs.Places.{HasMorePlaces, HasPlaces}
+use Rattle.stop_program.specs.Program.{Log, Program, is_line_of, own_commands}
+use Rattle.stop_program.specs.Progress.{is_quiet}
+use Rattle.stop_program.specs.Run.{AreDistinct, AreEndings, EndedRun, HasOutcome, IsRun, ended_run}
 use Rattle.litmus_files.specs.declared.file.LitmusFile.{LitmusFile}
 use Rattle.litmus_files.specs.declared.required.Condition.{Condition}
 use Rattle.litmus_files.specs.declared.required.NumberedLine.{NumberedLine}
@@ -40,21 +41,34 @@ pub record AreFound (rows : List Row) (voices : List Voice) (threads : ℕ) (pro
       → HasOutcome (is_quiet voices) (own_commands program) found (ended_run rows run last)
   pub sound : AreEndings rows threads (own_commands program) found
   pub distinct : AreDistinct (is_quiet voices) (own_commands program) found
+  pub ordered : AreOrdered rows (is_quiet voices) (own_commands program) found
   pub counted : HasPlaces rows (is_quiet voices) (own_commands program) places
 
-abbrev AreFoundBy : LitmusContent → Program → List EndedRun → (places : ℕ) → Type 0
+abbrev pub AreFoundBy : LitmusContent → Program → List EndedRun → (places : ℕ) → Type 0
 AreFoundBy content program found places =
     AreFound content.rows content.voices (length content.names) program found places
 
-outcomes_of : (content : LitmusContent) (count places : ℕ) (found : List EndedRun)
+pub outcomes_of : (content : LitmusContent) (count places : ℕ) (found : List EndedRun)
     → AreFoundBy content (program_with count content.lines) found places → AreOutcomes content count found places
 outcomes_of content count places found all =
-    record { complete = all.complete; sound = all.sound; distinct = all.distinct; counted = all.counted }
+    record {
+      complete = all.complete;
+      sound = all.sound;
+      distinct = all.distinct;
+      ordered = all.ordered;
+      counted = all.counted;
+    }
 
 found_of_outcomes : (content : LitmusContent) (count places : ℕ) (found : List EndedRun)
     → AreOutcomes content count found places → AreFoundBy content (program_with count content.lines) found places
 found_of_outcomes content count places found all =
-    record { complete = all.complete; sound = all.sound; distinct = all.distinct; counted = all.counted }
+    record {
+      complete = all.complete;
+      sound = all.sound;
+      distinct = all.distinct;
+      ordered = all.ordered;
+      counted = all.counted;
+    }
 
 -- where places have a number that is within the budget, they are not more than the budget
 pub not_more_with : (content : LitmusContent) (count budget places : ℕ) (voices : List Voice) (program : Program)

@@ -4,7 +4,7 @@ use Rattle.std.proofs.Common.{drop, length, sym}
 use Rattle.std.specs.List.{list_any}
 use Rattle.std.specs.Prelude.{filter, slice_get}
 use Rattle.std.proofs.Math.Dec.{eqb-suc-zero}
-use Rattle.stop_explorer.specs.Run.{EndedRun}
+use Rattle.stop_program.specs.Run.{EndedRun}
 use Rattle.outcome_text.specs.Searched.{forbids}
 use Rattle.outcome_text.proofs.OutcomeLines.{drop_at}
 

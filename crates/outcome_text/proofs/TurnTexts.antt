@@ -9,13 +9,13 @@ use Rattle.std.proofs.lemmas.Bool.{cases_lt}
 use Rattle.std.proofs.lemmas.Bool.Decides.{eqb_tells}
 use Rattle.stop_history.specs.declared.roster.Row.{Row}
 use Rattle.stop_history.specs.declared.state.State.{State}
-use Rattle.stop_explorer.specs.declared.command.ThreadCommand.{ThreadCommand}
-use Rattle.stop_explorer.specs.declared.turn.Turn.{Turn}
-use Rattle.stop_explorer.specs.Program.{Log, command_after, index_after, index_from, own_turns}
-use Rattle.stop_explorer.specs.Progress.{is_quiet}
-use Rattle.stop_explorer.specs.Run.{EndedRun}
-use Rattle.stop_explorer.proofs.Slices.{slice_last, slice_left}
-use Rattle.stop_explorer.proofs.Logs.{own_none, own_one, progress_one}
+use Rattle.stop_program.specs.declared.command.ThreadCommand.{ThreadCommand}
+use Rattle.stop_program.specs.declared.turn.Turn.{Turn}
+use Rattle.stop_program.specs.Program.{Log, command_after, index_after, index_from, own_turns}
+use Rattle.stop_program.specs.Progress.{is_quiet}
+use Rattle.stop_program.specs.Run.{EndedRun}
+use Rattle.stop_program.proofs.Slices.{slice_last, slice_left}
+use Rattle.stop_program.proofs.Logs.{own_none, own_one, progress_one}
 use Rattle.outcome_text.proofs.SetLists.{get_set_other, set_there}
 use Rattle.outcome_text.specs.declared.turn_texts.WrittenTurn.{WrittenTurn}
 use Rattle.outcome_text.specs.AnswerText.{answer_text}

@@ -7,14 +7,15 @@ use Rattle.std.specs.Prelude.{filter}
 use Rattle.std.proofs.lemmas.Bool.Decides.{nat_tests}
 use Rattle.std.proofs.lemmas.Bool.{and_from, and_parts, cases_Bool, false≢true, or_cases, or_left, or_right}
 use Rattle.std.proofs.lemmas.List.Elements.{All-head, All-map, All-tail, All-weaker}
-use Rattle.stop_explorer.specs.BoardCall.{IsBoardCall}
-use Rattle.stop_explorer.specs.declared.command.ProgramLine.{ProgramLine}
-use Rattle.stop_explorer.specs.declared.command.ThreadCommand.{ThreadCommand}
-use Rattle.stop_explorer.specs.Progress.{Progress, is_quiet}
-use Rattle.stop_explorer.specs.Replies.{GoForward, without_reply}
-use Rattle.stop_explorer.specs.Run.{AreEndings, EndedRun, HasOutcome, HaveOneOutcome, IsEnding, ended_run}
-use Rattle.stop_explorer.proofs.Commands.{no_commands}
-use Rattle.stop_explorer.proofs.RepliesShown.{replies_shown}
+use Rattle.stop_program.specs.Alike.{HasAlike}
+use Rattle.stop_program.specs.BoardCall.{IsBoardCall}
+use Rattle.stop_program.specs.declared.command.ProgramLine.{ProgramLine}
+use Rattle.stop_program.specs.declared.command.ThreadCommand.{ThreadCommand}
+use Rattle.stop_program.specs.Progress.{Progress, is_quiet}
+use Rattle.stop_program.specs.Replies.{GoForward, without_reply}
+use Rattle.stop_program.specs.Run.{AreEndings, EndedRun, HasOutcome, HaveOneOutcome, IsEnding, ended_run}
+use Rattle.stop_program.proofs.Commands.{no_commands}
+use Rattle.stop_program.proofs.RepliesShown.{replies_shown}
 use Rattle.stop_history.specs.declared.state.State.{State}
 use Rattle.litmus_files.specs.declared.required.NumberedLine.{NumberedLine}
 use Rattle.litmus_files.specs.declared.required.Condition.{Condition}
@@ -154,7 +155,7 @@ found_alike : (threads : ℕ) (quiet : ℕ → Bool) (commands : ℕ → List Th
     (found : List EndedRun) (b : EndedRun) → ((thread : ℕ) → threads ≤ thread → commands thread ≡ [])
     → GoForward commands → HasOutcome quiet commands found b → is_chosen threads commands conditions b ≡ true
     → list_any (is_chosen threads commands conditions) found ≡ true
-unfolding HasOutcome
+unfolding HasAlike
 found_alike threads quiet commands conditions [] b past forward has chosen = absurd has
 found_alike threads quiet commands conditions (ending ∷ more) b past forward (inl here) chosen =
     or_left (is_chosen threads commands conditions ending) (list_any (is_chosen threads commands conditions) more)

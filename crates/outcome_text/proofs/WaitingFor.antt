@@ -7,13 +7,13 @@ use Rattle.std.proofs.lemmas.List.{get_or_past}
 use Rattle.std.proofs.lemmas.List.FromFn.{get_or-map-range_with_len, length-map-range_with_len}
 use Rattle.std.specs.List.{find, range_with_len}
 use Rattle.std.specs.Result.{result_err}
-use Rattle.stop_explorer.specs.BoardCall.{answer_to, claim_told, done_told, look_told, publish_told}
-use Rattle.stop_explorer.specs.Command.{is_lasting, is_lasting_refusal}
-use Rattle.stop_explorer.specs.Run.{states_of}
-use Rattle.stop_explorer.specs.declared.answer.Answer.{Answer}
-use Rattle.stop_explorer.specs.declared.answer.Answer.TheVariants as answer
-use Rattle.stop_explorer.specs.declared.board_call.BoardCall.{BoardCall}
-use Rattle.stop_explorer.specs.declared.board_call.BoardCall.TheVariants as call
+use Rattle.stop_program.specs.BoardCall.{answer_to, claim_told, done_told, look_told, publish_told}
+use Rattle.stop_program.specs.Command.{is_lasting, is_lasting_refusal}
+use Rattle.stop_program.specs.Run.{states_of}
+use Rattle.stop_program.specs.declared.answer.Answer.{Answer}
+use Rattle.stop_program.specs.declared.answer.Answer.TheVariants as answer
+use Rattle.stop_program.specs.declared.board_call.BoardCall.{BoardCall}
+use Rattle.stop_program.specs.declared.board_call.BoardCall.TheVariants as call
 use Rattle.stop_history.specs.Event.{History}
 use Rattle.stop_history.specs.History.{births_after, creates_next, holding_back, holds_back}
 use Rattle.stop_history.specs.Roster.{is_leader, row_at}

@@ -1,13 +1,13 @@
 -- The text of what a thread's command was answered, or that it waits. The words are those of a replay.
 use Rattle.std.specs.Prelude.{◌++◌, ◌∷◌, [], ℕ, List, Option, Some, None, Ok, codes, decimal}
-use Rattle.stop_explorer.specs.declared.answer.Answer.{Answer}
-use Rattle.stop_explorer.specs.declared.answer.Answer.TheVariants as answer
-use Rattle.stop_explorer.specs.declared.board_call.BoardCall.{BoardCall}
-use Rattle.stop_explorer.specs.declared.board_call.BoardCall.TheVariants as call
-use Rattle.stop_explorer.specs.declared.command.ThreadCommand.{ThreadCommand}
-use Rattle.stop_explorer.specs.declared.command.Which.{Which}
-use Rattle.stop_explorer.specs.declared.command.Which.TheVariants as which
-use Rattle.stop_explorer.specs.declared.turn.Turn.{Turn}
+use Rattle.stop_program.specs.declared.answer.Answer.{Answer}
+use Rattle.stop_program.specs.declared.answer.Answer.TheVariants as answer
+use Rattle.stop_program.specs.declared.board_call.BoardCall.{BoardCall}
+use Rattle.stop_program.specs.declared.board_call.BoardCall.TheVariants as call
+use Rattle.stop_program.specs.declared.command.ThreadCommand.{ThreadCommand}
+use Rattle.stop_program.specs.declared.command.Which.{Which}
+use Rattle.stop_program.specs.declared.command.Which.TheVariants as which
+use Rattle.stop_program.specs.declared.turn.Turn.{Turn}
 use Rattle.stop_history.specs.declared.refused.Refused.{Refused}
 use Rattle.stop_history.specs.declared.roster.Row.{Row}
 use Rattle.stop_history.specs.declared.state.State.{State}

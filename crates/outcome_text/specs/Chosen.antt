@@ -1,13 +1,13 @@
 -- The outcomes that are printed: those in which every command with a reply was done, and every condition holds. A law
--- says that the test for replies is `HaveComeTrue` of `stop_explorer`.
+-- says that the test for replies is `HaveComeTrue` of `stop_program`.
 use Rattle.std.specs.Prelude.{◌==◌, ◌&&◌, ◌||◌, ℕ, suc, zero, Bool, not, List, length, filter, Option, None, Vec}
 use Rattle.std.specs.Prelude.{is_none, slice_get}
 use Rattle.std.specs.List.{list_all, list_any, range_with_len}
-use Rattle.stop_explorer.specs.declared.command.ThreadCommand.{ThreadCommand}
-use Rattle.stop_explorer.specs.Program.{Log}
-use Rattle.stop_explorer.specs.Progress.{has_reply}
-use Rattle.stop_explorer.specs.Replies.{DoneCommand, done_by_thread}
-use Rattle.stop_explorer.specs.Run.{EndedRun}
+use Rattle.stop_program.specs.declared.command.ThreadCommand.{ThreadCommand}
+use Rattle.stop_program.specs.Program.{Log}
+use Rattle.stop_program.specs.Progress.{has_reply}
+use Rattle.stop_program.specs.Replies.{DoneCommand, done_by_thread}
+use Rattle.stop_program.specs.Run.{EndedRun}
 use Rattle.litmus_files.specs.declared.required.Condition.{Condition}
 use Rattle.outcome_text.specs.Conditions.{conditions_hold}
 

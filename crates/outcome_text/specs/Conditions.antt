@@ -1,9 +1,9 @@
 -- When a condition holds where an outcome ends: of the last states of its tracees, and of the threads that wait.
 use Rattle.std.specs.Prelude.{ℕ, Bool, not, List, is_some}
 use Rattle.std.specs.List.{list_all, list_any}
-use Rattle.stop_explorer.specs.declared.command.ThreadCommand.{ThreadCommand}
-use Rattle.stop_explorer.specs.Program.{Log, command_after, own_turns}
-use Rattle.stop_explorer.specs.Run.{EndedRun}
+use Rattle.stop_program.specs.declared.command.ThreadCommand.{ThreadCommand}
+use Rattle.stop_program.specs.Program.{Log, command_after, own_turns}
+use Rattle.stop_program.specs.Run.{EndedRun}
 use Rattle.litmus_files.specs.declared.condition.Sense.{Sense}
 use Rattle.litmus_files.specs.declared.condition.Sense.TheVariants.{Is, IsNot}
 use Rattle.litmus_files.specs.declared.required.Condition.{Condition}

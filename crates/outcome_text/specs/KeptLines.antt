@@ -2,7 +2,7 @@
 use Rattle.std.specs.Prelude.{◌≡◌, ℕ, List, Option, None, Some, slice_get}
 use Rattle.std.specs.List.{All}
 use Rattle.stop_history.specs.declared.roster.Row.{Row}
-use Rattle.stop_explorer.specs.declared.command.ThreadCommand.{ThreadCommand}
+use Rattle.stop_program.specs.declared.command.ThreadCommand.{ThreadCommand}
 use Rattle.outcome_text.specs.declared.kept_lines.DoneAt.{DoneAt}
 use Rattle.outcome_text.specs.OutcomeText.{done_line, name_at, turn_line}
 

@@ -6,9 +6,9 @@ use Rattle.std.specs.Prelude.{string_bytes, String}
 use Rattle.std.specs.List.{list_any, range_with_len}
 use Rattle.stop_history.specs.declared.roster.Row.{Row}
 use Rattle.stop_history.specs.declared.state.State.{State}
-use Rattle.stop_explorer.specs.declared.command.ThreadCommand.{ThreadCommand}
-use Rattle.stop_explorer.specs.Program.{Log}
-use Rattle.stop_explorer.specs.Run.{EndedRun}
+use Rattle.stop_program.specs.declared.command.ThreadCommand.{ThreadCommand}
+use Rattle.stop_program.specs.Program.{Log}
+use Rattle.stop_program.specs.Run.{EndedRun}
 use Rattle.outcome_text.specs.declared.end_tallies.Tally.{Tally}
 use Rattle.outcome_text.specs.Conditions.{waits_at_end}
 use Rattle.outcome_text.specs.OutcomeText.{allowed_line, counts_line, name_at, thread_word}

@@ -4,12 +4,12 @@ use Rattle.std.specs.Prelude.{◌++◌, ◌∷◌, [], ℕ, nat_lt, List, length
 use Rattle.std.specs.Prelude.{if◌then◌else◌}
 use Rattle.std.specs.List.{All, cons_option}
 use Rattle.stop_history.specs.declared.roster.Row.{Row}
-use Rattle.stop_explorer.specs.declared.board_call.BoardCall.{BoardCall}
-use Rattle.stop_explorer.specs.declared.board_call.BoardCall.TheVariants as call
-use Rattle.stop_explorer.specs.declared.command.ThreadCommand.{ThreadCommand}
-use Rattle.stop_explorer.specs.declared.turn.Turn.{Turn}
-use Rattle.stop_explorer.specs.Program.{Log}
-use Rattle.stop_explorer.specs.Run.{EndedRun}
+use Rattle.stop_program.specs.declared.board_call.BoardCall.{BoardCall}
+use Rattle.stop_program.specs.declared.board_call.BoardCall.TheVariants as call
+use Rattle.stop_program.specs.declared.command.ThreadCommand.{ThreadCommand}
+use Rattle.stop_program.specs.declared.turn.Turn.{Turn}
+use Rattle.stop_program.specs.Program.{Log}
+use Rattle.stop_program.specs.Run.{EndedRun}
 use Rattle.replay_files.specs.declared.command.Command.{Command}
 use Rattle.replay_files.specs.declared.command.Command.TheVariants as command
 use Rattle.replay_files.specs.declared.order.Order.{Order}

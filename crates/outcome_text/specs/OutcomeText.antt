@@ -4,12 +4,12 @@ use Rattle.std.specs.Prelude.{◌≡◌, ◌+◌, ◌++◌, ◌∷◌, [], ℕ, 
 use Rattle.std.specs.Prelude.{Option, Some, None, slice_get, slice_index_or, codes, decimal}
 use Rattle.stop_history.specs.declared.roster.Row.{Row}
 use Rattle.stop_history.specs.declared.state.State.{State}
-use Rattle.stop_explorer.specs.declared.command.ThreadCommand.{ThreadCommand}
-use Rattle.stop_explorer.specs.declared.voice.Voice.{Voice}
-use Rattle.stop_explorer.specs.declared.turn.Turn.{Turn}
-use Rattle.stop_explorer.specs.Program.{Log, command_after, index_after, own_turns}
-use Rattle.stop_explorer.specs.Progress.{is_quiet}
-use Rattle.stop_explorer.specs.Run.{EndedRun}
+use Rattle.stop_program.specs.declared.command.ThreadCommand.{ThreadCommand}
+use Rattle.stop_program.specs.declared.voice.Voice.{Voice}
+use Rattle.stop_program.specs.declared.turn.Turn.{Turn}
+use Rattle.stop_program.specs.Program.{Log, command_after, index_after, own_turns}
+use Rattle.stop_program.specs.Progress.{is_quiet}
+use Rattle.stop_program.specs.Run.{EndedRun}
 use Rattle.outcome_text.specs.AnswerText.{answer_text, waits_text}
 use Rattle.litmus_files.specs.CommandText.{command_text}
 use Rattle.replay_files.specs.Replies.{state_text}

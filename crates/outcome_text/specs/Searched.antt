@@ -3,12 +3,13 @@
 use Rattle.std.specs.Prelude.{◌≡◌, ◌≤◌, ◌&&◌, ◌==◌, ℕ, Bool, true, false, not, nat_le, List, length}
 use Rattle.std.specs.List.{list_all}
 use Rattle.stop_history.specs.Event.{History}
-use Rattle.stop_explorer.specs.declared.command.ThreadCommand.{ThreadCommand}
-use Rattle.stop_explorer.specs.Places.{HasMorePlaces, HasPlaces}
-use Rattle.stop_explorer.specs.Program.{Log, own_commands}
-use Rattle.stop_explorer.specs.Progress.{is_quiet}
-use Rattle.stop_explorer.specs.Run.{AreDistinct, AreEndings, EndedRun, HasOutcome, IsRun, ended_run}
-use Rattle.stop_explorer.specs.Search.{commands_in}
+use Rattle.stop_program.specs.declared.command.ThreadCommand.{ThreadCommand}
+use Rattle.stop_program.specs.Order.{AreOrdered}
+use Rattle.stop_program.specs.Places.{HasMorePlaces, HasPlaces}
+use Rattle.stop_program.specs.Program.{Log, own_commands}
+use Rattle.stop_program.specs.Progress.{is_quiet}
+use Rattle.stop_program.specs.Run.{AreDistinct, AreEndings, EndedRun, HasOutcome, IsRun, ended_run}
+use Rattle.stop_program.specs.Threads.{commands_in}
 use Rattle.outcome_text.specs.declared.searched.Searched.{Searched}
 use Rattle.litmus_files.specs.declared.required.NumberedLine.{NumberedLine}
 use Rattle.outcome_text.specs.Chosen.{chosen_of, is_chosen}
@@ -41,13 +42,15 @@ all_required content = length content.requirements
 
 -- ---- what is found
 
--- the outcomes of a program: each run has one of them, each is a run's, and no two are one; and the number of the
--- places that its runs come by
+-- the outcomes of a program: each run has one of them, each is a run's, no two are one, and they are in order, each by
+-- its least run, so there is one such list (`outcomes_are_determined` of `stop_program`); and the number of the places
+-- that its runs come by
 pub record AreOutcomes (content : LitmusContent) (count : ℕ) (found : List EndedRun) (places : ℕ) : Type 0 where
   pub complete : (run : Log) (last : History) → IsRun content.rows (commands_with content count) run last
       → HasOutcome (is_quiet content.voices) (commands_with content count) found (ended_run content.rows run last)
   pub sound : AreEndings content.rows (length content.names) (commands_with content count) found
   pub distinct : AreDistinct (is_quiet content.voices) (commands_with content count) found
+  pub ordered : AreOrdered content.rows (is_quiet content.voices) (commands_with content count) found
   pub counted : HasPlaces content.rows (is_quiet content.voices) (commands_with content count) places
 
 abbrev pub HasMorePlacesWith : LitmusContent → (count budget : ℕ) → Type 0

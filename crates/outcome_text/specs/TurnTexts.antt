@@ -4,12 +4,12 @@ use Rattle.std.specs.Prelude.{◌≡◌, ◌+◌, ◌-◌, ◌++◌, ◌∷◌, 
 use Rattle.std.specs.Prelude.{Option, Some, get_or, slice_get}
 use Rattle.stop_history.specs.declared.roster.Row.{Row}
 use Rattle.stop_history.specs.declared.state.State.{State}
-use Rattle.stop_explorer.specs.declared.command.ThreadCommand.{ThreadCommand}
-use Rattle.stop_explorer.specs.declared.voice.Voice.{Voice}
-use Rattle.stop_explorer.specs.declared.turn.Turn.{Turn}
-use Rattle.stop_explorer.specs.Program.{Log, index_after, index_from, own_turns}
-use Rattle.stop_explorer.specs.Progress.{is_quiet}
-use Rattle.stop_explorer.specs.Search.{commands_in}
+use Rattle.stop_program.specs.declared.command.ThreadCommand.{ThreadCommand}
+use Rattle.stop_program.specs.declared.voice.Voice.{Voice}
+use Rattle.stop_program.specs.declared.turn.Turn.{Turn}
+use Rattle.stop_program.specs.Program.{Log, index_after, index_from, own_turns}
+use Rattle.stop_program.specs.Progress.{is_quiet}
+use Rattle.stop_program.specs.Threads.{commands_in}
 use Rattle.outcome_text.specs.declared.text.ToldProgram.{ToldProgram}
 use Rattle.outcome_text.specs.declared.turn_texts.WrittenTurn.{WrittenTurn}
 use Rattle.outcome_text.specs.KeptLines.{AreLinesKept, LineText}

@@ -2,8 +2,8 @@
 -- The refusals that states do not decide, NotNext and Full, are answers, and no command waits for them to pass.
 use Rattle.std.specs.Prelude.{ℕ, List, Option, None, slice_index_or}
 use Rattle.std.specs.Result.{result_err}
-use Rattle.stop_explorer.specs.declared.board_call.BoardCall.{BoardCall}
-use Rattle.stop_explorer.specs.declared.board_call.BoardCall.TheVariants as call
+use Rattle.stop_program.specs.declared.board_call.BoardCall.{BoardCall}
+use Rattle.stop_program.specs.declared.board_call.BoardCall.TheVariants as call
 use Rattle.stop_history.specs.declared.refused.Refused.{Refused}
 use Rattle.stop_history.specs.declared.roster.Row.{Row}
 use Rattle.stop_history.specs.declared.state.State.{State}

@@ -18,7 +18,7 @@ use replay_files::{
 };
 use std::alloc::Allocator;
 use stop_board::{Got, NoMemory, Refused, Row, State};
-use stop_explorer::{Answer, BoardCall, ThreadCommand, Turn, Which};
+use stop_program::{Answer, BoardCall, ThreadCommand, Turn, Which};
 
 /// Writes what a turn was answered, to the end of the line.
 pub(crate) fn write_answer<A: Allocator>(

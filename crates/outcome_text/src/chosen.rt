@@ -2,10 +2,10 @@
 
 ghost use Rattle.std.specs.Prelude.{◌≡◌, IfOk, is_none, length, slice_get};
 ghost use Rattle.std.specs.List.{list_all};
-ghost use Rattle.stop_explorer.specs.Program.{own_turns};
-ghost use Rattle.stop_explorer.specs.Progress.{has_reply, is_quiet};
-ghost use Rattle.stop_explorer.specs.Replies.{done_from};
-ghost use Rattle.stop_explorer.specs.Search.{commands_in};
+ghost use Rattle.stop_program.specs.Program.{own_turns};
+ghost use Rattle.stop_program.specs.Progress.{has_reply, is_quiet};
+ghost use Rattle.stop_program.specs.Replies.{done_from};
+ghost use Rattle.stop_program.specs.Threads.{commands_in};
 ghost use Rattle.outcome_text.specs.Chosen.{asks_nothing, chosen_of, ending_numbered, has_come_true, has_no_reply};
 ghost use Rattle.outcome_text.specs.Chosen.{has_thread_come_true, have_come_true, is_chosen, lacks_replies, was_done};
 
@@ -13,7 +13,8 @@ use crate::condition::conditions_hold;
 use litmus_files::Condition;
 use std::alloc::Allocator;
 use stop_board::NoMemory;
-use stop_explorer::{Explored, FoundRun, ThreadCommand, Turn, Voice, index_after};
+use stop_explorer::{Explored, FoundRun};
+use stop_program::{ThreadCommand, Turn, Voice, index_after};
 
 /// The commands of a thread. There are none past the last thread.
 pub(crate) fn thread_commands<A: Allocator>(

@@ -9,7 +9,7 @@ ghost use Rattle.replay_files.specs.Spelling.{death_words, kind_word, stop_words
 use replay_files::{tid_at, write_number};
 use std::alloc::Allocator;
 use stop_board::{NoMemory, Row};
-use stop_explorer::{BoardCall, ThreadCommand, Which};
+use stop_program::{BoardCall, ThreadCommand, Which};
 use trace_record::{Death, Kind, Resume, Stop};
 
 /// Writes a command, without the reply that it needs.

@@ -2,7 +2,7 @@
 
 ghost use Rattle.std.specs.Prelude.{◌≡◌, ◌<◌, ◌^◌, is_some};
 ghost use Rattle.std.specs.List.{list_all, list_any};
-ghost use Rattle.stop_explorer.specs.Search.{commands_in};
+ghost use Rattle.stop_program.specs.Threads.{commands_in};
 ghost use Rattle.outcome_text.specs.Conditions.{agrees, condition_holds, conditions_hold, waits_at_end};
 ghost use Rattle.replay_files.specs.StateName.{has_name};
 
@@ -12,7 +12,8 @@ use litmus_files::{Condition, Sense};
 use replay_files::{StateName, has_name};
 use std::alloc::Allocator;
 use stop_board::State;
-use stop_explorer::{FoundRun, ThreadCommand, Turn, command_after};
+use stop_explorer::FoundRun;
+use stop_program::{ThreadCommand, Turn, command_after};
 
 /// Whether all of these conditions hold.
 pub(crate) fn conditions_hold<A: Allocator>(

@@ -2,7 +2,7 @@
 //! threads that wait.
 
 ghost use Rattle.std.specs.Prelude.{◌≡◌, ◌<◌, ◌+◌, ◌^◌, ◌++◌, length, IfOk, OnOk, codes, map, string_bytes, zip};
-ghost use Rattle.stop_explorer.specs.Search.{commands_in};
+ghost use Rattle.stop_program.specs.Threads.{commands_in};
 ghost use Rattle.outcome_text.specs.Chosen.{chosen_of};
 ghost use Rattle.litmus_files.specs.LitmusDraft.{AreTexts, names_kept};
 ghost use Rattle.outcome_text.specs.OutcomeEnds.{AreTallied, ends_text, last_state, last_states, listed, more_listed};
@@ -17,7 +17,8 @@ use litmus_files::Condition;
 use replay_files::{state_word, write_number};
 use std::alloc::Allocator;
 use stop_board::{NoMemory, Row, State};
-use stop_explorer::{Explored, FoundRun, ThreadCommand, Turn};
+use stop_explorer::{Explored, FoundRun};
+use stop_program::{ThreadCommand, Turn};
 
 // ---- one end
 

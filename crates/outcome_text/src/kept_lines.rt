@@ -4,7 +4,7 @@ ghost use Rattle.std.specs.Prelude.{◌≡◌, ◌++◌, ◌+◌, ◌<◌, ℕ, 
 ghost use Rattle.std.specs.Prelude.{string_bytes};
 ghost use Rattle.std.specs.Bool.{OnTrue};
 ghost use Rattle.std.specs.List.{All};
-ghost use Rattle.stop_explorer.specs.declared.command.ThreadCommand.{ThreadCommand};
+ghost use Rattle.stop_program.specs.declared.command.ThreadCommand.{ThreadCommand};
 ghost use Rattle.outcome_text.specs.KeptLines.{AreLinesKept, IsEmptyLine, IsLineKept, kept_text};
 ghost use Rattle.litmus_files.specs.LitmusDraft.{AreTexts, names_kept};
 ghost use Rattle.outcome_text.specs.OutcomeText.{done_line, name_at, thread_word};
@@ -16,7 +16,7 @@ use crate::turn_texts::LINE;
 use std::alloc::Allocator;
 use std::marker::Model;
 use stop_board::{Got, NoMemory, Row};
-use stop_explorer::{Answer, ThreadCommand, Turn};
+use stop_program::{Answer, ThreadCommand, Turn};
 
 /// How many lines are kept.
 const SLOTS: usize = 512;

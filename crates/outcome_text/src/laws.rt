@@ -1,14 +1,14 @@
 //! Laws of the definitions: each function is its contract alone.
 
 ghost use Rattle.std.specs.Prelude.{◌≡◌, ◌≤◌, [], ℕ, Decides, false, true, List, Ok, Some};
-ghost use Rattle.stop_explorer.specs.declared.answer.Answer.TheVariants as answer;
-ghost use Rattle.stop_explorer.specs.declared.board_call.BoardCall.{BoardCall};
-ghost use Rattle.stop_explorer.specs.declared.command.ThreadCommand.{ThreadCommand};
-ghost use Rattle.stop_explorer.specs.BoardCall.{answer_to};
-ghost use Rattle.stop_explorer.specs.Command.{is_lasting_refusal};
-ghost use Rattle.stop_explorer.specs.Program.{Log};
-ghost use Rattle.stop_explorer.specs.Replies.{AreSoAnswered, HaveComeTrue, done_by_thread, without_replies};
-ghost use Rattle.stop_explorer.specs.Run.{IsRun, ended_run, states_of};
+ghost use Rattle.stop_program.specs.declared.answer.Answer.TheVariants as answer;
+ghost use Rattle.stop_program.specs.declared.board_call.BoardCall.{BoardCall};
+ghost use Rattle.stop_program.specs.declared.command.ThreadCommand.{ThreadCommand};
+ghost use Rattle.stop_program.specs.BoardCall.{answer_to};
+ghost use Rattle.stop_program.specs.Command.{is_lasting_refusal};
+ghost use Rattle.stop_program.specs.Program.{Log};
+ghost use Rattle.stop_program.specs.Replies.{AreSoAnswered, HaveComeTrue, done_by_thread, without_replies};
+ghost use Rattle.stop_program.specs.Run.{IsRun, ended_run, states_of};
 ghost use Rattle.stop_history.specs.Event.{History};
 ghost use Rattle.stop_history.specs.State.{state_after};
 ghost use Rattle.stop_history.specs.declared.refused.Refused.{Refused};
@@ -20,7 +20,7 @@ ghost use Rattle.litmus_files.specs.LitmusFile.{LitmusContent, litmus_content_of
 ghost use Rattle.litmus_files.specs.Required.{conditions_with};
 ghost use Rattle.outcome_text.specs.Waiting.{state_at, waiting_refusal};
 
-use stop_explorer::laws::replies_choose_runs;
+use stop_program::laws::replies_choose_runs;
 
 /// The refusal that a call is said to wait for is the one that it gets at each history that leaves these states, if
 /// that one may pass; and it gets each that is said.

@@ -2,8 +2,8 @@
 
 ghost use Rattle.std.specs.Io.KnownBytes.{Appends};
 ghost use Rattle.std.specs.Prelude.{◌≡◌, ◌<◌, ◌≤◌, ◌++◌, [], IfErr, IfOk, OnOk, Some, length, slice_get, string_bytes};
+ghost use Rattle.stop_program.specs.Threads.{commands_in};
 ghost use Rattle.stop_explorer.specs.OutcomeReader.{BeginAlike};
-ghost use Rattle.stop_explorer.specs.Search.{commands_in};
 ghost use Rattle.outcome_text.specs.Chosen.{chosen_of};
 ghost use Rattle.outcome_text.specs.CutOff.{IsCollected, IsCutOff};
 ghost use Rattle.litmus_files.specs.LitmusDraft.{AreTexts, names_kept};

@@ -1,7 +1,7 @@
 //! The order of an outcome as a replay file: `tracer replay` runs it.
 
 ghost use Rattle.std.specs.Prelude.{◌≡◌, ◌++◌, length, IfOk, IfSome, OnOk, option_map, string_bytes};
-ghost use Rattle.stop_explorer.specs.Search.{commands_in};
+ghost use Rattle.stop_program.specs.Threads.{commands_in};
 ghost use Rattle.outcome_text.specs.Chosen.{chosen_of};
 ghost use Rattle.litmus_files.specs.LitmusGrammar.{HasTracer};
 ghost use Rattle.outcome_text.specs.OutcomeOrder.{HaveTracers, ending_replay, order_of_turn};
@@ -15,7 +15,8 @@ use litmus_files::Condition;
 use replay_files::{Command, Order};
 use std::alloc::Allocator;
 use stop_board::{NoMemory, Row};
-use stop_explorer::{BoardCall, Explored, FoundRun, ThreadCommand, Turn, command_after};
+use stop_explorer::{Explored, FoundRun};
+use stop_program::{BoardCall, ThreadCommand, Turn, command_after};
 
 /// The command that a turn did, after the turns before it.
 pub(crate) fn command_of_turn<A: Allocator>(

@@ -9,7 +9,7 @@ use crate::command_text::write_call;
 use replay_files::{Command, Order};
 use std::alloc::Allocator;
 use stop_board::{NoMemory, Row};
-use stop_explorer::{BoardCall, Which};
+use stop_program::{BoardCall, Which};
 
 /// Writes rows, each as its line.
 pub(crate) fn write_rows<A: Allocator>(out: &mut String<A>, rows: &[Row]) -> Result<(), NoMemory>

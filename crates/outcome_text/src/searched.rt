@@ -2,7 +2,7 @@
 
 ghost use Rattle.std.specs.Prelude.{◌≡◌, ◌==◌, Err, IfOk, length, not};
 ghost use Rattle.std.specs.List.{list_any};
-ghost use Rattle.stop_explorer.specs.Search.{commands_in};
+ghost use Rattle.stop_program.specs.Threads.{commands_in};
 ghost use Rattle.litmus_files.specs.LitmusDraft.{IsLitmusFile, content_in};
 ghost use Rattle.outcome_text.specs.Chosen.{is_chosen};
 ghost use Rattle.outcome_text.specs.Searched.{HasMorePlacesWith, IsSearched, chosen_with, forbids};
@@ -11,8 +11,9 @@ use crate::chosen::is_chosen;
 use litmus_files::{Condition, LitmusFile, conditions_with, program_with};
 use std::alloc::Global;
 use stop_board::NoMemory;
-use stop_explorer::laws::places_have_one_number;
-use stop_explorer::{ExploreError, Explored, FoundRun, ThreadCommand, commands_of, explore};
+use stop_explorer::{ExploreError, Explored, FoundRun, explore};
+use stop_program::laws::places_have_one_number;
+use stop_program::{ThreadCommand, commands_of};
 
 /// What a search found: the outcomes of the program with the first n of the replies and conditions of its file, beside
 /// that program and these conditions.

@@ -2,9 +2,9 @@
 
 ghost use Rattle.std.specs.Prelude.{◌≡◌, ◌++◌, IfOk, IfSome, IsUtf8, OnOk, Some, decimal};
 ghost use Rattle.std.specs.Prelude.{option_copied, option_map, string_bytes};
-ghost use Rattle.stop_explorer.specs.Program.{own_turns};
-ghost use Rattle.stop_explorer.specs.Run.{EndedRun};
-ghost use Rattle.stop_explorer.specs.Search.{commands_in};
+ghost use Rattle.stop_program.specs.Program.{own_turns};
+ghost use Rattle.stop_program.specs.Run.{EndedRun};
+ghost use Rattle.stop_program.specs.Threads.{commands_in};
 ghost use Rattle.litmus_files.specs.LitmusDraft.{AreTexts, names_kept};
 ghost use Rattle.outcome_text.specs.OutcomeText.{allowed_line, counts_line, forbidden_line, name_at};
 ghost use Rattle.outcome_text.specs.OutcomeText.{outcome_line, outcome_text, thread_head, thread_text, thread_word};
@@ -19,7 +19,8 @@ use itoa::Buffer;
 use replay_files::write_state;
 use std::alloc::Allocator;
 use stop_board::{NoMemory, Row, State};
-use stop_explorer::{FoundRun, ThreadCommand, Voice};
+use stop_explorer::FoundRun;
+use stop_program::{ThreadCommand, Voice};
 
 /// A program, as the texts of its outcomes tell of it: the rows of its board, the names and the voices of its threads,
 /// and their commands.

@@ -15,7 +15,7 @@ use crate::text::{ToldProgram, name_at, write_thread_head};
 use std::alloc::Allocator;
 use std::marker::Model;
 use stop_board::{NoMemory, Row};
-use stop_explorer::{ThreadCommand, Turn, index_after};
+use stop_program::{ThreadCommand, Turn, index_after};
 
 /// At least the bytes of each line of an outcome: 32 of a name, 50 of a command and 35 of an answer.
 pub(crate) const LINE: usize = 128;

@@ -3,7 +3,7 @@
 use Rattle.std.specs.Prelude.{◌≡◌, ◌≤◌, ℕ, Bool, true, false, List, Option, Some, None, Result, Ok, Err, IsOkAnd}
 use Rattle.std.specs.Prelude.{if◌then◌else◌}
 use Rattle.std.specs.Io.KnownBytes.{Appends}
-use Rattle.stop_explorer.specs.Run.{EndedRun}
+use Rattle.stop_program.specs.Run.{EndedRun}
 use Rattle.trace_script.specs.declared.cause.CaseError.{CaseError}
 use Rattle.tracer_cli.specs.declared.arguments.ExploreOptions.{ExploreOptions}
 use Rattle.tracer_cli.specs.declared.arguments.Listing.{Listing}

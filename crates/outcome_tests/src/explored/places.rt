@@ -4,7 +4,7 @@ use crate::compare::same;
 use crate::explored::programs::of_three;
 use std::test::Fail;
 use stop_board::Got;
-use stop_explorer::{Answer, Turn, command_after, commands_of, index_after};
+use stop_program::{Answer, Turn, command_after, commands_of, index_after};
 
 /// The turn of a thread that claims the first stop of the row.
 fn claims(thread: u32) -> Turn {

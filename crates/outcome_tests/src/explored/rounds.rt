@@ -13,7 +13,7 @@ use std::test::Fail;
 use std::thread;
 use std::thread::Threads;
 use std::time::{Clock, Instant};
-use stop_explorer::Voice;
+use stop_program::Voice;
 use test_support::{AtRest, Cast, open_for, roots};
 
 /// How many rows the cells have, a round for each, and how often cells are opened.

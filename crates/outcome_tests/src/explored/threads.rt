@@ -8,7 +8,7 @@ use std::sync::Wait;
 use std::sync::atomic::{AtomicU32, Ordering};
 use std::thread;
 use stop_board::{Got, Refused};
-use stop_explorer::Answer;
+use stop_program::Answer;
 use stop_table::Shown;
 use test_support::{Answer as Claimed, AtRest, Desk};
 use trace_record::Stop;

@@ -3,7 +3,7 @@
 use crate::explored::programs::Round;
 use std::alloc::{AllocError, Global};
 use stop_board::Got;
-use stop_explorer::Answer;
+use stop_program::Answer;
 
 /// What a thread was answered. `done` is the word for a command that was simply done.
 fn word_of(alloc: Global, answer: Answer, done: &str) -> Result<String, AllocError> {

@@ -3,7 +3,7 @@
 use crate::explorer::all_orders::ROWS;
 use crate::explorer::all_orders::random_numbers::RandomNumbers;
 use stop_board::Refused;
-use stop_explorer::{BoardCall, WantedAnswer, WantedGot, WantedReply, WantedState};
+use stop_program::{BoardCall, WantedAnswer, WantedGot, WantedReply, WantedState};
 
 /// The status of a syscall-enter-stop: SIGTRAP with `PTRACE_O_TRACESYSGOOD` (ptrace(2), "Syscall-stops").
 const ENTERED: u32 = 0x857f;

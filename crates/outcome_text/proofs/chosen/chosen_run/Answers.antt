@@ -1,6 +1,6 @@
 -- The next outcome that is printed has the next number; where nothing is asked, each outcome has its own.
 use Rattle.std.proofs.Common.{◌≡◌, ◌∙◌, ◌+◌, ◌-◌, IfOk, ap, arith, drop, length, subst, sym}
-use Rattle.stop_explorer.specs.Search.{commands_in}
+use Rattle.stop_program.specs.Threads.{commands_in}
 use Rattle.outcome_text.specs.Chosen.{chosen_of, ending_numbered}
 use Rattle.outcome_text.proofs.AllChosen.{all_chosen}
 use Rattle.outcome_text.proofs.OutcomeLines.{chosen_here, chosen_not_here, numbered_first, numbered_next}

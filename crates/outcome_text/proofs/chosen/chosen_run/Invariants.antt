@@ -1,6 +1,6 @@
 -- Among those left it has the number less those so far.
 use Rattle.std.proofs.Common.{◌≡◌, ◌≤◌, ◌-◌, drop, length}
-use Rattle.stop_explorer.specs.Search.{commands_in}
+use Rattle.stop_program.specs.Threads.{commands_in}
 use Rattle.outcome_text.specs.Chosen.{chosen_of, ending_numbered}
 use Rattle.outcome_text.proofs.chosen.chosen_run.Given as goal
 

@@ -1,6 +1,6 @@
 -- The next outcome is chosen, or left out; where nothing is asked, all are chosen.
 use Rattle.std.proofs.Common.{◌∙◌, ap, arith, length, sym}
-use Rattle.stop_explorer.specs.Search.{commands_in}
+use Rattle.stop_program.specs.Threads.{commands_in}
 use Rattle.outcome_text.proofs.AllChosen.{all_chosen}
 use Rattle.outcome_text.proofs.OutcomeLines.{chosen_here, chosen_not_here}
 use Rattle.outcome_text.proofs.chosen.count_chosen.Goals as goal

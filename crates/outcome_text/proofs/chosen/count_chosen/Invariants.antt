@@ -1,6 +1,6 @@
 -- Those so far and those left are all.
 use Rattle.std.proofs.Common.{◌≡◌, ◌≤◌, ◌+◌, drop, length}
-use Rattle.stop_explorer.specs.Search.{commands_in}
+use Rattle.stop_program.specs.Threads.{commands_in}
 use Rattle.outcome_text.specs.Chosen.{chosen_of}
 use Rattle.outcome_text.proofs.chosen.count_chosen.Given as goal
 

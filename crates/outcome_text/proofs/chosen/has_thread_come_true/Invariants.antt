@@ -1,8 +1,8 @@
 -- Each reply so far came true.
 use Rattle.std.proofs.Common.{◌≡◌, ◌-◌, ℕ, Bool, length}
 use Rattle.std.specs.List.{list_all, range_with_len}
-use Rattle.stop_explorer.specs.Program.{own_turns}
-use Rattle.stop_explorer.specs.Replies.{done_from}
+use Rattle.stop_program.specs.Program.{own_turns}
+use Rattle.stop_program.specs.Replies.{done_from}
 use Rattle.outcome_text.specs.Chosen.{has_come_true}
 use Rattle.outcome_text.proofs.chosen.has_thread_come_true.Given as goal
 

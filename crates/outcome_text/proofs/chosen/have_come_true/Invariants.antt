@@ -1,8 +1,8 @@
 -- The replies of each thread so far came true.
 use Rattle.std.proofs.Common.{◌≡◌, ◌-◌, ℕ, Bool, length}
 use Rattle.std.specs.List.{list_all, range_with_len}
-use Rattle.stop_explorer.specs.Replies.{done_by_thread}
-use Rattle.stop_explorer.specs.Search.{commands_in}
+use Rattle.stop_program.specs.Replies.{done_by_thread}
+use Rattle.stop_program.specs.Threads.{commands_in}
 use Rattle.outcome_text.specs.Chosen.{has_thread_come_true}
 use Rattle.outcome_text.proofs.chosen.have_come_true.Given as goal
 

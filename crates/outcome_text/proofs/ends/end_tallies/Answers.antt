@@ -1,8 +1,8 @@
 -- The next outcome that is printed is counted by its end.
 use Rattle.std.proofs.Common.{◌≡◌, ◌∙◌, ◌+◌, ◌++◌, ◌∷◌, [], ℕ, List, ap, append-nil, append_assoc, arith, drop, length}
 use Rattle.std.proofs.Common.{map, refl, string_bytes, subst, sym}
-use Rattle.stop_explorer.specs.Run.{EndedRun}
-use Rattle.stop_explorer.specs.Search.{commands_in}
+use Rattle.stop_program.specs.Run.{EndedRun}
+use Rattle.stop_program.specs.Threads.{commands_in}
 use Rattle.outcome_text.specs.Chosen.{chosen_of}
 use Rattle.litmus_files.specs.LitmusDraft.{names_kept}
 use Rattle.outcome_text.specs.OutcomeEnds.{AreTallied, outcome_end}

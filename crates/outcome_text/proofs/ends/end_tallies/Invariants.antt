@@ -1,6 +1,6 @@
 -- The ends so far are counted, and with those of the outcomes that are left they are all ends.
 use Rattle.std.proofs.Common.{◌≡◌, ◌≤◌, ◌++◌, ℕ, List, drop, length, map}
-use Rattle.stop_explorer.specs.Search.{commands_in}
+use Rattle.stop_program.specs.Threads.{commands_in}
 use Rattle.outcome_text.specs.Chosen.{chosen_of}
 use Rattle.litmus_files.specs.LitmusDraft.{names_kept}
 use Rattle.outcome_text.specs.OutcomeEnds.{AreTallied, outcome_end}

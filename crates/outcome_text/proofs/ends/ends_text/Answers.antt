@@ -4,8 +4,8 @@ use Rattle.std.specs.List.{All}
 use Rattle.std.specs.Prelude.{String}
 use Rattle.std.proofs.lemmas.List.{length-map}
 use Rattle.std.proofs.lemmas.List.Elements.{All-weaker}
-use Rattle.stop_explorer.specs.Run.{EndedRun}
-use Rattle.stop_explorer.specs.Search.{commands_in}
+use Rattle.stop_program.specs.Run.{EndedRun}
+use Rattle.stop_program.specs.Threads.{commands_in}
 use Rattle.litmus_files.specs.LitmusDraft.{names_kept}
 use Rattle.outcome_text.specs.Chosen.{chosen_of}
 use Rattle.outcome_text.specs.OutcomeEnds.{end_line, ends_lines, outcome_end}

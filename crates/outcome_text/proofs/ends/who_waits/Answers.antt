@@ -1,7 +1,7 @@
 -- The next thread waits, or is left out.
 use Rattle.std.proofs.Common.{◌∙◌, ◌+◌, ◌-◌, ◌++◌, ℕ, Bool, List, ap, filter, length, map, string_bytes, sym}
 use Rattle.std.specs.List.{range_with_len}
-use Rattle.stop_explorer.specs.Search.{commands_in}
+use Rattle.stop_program.specs.Threads.{commands_in}
 use Rattle.outcome_text.specs.Conditions.{waits_at_end}
 use Rattle.litmus_files.specs.LitmusDraft.{names_kept}
 use Rattle.outcome_text.specs.OutcomeText.{name_at, thread_word}

@@ -1,7 +1,7 @@
 -- The words so far, and those of the threads that are left, are all words.
 use Rattle.std.proofs.Common.{◌≡◌, ◌+◌, ◌-◌, ◌++◌, filter, length, map, string_bytes}
 use Rattle.std.specs.List.{range_with_len}
-use Rattle.stop_explorer.specs.Search.{commands_in}
+use Rattle.stop_program.specs.Threads.{commands_in}
 use Rattle.outcome_text.specs.Conditions.{waits_at_end}
 use Rattle.litmus_files.specs.LitmusDraft.{names_kept}
 use Rattle.outcome_text.specs.OutcomeEnds.{waiting_words}

@@ -1,6 +1,6 @@
 -- The outcomes that were found with all requirements decide, where each reply is among the first n; or those with these.
 use Rattle.std.proofs.Common.{◌≡◌, ◌∙◌, ap, length, sym, true}
-use Rattle.stop_explorer.specs.Search.{commands_in}
+use Rattle.stop_program.specs.Threads.{commands_in}
 use Rattle.outcome_text.specs.Searched.{have_numbers_to}
 use Rattle.litmus_files.specs.LitmusDraft.{content_in}
 use Rattle.litmus_files.specs.Required.{conditions_with}

@@ -1,7 +1,7 @@
 -- The threads of a file leave loops forward, so its replies choose among the runs of its program without them.
 use Rattle.std.proofs.Common.{[], ◌≡◌, ◌≤◌, length, ℕ}
-use Rattle.stop_explorer.specs.Run.{EndedRun, ended_run}
-use Rattle.stop_explorer.proofs.Commands.{no_commands}
+use Rattle.stop_program.specs.Run.{EndedRun, ended_run}
+use Rattle.stop_program.proofs.Commands.{no_commands}
 use Rattle.outcome_text.specs.Searched.{all_required, commands_with}
 use Rattle.litmus_files.specs.Required.{conditions_with, program_with}
 use Rattle.outcome_text.proofs.CameTrue.{came_true, chosen_parts}

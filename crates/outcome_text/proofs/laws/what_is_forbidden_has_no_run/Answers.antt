@@ -1,7 +1,7 @@
 -- A run in which all replies came true is a run with replies, and if the conditions held at its end, all could be met.
 use Rattle.std.proofs.Common.{◌≡◌, false, inl, inr, length, true}
 use Rattle.std.proofs.lemmas.Bool.{cases_Bool}
-use Rattle.stop_explorer.specs.Run.{EndedRun, ended_run}
+use Rattle.stop_program.specs.Run.{EndedRun, ended_run}
 use Rattle.outcome_text.specs.Chosen.{have_come_true}
 use Rattle.outcome_text.specs.Conditions.{conditions_hold}
 use Rattle.outcome_text.specs.Searched.{all_required, commands_with}

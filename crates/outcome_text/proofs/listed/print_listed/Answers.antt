@@ -1,6 +1,6 @@
 -- By what is kept of the file and of what was found.
 use Rattle.std.proofs.Common.{◌∙◌, ap, length}
-use Rattle.stop_explorer.specs.Search.{commands_in}
+use Rattle.stop_program.specs.Threads.{commands_in}
 use Rattle.litmus_files.specs.LitmusDraft.{content_in, names_kept}
 use Rattle.outcome_text.proofs.SearchedFiles.{printed_are}
 use Rattle.outcome_text.proofs.listed.print_listed.Goals as goal

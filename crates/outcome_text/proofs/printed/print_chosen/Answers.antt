@@ -1,9 +1,9 @@
 -- The next outcome is printed with the next number, or is left out.
 use Rattle.std.proofs.Common.{◌≡◌, ◌∙◌, ◌+◌, Some, ap, arith, drop, length, slice_get, string_bytes, subst, sym}
 use Rattle.std.proofs.lemmas.List.{nil_from_length}
+use Rattle.stop_program.specs.Run.{EndedRun}
+use Rattle.stop_program.specs.Threads.{commands_in}
 use Rattle.stop_explorer.specs.OutcomeReader.{BeginAlike}
-use Rattle.stop_explorer.specs.Run.{EndedRun}
-use Rattle.stop_explorer.specs.Search.{commands_in}
 use Rattle.outcome_text.specs.Chosen.{chosen_of}
 use Rattle.litmus_files.specs.LitmusDraft.{names_kept}
 use Rattle.outcome_text.specs.OutcomeText.{IsTextOfStates, outcome_text, outcome_texts}

@@ -1,7 +1,7 @@
 -- What is written and collected, and the outcomes that are left, are what was collected before and all outcomes.
 use Rattle.std.proofs.Common.{◌≡◌, ◌≤◌, ◌+◌, drop, length, string_bytes}
+use Rattle.stop_program.specs.Threads.{commands_in}
 use Rattle.stop_explorer.specs.OutcomeReader.{BeginAlike}
-use Rattle.stop_explorer.specs.Search.{commands_in}
 use Rattle.outcome_text.specs.Chosen.{chosen_of}
 use Rattle.litmus_files.specs.LitmusDraft.{names_kept}
 use Rattle.outcome_text.specs.OutcomeText.{IsTextOfStates, outcome_texts}

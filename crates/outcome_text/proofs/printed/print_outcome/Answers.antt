@@ -1,6 +1,6 @@
 -- What was collected is the text so far and that of the outcome; or nothing of both is written.
 use Rattle.std.proofs.Common.{◌++◌, string_bytes}
-use Rattle.stop_explorer.specs.Search.{commands_in}
+use Rattle.stop_program.specs.Threads.{commands_in}
 use Rattle.litmus_files.specs.LitmusDraft.{names_kept}
 use Rattle.outcome_text.specs.OutcomeText.{outcome_text}
 use Rattle.outcome_text.proofs.TextOfParts.{cut_off_as, none_written}

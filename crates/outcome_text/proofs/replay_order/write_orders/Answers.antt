@@ -1,6 +1,6 @@
 -- The next turn has its line, if it is about a row.
 use Rattle.std.proofs.Common.{◌∙◌, ◌+◌, ◌++◌, ap, drop, string_bytes, sym, take}
-use Rattle.stop_explorer.specs.Search.{commands_in}
+use Rattle.stop_program.specs.Threads.{commands_in}
 use Rattle.outcome_text.specs.OutcomeOrder.{orders_after}
 use Rattle.replay_files.specs.Spelling.{orders_text}
 use Rattle.outcome_text.proofs.OutcomeLines.{no_piece, one_piece}

@@ -1,6 +1,6 @@
 -- What is written, and the orders of the turns that are left, are all orders.
 use Rattle.std.proofs.Common.{◌≡◌, ◌++◌, drop, string_bytes, take}
-use Rattle.stop_explorer.specs.Search.{commands_in}
+use Rattle.stop_program.specs.Threads.{commands_in}
 use Rattle.outcome_text.specs.OutcomeOrder.{orders_after, orders_of}
 use Rattle.replay_files.specs.Spelling.{orders_text}
 use Rattle.outcome_text.proofs.replay_order.write_orders.Given as goal

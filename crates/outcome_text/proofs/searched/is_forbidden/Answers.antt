@@ -1,6 +1,6 @@
 -- By the program and the conditions that were searched.
 use Rattle.std.proofs.Common.{◌∙◌, ap, length}
-use Rattle.stop_explorer.specs.Search.{commands_in}
+use Rattle.stop_program.specs.Threads.{commands_in}
 use Rattle.outcome_text.specs.Searched.{is_chosen_with}
 use Rattle.litmus_files.specs.LitmusDraft.{content_in}
 use Rattle.outcome_text.proofs.SearchedFiles.{some_chosen_is}

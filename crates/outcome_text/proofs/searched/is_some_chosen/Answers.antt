@@ -1,6 +1,6 @@
 -- The next outcome is chosen, or one of the others is.
 use Rattle.std.proofs.Common.{◌∙◌, length, sym}
-use Rattle.stop_explorer.specs.Search.{commands_in}
+use Rattle.stop_program.specs.Threads.{commands_in}
 use Rattle.outcome_text.specs.Chosen.{is_chosen}
 use Rattle.outcome_text.proofs.SomeChosen.{some_here, some_later}
 use Rattle.outcome_text.proofs.searched.is_some_chosen.Goals as goal

@@ -1,7 +1,7 @@
 -- Some outcome is chosen where one of those left is.
 use Rattle.std.proofs.Common.{◌≡◌, drop, length}
 use Rattle.std.specs.List.{list_any}
-use Rattle.stop_explorer.specs.Search.{commands_in}
+use Rattle.stop_program.specs.Threads.{commands_in}
 use Rattle.outcome_text.specs.Chosen.{is_chosen}
 use Rattle.outcome_text.proofs.searched.is_some_chosen.Given as goal
 

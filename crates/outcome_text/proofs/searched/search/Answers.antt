@@ -1,11 +1,13 @@
 -- What was found is of the program with the first n requirements.
-use Rattle.std.proofs.Common.{◌≡◌, ◌∙◌, ◌<◌, ap, arith, length, subst, sym}
+use Rattle.std.proofs.Common.{◌≡◌, ◌∙◌, ◌<◌, ℕ, List, ap, arith, length, subst, sym}
 use Rattle.std.specs.List.{All}
-use Rattle.stop_explorer.specs.BoardCall.{IsBoardCall}
-use Rattle.stop_explorer.specs.Program.{Program}
+use Rattle.stop_program.specs.declared.voice.Voice.{Voice}
+use Rattle.stop_program.specs.BoardCall.{IsBoardCall}
+use Rattle.stop_program.specs.Program.{Program, own_commands}
 use Rattle.litmus_files.specs.LitmusDraft.{content_in}
-use Rattle.litmus_files.specs.Required.{program_with}
-use Rattle.outcome_text.proofs.SearchedFiles.{not_more_with}
+use Rattle.litmus_files.specs.Required.{conditions_with, program_with}
+use Rattle.litmus_files.proofs.LitmusFiles.{length_kept}
+use Rattle.outcome_text.proofs.SearchedFiles.{AreFound, not_more_with, outcomes_of}
 use Rattle.outcome_text.proofs.Unmet.{calls_with, threads_with}
 use Rattle.outcome_text.proofs.searched.search.Goals as goal
 
@@ -50,3 +52,31 @@ returns-clause-few c =
     (c.as_slice-lines.ensures.value ∙ c.in_ok-program.ensures ∙ ap (program_with c.args.count) c.as_slice.ensures.value)
     c.as_slice-voices.ensures.value c.in_ok-explored.ensures.places c.in_ok-explored.ensures.within
     c.places_have_one_number.ensures.more
+
+pub returns-clause-found : goal.returns-clause-found
+returns-clause-found c =
+    let content = content_in c.args.file.now in
+    let explored = c.in_ok-explored.ensures in
+    let program_is = c.as_slice-lines.ensures.value ∙ c.in_ok-program.ensures
+    ∙ ap (program_with c.args.count) c.as_slice.ensures.value in
+    let named = length_kept c.args.file.now.names.items in
+    let voiced = ap (λ (vs : List Voice). length vs) c.as_slice-voices.ensures.value ∙ c.requires.voices in
+    let found : AreFound content.rows c.as_slice-voices.result.now (length c.as_slice-voices.result.now)
+    c.as_slice-lines.result.now c.in_ok-explored.explored.runs c.in_ok-explored.explored.places = record {
+      complete = explored.complete;
+      sound = explored.sound;
+      distinct = explored.distinct;
+      ordered = explored.ordered;
+      counted = explored.places;
+    } in
+    record {
+      threads = omega (arith, c.in_ok-commands.ensures.long, c.len.ensures, named, c.args.file.now.names.ok.0);
+      commands =
+          λ thread. c.in_ok-commands.ensures.commands thread ∙ ap (λ (p : Program). own_commands p thread) program_is;
+      conditions = c.in_ok-conditions.ensures ∙ ap (conditions_with c.args.count) c.as_slice-2.ensures.value;
+      all = outcomes_of content c.args.count c.in_ok-explored.explored.places c.in_ok-explored.explored.runs
+          (subst (λ (q : List Voice × ℕ × Program). AreFound content.rows q.0 q.1 q.2 c.in_ok-explored.explored.runs
+          c.in_ok-explored.explored.places)
+          (λ i. (c.as_slice-voices.ensures.value i, (voiced ∙ sym named) i, program_is i)) found);
+      few = explored.within;
+    }

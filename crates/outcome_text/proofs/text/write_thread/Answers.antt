@@ -1,8 +1,8 @@
 -- The text of the thread, and its last line.
 use Rattle.std.proofs.Common.{◌≡◌, ◌++◌, ◌∙◌, List, OnOk, ap, append_assoc, slice_get, string_bytes, subst}
 use Rattle.std.specs.Option.{option_copied}
-use Rattle.stop_explorer.specs.declared.command.ThreadCommand.{ThreadCommand}
-use Rattle.stop_explorer.specs.Progress.{is_quiet}
+use Rattle.stop_program.specs.declared.command.ThreadCommand.{ThreadCommand}
+use Rattle.stop_program.specs.Progress.{is_quiet}
 use Rattle.outcome_text.specs.OutcomeText.{name_at, thread_text}
 use Rattle.outcome_text.specs.TurnTexts.{ThreadText, closing_line, text_source}
 use Rattle.outcome_text.proofs.TurnTexts.{thread_whole}

@@ -2,8 +2,8 @@
 use Rattle.std.proofs.Common.{◌<◌, ◌≤◌, ◌∙◌, ap, arith, length, string_bytes, subst, sym}
 use Rattle.std.proofs.lemmas.List.{length-map}
 use Rattle.std.proofs.lemmas.Option.{same_Some}
-use Rattle.stop_explorer.specs.Program.{Log, own_turns}
-use Rattle.stop_explorer.specs.Search.{commands_in}
+use Rattle.stop_program.specs.Program.{Log, own_turns}
+use Rattle.stop_program.specs.Threads.{commands_in}
 use Rattle.outcome_text.specs.TurnTexts.{text_source, thread_so_far}
 use Rattle.outcome_text.proofs.OutcomeLines.{no_piece, threads_more, threads_over}
 use Rattle.outcome_text.proofs.text.write_threads.Goals as goal

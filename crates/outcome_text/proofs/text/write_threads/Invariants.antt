@@ -1,6 +1,6 @@
 -- What is written, and the threads that are left, are all threads.
 use Rattle.std.proofs.Common.{◌≡◌, ◌++◌, drop, string_bytes}
-use Rattle.stop_explorer.specs.Search.{commands_in}
+use Rattle.stop_program.specs.Threads.{commands_in}
 use Rattle.litmus_files.specs.LitmusDraft.{names_kept}
 use Rattle.outcome_text.specs.OutcomeText.{threads_text}
 use Rattle.outcome_text.proofs.text.write_threads.Given as goal

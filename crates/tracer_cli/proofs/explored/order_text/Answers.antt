@@ -1,6 +1,6 @@
 -- By the commands of each thread, which are the file's own.
 use Rattle.std.proofs.Common.{◌∙◌, ap, length}
-use Rattle.stop_explorer.specs.Search.{commands_in}
+use Rattle.stop_program.specs.Threads.{commands_in}
 use Rattle.litmus_files.specs.Required.{program_with}
 use Rattle.outcome_text.proofs.SearchedFiles.{have_tracers}
 use Rattle.outcome_text.proofs.Unmet.{asked_with}

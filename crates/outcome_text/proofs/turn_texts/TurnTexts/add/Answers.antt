@@ -4,7 +4,7 @@ use Rattle.std.proofs.Common.{inl, inr, length, refl, slice_get, slice_set, subs
 use Rattle.std.proofs.lemmas.Bool.{cases_lt}
 use Rattle.std.proofs.lemmas.Option.{same_Some, slice_get_read}
 use Rattle.std.specs.Option.{option_copied}
-use Rattle.stop_explorer.specs.declared.command.ThreadCommand.{ThreadCommand}
+use Rattle.stop_program.specs.declared.command.ThreadCommand.{ThreadCommand}
 use Rattle.outcome_text.specs.declared.turn_texts.WrittenTurn.{WrittenTurn}
 use Rattle.outcome_text.specs.KeptLines.{AreLinesKept, LineText, kept_text}
 use Rattle.outcome_text.specs.OutcomeText.{done_line, name_at, turn_line}

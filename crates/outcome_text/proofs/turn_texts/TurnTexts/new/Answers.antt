@@ -3,7 +3,7 @@ use Rattle.std.proofs.Common.{◌≡◌, ◌≤◌, ◌++◌, ◌∙◌, ap, ari
 use Rattle.std.proofs.Math.Nat.{le-max_left, le-max_right}
 use Rattle.std.proofs.lemmas.List.{length-map}
 use Rattle.std.proofs.lemmas.Option.{slice_get_past}
-use Rattle.stop_explorer.specs.Search.{commands_in, items_in}
+use Rattle.stop_program.specs.Threads.{commands_in, items_in}
 use Rattle.litmus_files.specs.LitmusDraft.{names_kept}
 use Rattle.outcome_text.specs.TurnTexts.{text_source}
 use Rattle.outcome_text.proofs.KeptLines.{empty_lines}

@@ -40,7 +40,7 @@ use Rattle.replay_files.specs.Grammar.{tracer_number}
 use Rattle.replay_files.specs.Spelling.{IsSpelledStop, command_words, death_words, kind_word, stop_words}
 use Rattle.litmus_files.specs.declared.keyword.CommandKeyword.{CommandKeyword}
 use Rattle.litmus_files.specs.declared.keyword.CommandKeyword.TheVariants.{Publish, Exit, State, Claim, Wait, Look}
-use Rattle.litmus_files.specs.declared.keyword.CommandKeyword.TheVariants.{Peek, Resume}
+use Rattle.litmus_files.specs.declared.keyword.CommandKeyword.TheVariants.{ExitGroup, Kill, Peek, Resume}
 use Rattle.litmus_files.specs.declared.keyword.LitmusKeyword.TheVariants as keyword
 use Rattle.litmus_files.specs.declared.line.Aim.{Aim}
 use Rattle.litmus_files.specs.declared.line.Aim.TheVariants as aim
@@ -303,6 +303,33 @@ command_line rows (call.Resume c how) (which.Row row) waits roster asks spelled 
     (tid_said tid (codes "it") aim.It id refl) (known_row rows row roster there) waiting
 command_line rows (call.Resume c how) which.Last waits roster asks spelled there waiting =
     resume_line rows which.Last c how waits asks.1 asks.0 refl refl refl refl waiting
+command_line rows call.Kill (which.Row row) waits roster asks spelled there waiting =
+    let tid : ℕ = (row_at rows row).tid in
+    let id = known_id rows row roster there in
+    let said : LitmusCommand = asking Kill (aim.Tid tid) call.Kill in
+    record {
+      words = codes "kill" ∷ decimal tid ∷ [];
+      joined = refl;
+      are = (refl, (id_word tid id, tt));
+      says = in_time _ said waits
+          (without_sign Kill (decimal tid ∷ []) said (no_sign tid (id_ends tid id).1, tt)
+          (ap (λ r. r >>= λ t. Ok (asking Kill (aim.Tid t) call.Kill)) (id_read tid id))) waiting;
+      means = known_row rows row roster there;
+    }
+command_line rows (call.ExitGroup code) (which.Row row) waits roster asks spelled there waiting =
+    let tid : ℕ = (row_at rows row).tid in
+    let id = known_id rows row roster there in
+    let said : LitmusCommand = asking ExitGroup (aim.Tid tid) (call.ExitGroup code) in
+    record {
+      words = codes "exit_group" ∷ decimal tid ∷ decimal code ∷ [];
+      joined = refl;
+      are = (refl, (id_word tid id, (up_to_last code (omega arith), tt)));
+      says = in_time _ said waits
+          (without_sign ExitGroup (decimal tid ∷ decimal code ∷ []) said
+          (no_sign tid (id_ends tid id).1, (no_sign code (omega arith), tt))
+          (rw (id_read tid id, decimal_between 0 255 code (omega arith) (omega (arith, asks)) (lit< tt)) refl)) waiting;
+      means = known_row rows row roster there;
+    }
 command_line rows (call.Look c) about true roster asks spelled there waiting =
     claim_line (codes "look") Look rows about c refl (λ words. refl) (λ words. refl) roster there asks.1
 command_line rows (call.Look c) about false roster asks spelled there waiting =

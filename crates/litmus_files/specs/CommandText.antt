@@ -28,6 +28,8 @@ board_call_words tracee true (call.Claim tracer) = codes "wait" ∷ tracee ∷ d
 board_call_words tracee false (call.Claim tracer) = words_about tracee (command.Claim tracer)
 board_call_words tracee waits (call.Resume tracer how) = words_about tracee (command.Resume tracer how)
 board_call_words tracee waits (call.Exit death) = words_about tracee (command.Exit death)
+board_call_words tracee waits call.Kill = codes "kill" ∷ tracee ∷ []
+board_call_words tracee waits (call.ExitGroup code) = codes "exit_group" ∷ tracee ∷ decimal code ∷ []
 
 abbrev pub command_text : List Row → ThreadCommand → List ℕ
 command_text rows command =

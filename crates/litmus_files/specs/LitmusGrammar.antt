@@ -26,7 +26,7 @@ use Rattle.replay_files.specs.declared.grammar.ReplayKeyword.TheVariants as repl
 use Rattle.litmus_files.specs.declared.grammar.TheConstants.{LONGEST_NAME, MOST_REPEATS}
 use Rattle.litmus_files.specs.declared.keyword.CommandKeyword.{CommandKeyword}
 use Rattle.litmus_files.specs.declared.keyword.CommandKeyword.TheVariants.{Publish, Exit, State, Claim, Wait, Look}
-use Rattle.litmus_files.specs.declared.keyword.CommandKeyword.TheVariants.{Peek, Resume}
+use Rattle.litmus_files.specs.declared.keyword.CommandKeyword.TheVariants.{ExitGroup, Kill, Peek, Resume}
 use Rattle.litmus_files.specs.declared.keyword.LitmusKeyword.{LitmusKeyword}
 use Rattle.litmus_files.specs.declared.keyword.LitmusKeyword.TheVariants as keyword
 use Rattle.litmus_files.specs.declared.line.Aim.{Aim}
@@ -50,7 +50,8 @@ litmus_keywords =
     ∷ (codes "publish", keyword.Command Publish) ∷ (codes "exit", keyword.Command Exit)
     ∷ (codes "state", keyword.Command State) ∷ (codes "claim", keyword.Command Claim)
     ∷ (codes "wait", keyword.Command Wait) ∷ (codes "look", keyword.Command Look)
-    ∷ (codes "peek", keyword.Command Peek) ∷ (codes "resume", keyword.Command Resume) ∷ []
+    ∷ (codes "peek", keyword.Command Peek) ∷ (codes "resume", keyword.Command Resume)
+    ∷ (codes "kill", keyword.Command Kill) ∷ (codes "exit_group", keyword.Command ExitGroup) ∷ []
 
 -- rows come before the first thread; commands, repeats and their ends in a thread; no repeat in a repeat, and no
 -- condition. After the first condition only conditions come. That no thread begins in a repeat is left to the file.
@@ -105,6 +106,8 @@ does_wait Wait = true
 does_wait Look = true
 does_wait Peek = false
 does_wait Resume = false
+does_wait Kill = true
+does_wait ExitGroup = true
 
 abbrev pub asking : CommandKeyword → Aim → BoardCall → LitmusCommand
 asking keyword aim call = record { aim = aim; call = call; waits = does_wait keyword; reply = None }
@@ -163,6 +166,23 @@ resume_of_words words =
     then resume_command (nth_word words 0) (nth_word words 1) (nth_word words 2) (nth_word words 3)
     else Err UnknownWord
 
+-- kill TID
+abbrev pub kill_of_words : List (List ℕ) → Result LitmusCommand LineFault
+kill_of_words words =
+    if length words == 1 then (id_of (nth_word words 0) >>= λ t. Ok (asking Kill (aim.Tid t) call.Kill))
+    else Err UnknownWord
+
+-- exit_group TID CODE
+abbrev pub exit_group_command : (named code : List ℕ) → Result LitmusCommand LineFault
+exit_group_command named code = do
+  t ← id_of named
+  c ← number_between 0 255 code
+  Ok (asking ExitGroup (aim.Tid t) (call.ExitGroup c))
+
+abbrev pub exit_group_of_words : List (List ℕ) → Result LitmusCommand LineFault
+exit_group_of_words words =
+    if length words == 2 then exit_group_command (nth_word words 0) (nth_word words 1) else Err UnknownWord
+
 -- publish TID STOP, exit TID DEATH and state TID are those of a replay file
 abbrev pub bare_command_of : CommandKeyword → List (List ℕ) → Result LitmusCommand LineFault
 bare_command_of Publish words = replay_rest_of replay.Publish words >>= as_in_replay Publish
@@ -173,6 +193,8 @@ bare_command_of Wait words = claim_of_words Wait words
 bare_command_of Look words = claim_of_words Look words
 bare_command_of Peek words = claim_of_words Peek words
 bare_command_of Resume words = resume_of_words words
+bare_command_of Kill words = kill_of_words words
+bare_command_of ExitGroup words = exit_group_of_words words
 
 -- ---- commands with a reply
 

@@ -185,6 +185,13 @@ resume_reply words =
     if length words == 1 && bytes_eq (nth_word words 0) (codes "resumed") then Ok answer.Done
     else refused_reply resume_refusals words
 
+-- killed, dead
+abbrev pub kill_reply : List (List ℕ) → Result WantedAnswer LineFault
+kill_reply words =
+    if length words == 1 && bytes_eq (nth_word words 0) (codes "killed") then Ok answer.Done
+    else if length words == 1 && bytes_eq (nth_word words 0) (codes "dead") then Ok answer.Dead
+    else Err UnknownWord
+
 abbrev pub row_reply : CommandKeyword → (named : List ℕ) → List (List ℕ) → Result WantedAnswer LineFault
 row_reply keyword.Publish named words = publish_reply words
 row_reply keyword.Exit named words = exit_reply words
@@ -194,6 +201,8 @@ row_reply keyword.Wait named words = got_reply keyword.Wait words
 row_reply keyword.Look named words = got_reply keyword.Look words
 row_reply keyword.Peek named words = claim_row_reply keyword.Peek named words
 row_reply keyword.Resume named words = resume_reply words
+row_reply keyword.Kill named words = kill_reply words
+row_reply keyword.ExitGroup named words = exit_reply words
 
 -- ---- what a command may be answered about no tracee
 

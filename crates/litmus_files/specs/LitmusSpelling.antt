@@ -83,11 +83,13 @@ IsSpelledWhich rows (call.Resume tracer how) which.Last = Unit {0}
 IsSpelledWhich rows asked (which.Row row) = row < length rows
 IsSpelledWhich rows asked other = ⊥
 
--- a claim and a look that wait are `wait` and `look`, others `claim` and `peek`; a publish and an exit always wait,
--- and a question for the state and a resume never do
+-- a claim and a look that wait are `wait` and `look`, others `claim` and `peek`; a question for the state and a resume
+-- never wait, and all others always do
 abbrev pub IsSpelledWait : BoardCall → (waits : Bool) → Type 0
 IsSpelledWait (call.Publish stop) waits = waits ≡ true
 IsSpelledWait (call.Exit death) waits = waits ≡ true
+IsSpelledWait call.Kill waits = waits ≡ true
+IsSpelledWait (call.ExitGroup code) waits = waits ≡ true
 IsSpelledWait call.State waits = waits ≡ false
 IsSpelledWait (call.Resume tracer how) waits = waits ≡ false
 IsSpelledWait (call.Look tracer) waits = Unit {0}

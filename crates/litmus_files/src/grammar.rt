@@ -11,6 +11,7 @@ ghost use Rattle.replay_files.specs.Grammar.{IsLine};
 ghost use Rattle.litmus_files.specs.LitmusGrammar.{IsLitmusCall, IsLitmusCommand, IsLitmusLine, any_or_tid};
 ghost use Rattle.litmus_files.specs.LitmusGrammar.{as_in_replay, asking, bare_command_of, claim_call, claim_command};
 ghost use Rattle.litmus_files.specs.LitmusGrammar.{claim_of_words, command_of_words, does_wait, group_aim};
+ghost use Rattle.litmus_files.specs.LitmusGrammar.{exit_group_of_words, kill_of_words};
 ghost use Rattle.litmus_files.specs.LitmusGrammar.{is_name_byte, is_thread_name, it_or_tid, litmus_line_of};
 ghost use Rattle.litmus_files.specs.LitmusGrammar.{litmus_rest_of, repeat_line, replied_command};
 ghost use Rattle.litmus_files.specs.LitmusGrammar.{resume_command, resume_of_words, thread_line};
@@ -179,6 +180,8 @@ fn bare_command(keyword: CommandKeyword, words: Words<'_>) -> Result<LitmusComma
         CommandKeyword::Look => claim_of(keyword, words),
         CommandKeyword::Peek => claim_of(keyword, words),
         CommandKeyword::Resume => resume_of(words),
+        CommandKeyword::Kill => kill_of(words),
+        CommandKeyword::ExitGroup => exit_group_of(words),
     }
 }
 
@@ -224,6 +227,8 @@ fn does_wait(keyword: CommandKeyword) -> bool
         CommandKeyword::Look => true,
         CommandKeyword::Peek => false,
         CommandKeyword::Resume => false,
+        CommandKeyword::Kill => true,
+        CommandKeyword::ExitGroup => true,
     }
 }
 
@@ -307,6 +312,30 @@ fn resume_command(
     let signal = number_between(0, u64::from(LAST_SIGNAL), signal)? as u8;
     let call = BoardCall::Resume(tracer, Resume { kind, signal });
     Ok(asking(CommandKeyword::Resume, aim, call))
+}
+
+/// A kill, by the words after its first one.
+fn kill_of(words: Words<'_>) -> Result<LitmusCommand, LineFault>
+    ensures command { result ≡ kill_of_words (words_left words.entry) }
+    ensures range { IfOk result IsLitmusCommand }
+{
+    let tid = id(words.one()?)?;
+    Ok(asking(CommandKeyword::Kill, Aim::Tid(tid), BoardCall::Kill))
+}
+
+/// The end of a thread group by one of its threads, by the words after the first one.
+fn exit_group_of(words: Words<'_>) -> Result<LitmusCommand, LineFault>
+    ensures command { result ≡ exit_group_of_words (words_left words.entry) }
+    ensures range { IfOk result IsLitmusCommand }
+{
+    let (named, code) = words.two()?;
+    let tid = id(named)?;
+    let code = number_between(0, u64::from(u8::MAX), code)? as u8;
+    Ok(asking(
+        CommandKeyword::ExitGroup,
+        Aim::Tid(tid),
+        BoardCall::ExitGroup(code),
+    ))
 }
 
 /// The tracee that the thread claimed last, or that of a thread id.

@@ -19,6 +19,8 @@ pub(crate) enum CommandKeyword {
     Look,
     Peek,
     Resume,
+    Kill,
+    ExitGroup,
 }
 
 /// The first word of a line.
@@ -33,7 +35,7 @@ pub(crate) enum LitmusKeyword {
 }
 
 /// The first words of lines.
-const LITMUS_KEYWORDS: [(&str, LitmusKeyword); 14] = [
+const LITMUS_KEYWORDS: [(&str, LitmusKeyword); 16] = [
     ("row", LitmusKeyword::Row),
     ("thread", LitmusKeyword::Thread(Voice::Loud)),
     ("quiet", LitmusKeyword::Thread(Voice::Quiet)),
@@ -48,6 +50,11 @@ const LITMUS_KEYWORDS: [(&str, LitmusKeyword); 14] = [
     ("look", LitmusKeyword::Command(CommandKeyword::Look)),
     ("peek", LitmusKeyword::Command(CommandKeyword::Peek)),
     ("resume", LitmusKeyword::Command(CommandKeyword::Resume)),
+    ("kill", LitmusKeyword::Command(CommandKeyword::Kill)),
+    (
+        "exit_group",
+        LitmusKeyword::Command(CommandKeyword::ExitGroup),
+    ),
 ];
 
 /// The keyword that a word is. UnknownWord where it is none, or one that may not come here.

@@ -5,7 +5,7 @@ ghost use Rattle.text_lines.specs.Words.{words_left};
 ghost use Rattle.litmus_files.specs.LitmusReply.{bare_reply, claim_row_reply, exit_reply, got_of_words, got_reply};
 ghost use Rattle.litmus_files.specs.LitmusReply.{got_told, got_with_numbers, is_star, names_several, no_child_reply};
 ghost use Rattle.litmus_files.specs.LitmusReply.{none_reply, nothing_reply, numbered_state, or_else, plain_state};
-ghost use Rattle.litmus_files.specs.LitmusReply.{publish_reply};
+ghost use Rattle.litmus_files.specs.LitmusReply.{kill_reply, publish_reply};
 ghost use Rattle.litmus_files.specs.LitmusReply.{refused_reply, reply_of_words, resume_reply, row_reply, scan_reply};
 ghost use Rattle.litmus_files.specs.LitmusReply.{state_of_words, state_reply, status_number};
 ghost use Rattle.litmus_files.specs.LitmusReply.{stop_number, tid_reply, wanted_refusal, wanted_status, wanted_stop};
@@ -138,6 +138,8 @@ fn names_several(keyword: CommandKeyword, named: &[u8]) -> bool
         CommandKeyword::Look => is_any_word(named) || is_group_word(named),
         CommandKeyword::Peek => is_any_word(named) || is_group_word(named),
         CommandKeyword::Resume => false,
+        CommandKeyword::Kill => false,
+        CommandKeyword::ExitGroup => false,
     }
 }
 
@@ -160,6 +162,8 @@ fn row_reply(
         CommandKeyword::Look => got_reply(keyword, words),
         CommandKeyword::Peek => claim_row_reply(keyword, named, words),
         CommandKeyword::Resume => resume_reply(words),
+        CommandKeyword::Kill => kill_reply(words),
+        CommandKeyword::ExitGroup => exit_reply(words),
     }
 }
 
@@ -223,6 +227,16 @@ fn resume_reply(words: Words<'_>) -> Result<WantedAnswer, LineFault>
     }
 }
 
+fn kill_reply(words: Words<'_>) -> Result<WantedAnswer, LineFault>
+    ensures { result ≡ kill_reply (words_left words.entry) }
+{
+    match words.one() {
+        Ok(word) if word == b"killed".as_slice() => Ok(WantedAnswer::Done),
+        Ok(word) if word == b"dead".as_slice() => Ok(WantedAnswer::Dead),
+        _ => Err(LineFault::UnknownWord),
+    }
+}
+
 /// A refusal that is one of these, or any.
 fn refused_reply(refusals: &[(&str, Refused)], words: Words<'_>) -> Result<WantedAnswer, LineFault>
     ensures { result
@@ -266,6 +280,8 @@ fn none_reply(
         CommandKeyword::Peek => scan_reply(keyword, named, words),
         CommandKeyword::Resume if is_it_word(named) => nothing_reply(words),
         CommandKeyword::Resume => Err(LineFault::UnknownWord),
+        CommandKeyword::Kill => Err(LineFault::UnknownWord),
+        CommandKeyword::ExitGroup => Err(LineFault::UnknownWord),
     }
 }
 

@@ -1,4 +1,4 @@
--- What is found of the program of a litmus file, by its own commands, as the lists of each thread have them.
+-- What is found of the program of a litmus file, by the commands of each thread.
 use Rattle.std.proofs.Common.{refl, ◌≡◌, ◌∙◌, ◌<◌, ◌≤◌, ◌==◌, ℕ, Bool, true, false, not, List, Option}
 use Rattle.std.proofs.Common.{ap, arith, length, subst, sym}
 use Rattle.std.proofs.Math.Path.{fun_ext}
@@ -10,9 +10,10 @@ use Rattle.stop_history.specs.declared.roster.Row.{Row}
 use Rattle.stop_program.specs.declared.command.ProgramLine.{ProgramLine}
 use Rattle.stop_program.specs.declared.command.ThreadCommand.{ThreadCommand}
 use Rattle.stop_program.specs.declared.voice.Voice.{Voice}
+use Rattle.stop_program.specs.BoardCall.{IsBoardCall}
 use Rattle.stop_program.specs.Order.{AreOrdered}
 use Rattle.stop_program.specs.Places.{HasMorePlaces, HasPlaces}
-use Rattle.stop_program.specs.Program.{Log, Program, is_line_of, own_commands}
+use Rattle.stop_program.specs.Program.{Log, is_line_of, own_commands}
 use Rattle.stop_program.specs.Progress.{is_quiet}
 use Rattle.stop_program.specs.Run.{AreDistinct, AreEndings, EndedRun, HasOutcome, IsRun, ended_run}
 use Rattle.litmus_files.specs.declared.file.LitmusFile.{LitmusFile}
@@ -20,36 +21,35 @@ use Rattle.litmus_files.specs.declared.required.Condition.{Condition}
 use Rattle.litmus_files.specs.declared.required.NumberedLine.{NumberedLine}
 use Rattle.litmus_files.specs.LitmusDraft.{IsLitmusFile, content_in}
 use Rattle.litmus_files.specs.LitmusFile.{LitmusContent}
-use Rattle.litmus_files.specs.LitmusGrammar.{HasTracer, IsLitmusCall}
+use Rattle.litmus_files.specs.LitmusGrammar.{IsLitmusCall}
 use Rattle.litmus_files.specs.Required.{conditions_with, program_with}
 use Rattle.litmus_files.proofs.LitmusFiles.{length_kept}
 use Rattle.litmus_files.proofs.LitmusPlaces.{AreKnown}
 use Rattle.outcome_text.specs.declared.print_error.PrintError.{PrintError}
 use Rattle.outcome_text.specs.Chosen.{chosen_of, is_chosen}
-use Rattle.outcome_text.specs.OutcomeOrder.{HaveTracers}
+use Rattle.outcome_text.specs.OutcomeOrder.{HaveCalls}
 use Rattle.outcome_text.specs.OutcomeText.{chosen_text}
 use Rattle.outcome_text.specs.Printed.{IsPrintedIfMemory}
 use Rattle.outcome_text.specs.Searched.{AreOutcomes, HasMorePlacesWith, all_required, all_text, chosen_with}
 use Rattle.outcome_text.specs.Searched.{commands_with, have_numbers_to, is_chosen_with}
 use Rattle.outcome_text.proofs.Unmet.{program_within}
 
--- ---- what a search finds, by its program
+-- ---- what a search finds, by the commands of each thread
 
-pub record AreFound (rows : List Row) (voices : List Voice) (threads : ℕ) (program : Program) (found : List EndedRun)
-    (places : ℕ) : Type 0 where
-  pub complete : (run : Log) (last : History) → IsRun rows (own_commands program) run last
-      → HasOutcome (is_quiet voices) (own_commands program) found (ended_run rows run last)
-  pub sound : AreEndings rows threads (own_commands program) found
-  pub distinct : AreDistinct (is_quiet voices) (own_commands program) found
-  pub ordered : AreOrdered rows (is_quiet voices) (own_commands program) found
-  pub counted : HasPlaces rows (is_quiet voices) (own_commands program) places
+pub record AreFound (rows : List Row) (voices : List Voice) (threads : ℕ) (own : ℕ → List ThreadCommand)
+    (found : List EndedRun) (places : ℕ) : Type 0 where
+  pub complete : (run : Log) (last : History) → IsRun rows own run last
+      → HasOutcome (is_quiet voices) own found (ended_run rows run last)
+  pub sound : AreEndings rows threads own found
+  pub distinct : AreDistinct (is_quiet voices) own found
+  pub ordered : AreOrdered rows (is_quiet voices) own found
+  pub counted : HasPlaces rows (is_quiet voices) own places
 
-abbrev pub AreFoundBy : LitmusContent → Program → List EndedRun → (places : ℕ) → Type 0
-AreFoundBy content program found places =
-    AreFound content.rows content.voices (length content.names) program found places
+abbrev pub AreFoundBy : LitmusContent → (own : ℕ → List ThreadCommand) → List EndedRun → (places : ℕ) → Type 0
+AreFoundBy content own found places = AreFound content.rows content.voices (length content.names) own found places
 
 pub outcomes_of : (content : LitmusContent) (count places : ℕ) (found : List EndedRun)
-    → AreFoundBy content (program_with count content.lines) found places → AreOutcomes content count found places
+    → AreFoundBy content (commands_with content count) found places → AreOutcomes content count found places
 outcomes_of content count places found all =
     record {
       complete = all.complete;
@@ -60,7 +60,7 @@ outcomes_of content count places found all =
     }
 
 found_of_outcomes : (content : LitmusContent) (count places : ℕ) (found : List EndedRun)
-    → AreOutcomes content count found places → AreFoundBy content (program_with count content.lines) found places
+    → AreOutcomes content count found places → AreFoundBy content (commands_with content count) found places
 found_of_outcomes content count places found all =
     record {
       complete = all.complete;
@@ -71,16 +71,16 @@ found_of_outcomes content count places found all =
     }
 
 -- where places have a number that is within the budget, they are not more than the budget
-pub not_more_with : (content : LitmusContent) (count budget places : ℕ) (voices : List Voice) (program : Program)
-    → program ≡ program_with count content.lines → voices ≡ content.voices
-    → HasPlaces content.rows (is_quiet voices) (own_commands program) places → places ≤ budget
+pub not_more_with : (content : LitmusContent) (count budget places : ℕ) (voices : List Voice)
+    (own : ℕ → List ThreadCommand) → own ≡ commands_with content count → voices ≡ content.voices
+    → HasPlaces content.rows (is_quiet voices) own places → places ≤ budget
     → ((rows : List Row) (quiet : ℕ → Bool) (commands : ℕ → List ThreadCommand) (number most : ℕ)
     → HasPlaces rows quiet commands number → HasMorePlaces rows quiet commands most → most < number)
     → HasMorePlacesWith content count budget → ⊥
-not_more_with content count budget places voices program program_is voices_are counted within law more =
+not_more_with content count budget places voices own own_are voices_are counted within law more =
     let has : HasPlaces content.rows (is_quiet content.voices) (commands_with content count) places =
     subst (λ v. HasPlaces content.rows (is_quiet v) (commands_with content count) places) voices_are
-    (subst (λ p. HasPlaces content.rows (is_quiet voices) (own_commands p) places) program_is counted) in
+    (subst (λ o. HasPlaces content.rows (is_quiet voices) o places) own_are counted) in
     let above = law content.rows (is_quiet content.voices) (commands_with content count) places budget has more in
     omega (arith, above, within)
 
@@ -90,8 +90,8 @@ pub outcomes_within : (content : LitmusContent) (count more places : ℕ) (found
     → AreOutcomes content count found places
 outcomes_within content count more places found few within all =
     outcomes_of content count places found
-    (subst (λ p. AreFoundBy content p found places) (sym (program_within count more content.lines few within))
-    (found_of_outcomes content more places found all))
+    (subst (λ p. AreFoundBy content (own_commands p) found places)
+    (sym (program_within count more content.lines few within)) (found_of_outcomes content more places found all))
 
 -- what is known of the lines of a file that was read
 pub known_of : {Z : Type 0} (file : LitmusFile Z) → IsLitmusFile file → AreKnown (content_in file)
@@ -136,16 +136,16 @@ pub commands_within : (content : LitmusContent) (count more : ℕ) (lists : ℕ 
 commands_within content count more lists few within own thread =
     own thread ∙ sym (ap (λ p. own_commands p thread) (program_within count more content.lines few within))
 
-pub have_tracers : (lists : ℕ → List ThreadCommand) (lines : List ProgramLine)
+pub have_calls : (lists : ℕ → List ThreadCommand) (lines : List ProgramLine)
     → ((thread : ℕ) → lists thread ≡ own_commands lines thread) → All (λ line. IsLitmusCall line.command.call) lines
-    → HaveTracers lists
-have_tracers lists lines same calls thread =
-    let Has : ThreadCommand → Type 0 = λ command. HasTracer command.call in
-    let LineHas : ProgramLine → Type 0 = λ line. HasTracer line.command.call in
+    → HaveCalls lists
+have_calls lists lines same calls thread =
+    let Has : ThreadCommand → Type 0 = λ command. IsBoardCall command.call in
+    let LineHas : ProgramLine → Type 0 = λ line. IsBoardCall line.command.call in
     let Calls : ProgramLine → Type 0 = λ line. IsLitmusCall line.command.call in
     All-same Has (lists thread) (own_commands lines thread) (same thread)
     (All-map Has (λ (line : ProgramLine). line.command) (filter (is_line_of thread) lines)
-    (All-filter (is_line_of thread) LineHas lines (All-weaker Calls LineHas (λ line known. known.1) lines calls)))
+    (All-filter (is_line_of thread) LineHas lines (All-weaker Calls LineHas (λ line known. known.0) lines calls)))
 
 -- ---- all outcomes
 

@@ -7,7 +7,8 @@ use Rattle.std.proofs.lemmas.List.{get_or_past}
 use Rattle.std.proofs.lemmas.List.FromFn.{get_or-map-range_with_len, length-map-range_with_len}
 use Rattle.std.specs.List.{find, range_with_len}
 use Rattle.std.specs.Result.{result_err}
-use Rattle.stop_program.specs.BoardCall.{answer_to, claim_told, done_told, look_told, publish_told}
+use Rattle.stop_program.specs.BoardCall.{answer_to, claim_told, done_told, exit_group_answer, kill_answer, killed_told}
+use Rattle.stop_program.specs.BoardCall.{look_told, publish_told}
 use Rattle.stop_program.specs.Command.{is_lasting, is_lasting_refusal}
 use Rattle.stop_program.specs.Run.{states_of}
 use Rattle.stop_program.specs.declared.answer.Answer.{Answer}
@@ -67,6 +68,11 @@ done_refused : (reply : Result (Unit {0}) Refused) → refusal_in (done_told rep
 done_refused (Ok done) = refl
 done_refused (Err refusal) = refl
 
+killed_refused : (reply : Result Bool Refused) → refusal_in (killed_told reply) ≡ result_err reply
+killed_refused (Ok true) = refl
+killed_refused (Ok false) = refl
+killed_refused (Err refusal) = refl
+
 is_refused : (told : Answer) (refusal : Refused) → refusal_in told ≡ Some refusal → told ≡ answer.Refused refusal
 is_refused (answer.Refused other) refusal is = cc
 is_refused (answer.Number number) refusal is = cc
@@ -74,6 +80,7 @@ is_refused (answer.State at) refusal is = cc
 is_refused (answer.Got got) refusal is = cc
 is_refused (answer.Saw got) refusal is = cc
 is_refused answer.Done refusal is = cc
+is_refused answer.Dead refusal is = cc
 is_refused answer.Nothing refusal is = cc
 is_refused answer.NoChild refusal is = cc
 
@@ -106,6 +113,8 @@ agree rows h row (call.Look tracer) = inl (look_refused (claim_answer rows h row
 agree rows h row (call.Claim tracer) = inl (claim_refused (claim_answer rows h row tracer))
 agree rows h row (call.Resume tracer how) = inl (done_refused (resume_answer rows h row tracer))
 agree rows h row (call.Exit death) = inl (done_refused (exit_answer rows h row))
+agree rows h row call.Kill = inl (killed_refused (kill_answer rows h row))
+agree rows h row (call.ExitGroup code) = inl (done_refused (exit_group_answer rows h row))
 
 -- so a refusal that may pass is waited for, and one that is waited for is got
 waited_for : (waits : Option Refused) (told : Answer) (refusal : Refused) → Agree waits told

@@ -23,10 +23,12 @@ taken_row rows which.Any row = decimal (row_at rows row).tid ++ 32 ∷ []
 taken_row rows (which.Group pgid) row = decimal (row_at rows row).tid ++ 32 ∷ []
 taken_row rows other row = []
 
--- only a resume and an exit are answered that they are done
+-- only a resume, an exit, a kill and the end of a group are answered that they are done
 abbrev pub done_word : BoardCall → List ℕ
 done_word (call.Resume tracer how) = codes "resumed"
 done_word (call.Exit death) = codes "exited"
+done_word call.Kill = codes "killed"
+done_word (call.ExitGroup code) = codes "exited"
 done_word other = codes "done"
 
 abbrev pub told_text : List Row → ThreadCommand → (row : ℕ) → Answer → List ℕ
@@ -35,6 +37,7 @@ told_text rows command row (answer.State at) = state_text at
 told_text rows command row (answer.Got got) = taken_row rows command.which row ++ got_text rows (Ok got)
 told_text rows command row (answer.Saw got) = taken_row rows command.which row ++ got_text rows (Ok got)
 told_text rows command row answer.Done = done_word command.call
+told_text rows command row answer.Dead = codes "dead"
 told_text rows command row answer.Nothing = codes "nothing"
 told_text rows command row answer.NoChild = codes "no child"
 told_text rows command row (answer.Refused refusal) = refusal_text rows refusal

@@ -4,6 +4,8 @@ use Rattle.std.specs.Prelude.{ℕ, List, Option, None, slice_index_or}
 use Rattle.std.specs.Result.{result_err}
 use Rattle.stop_program.specs.declared.board_call.BoardCall.{BoardCall}
 use Rattle.stop_program.specs.declared.board_call.BoardCall.TheVariants as call
+use Rattle.stop_program.specs.BoardCall.{kill_by}
+use Rattle.stop_program.specs.GroupDeath.{is_group_alive}
 use Rattle.stop_history.specs.declared.refused.Refused.{Refused}
 use Rattle.stop_history.specs.declared.roster.Row.{Row}
 use Rattle.stop_history.specs.declared.state.State.{State}
@@ -24,3 +26,5 @@ waiting_refusal rows states row (call.Claim tracer) = result_err (claim_by trace
 waiting_refusal rows states row (call.Resume tracer how) = result_err (resume_by tracer (states row))
 waiting_refusal rows states row (call.Exit death) =
     result_err (exit_by (holding_back rows states row) (states row))
+waiting_refusal rows states row call.Kill = result_err (kill_by (states row) (is_group_alive rows states row))
+waiting_refusal rows states row (call.ExitGroup code) = result_err (running_by (states row))

@@ -9,16 +9,14 @@ ghost use Rattle.outcome_text.specs.AnswerText.{answer_text, done_word, reason_t
 ghost use Rattle.replay_files.specs.Replies.{got_text};
 ghost use Rattle.outcome_text.specs.Waiting.{state_at, waiting_refusal};
 
-use crate::waiting::{
-    claim_refusal, holding_back, resume_refusal, row_at, running_refusal, state_at,
-};
+use crate::waiting::{holding_back, row_at, state_at};
 use replay_files::{
     tid_at, write_done, write_got, write_number, write_published, write_refusal,
     write_refusal_name, write_state,
 };
 use std::alloc::Allocator;
-use stop_board::{Got, NoMemory, Refused, Row, State};
-use stop_program::{Answer, BoardCall, ThreadCommand, Turn, Which};
+use stop_board::{Got, NoMemory, Refused, Row, State, rules};
+use stop_program::{Answer, BoardCall, ThreadCommand, Turn, Which, kill_refusal};
 
 /// Writes what a turn was answered, to the end of the line.
 pub(crate) fn write_answer<A: Allocator>(
@@ -37,6 +35,10 @@ pub(crate) fn write_answer<A: Allocator>(
             write_taken(out, rows, command.which, turn.row, got)
         }
         Answer::Done => write_done(out, rows, done_word(command.call), Ok(())),
+        Answer::Dead => {
+            out.push_str("dead\n")?;
+            Ok(())
+        }
         Answer::Nothing => {
             out.push_str("nothing\n")?;
             Ok(())
@@ -55,7 +57,8 @@ fn done_word(asked: BoardCall) -> &'static str
 {
     match asked {
         BoardCall::Resume(..) => "resumed",
-        BoardCall::Exit(_) => "exited",
+        BoardCall::Exit(_) | BoardCall::ExitGroup(_) => "exited",
+        BoardCall::Kill => "killed",
         _ => "done",
     }
 }
@@ -125,13 +128,18 @@ fn write_refusal_of<A: Allocator>(
 {
     let state = state_at(states, row as usize);
     match asked {
-        BoardCall::Publish(_) => write_reason(out, rows, running_refusal(state)),
+        BoardCall::Publish(_) | BoardCall::ExitGroup(_) => {
+            write_reason(out, rows, rules::running(state).err())
+        }
         BoardCall::State => write_reason(out, rows, None),
         BoardCall::Look(tracer) | BoardCall::Claim(tracer) => {
-            write_reason(out, rows, claim_refusal(tracer, state))
+            write_reason(out, rows, rules::claimable(tracer, state).err())
         }
-        BoardCall::Resume(tracer, _) => write_reason(out, rows, resume_refusal(tracer, state)),
+        BoardCall::Resume(tracer, _) => {
+            write_reason(out, rows, rules::resumable(tracer, state).err())
+        }
         BoardCall::Exit(_) => write_exit_refusal(out, rows, states, row as usize),
+        BoardCall::Kill => write_reason(out, rows, kill_refusal(state)),
     }
 }
 
@@ -146,7 +154,7 @@ fn write_exit_refusal<A: Allocator>(
         ++ (reason_text rows.now (result_err (exit_by (holding_back rows.now (state_at states.now) at)
         (state_at states.now at))) ++ 10 ∷ [])) }
 {
-    if let Some(refusal) = running_refusal(state_at(states, at)) {
+    if let Err(refusal) = rules::running(state_at(states, at)) {
         return write_reason(out, rows, Some(refusal));
     }
     match holding_back(rows, states, at) {

@@ -50,6 +50,11 @@ pub(crate) fn write_call<A: Allocator>(
             write_verb(out, "exit", rows, which)?;
             write_death(out, death)
         }
+        BoardCall::Kill => write_verb(out, "kill", rows, which),
+        BoardCall::ExitGroup(code) => {
+            write_verb(out, "exit_group", rows, which)?;
+            write_number(out, " ", u32::from(code), "")
+        }
     }
 }
 

@@ -1,22 +1,22 @@
 //! The order of an outcome as a replay file: `tracer replay` runs it.
 
-ghost use Rattle.std.specs.Prelude.{◌≡◌, ◌++◌, length, IfOk, IfSome, OnOk, option_map, string_bytes};
+ghost use Rattle.std.specs.Prelude.{◌≡◌, ◌++◌, IfOk, OnOk, map, option_map, string_bytes};
+ghost use Rattle.stop_history.specs.Word.{state_by};
 ghost use Rattle.stop_program.specs.Threads.{commands_in};
 ghost use Rattle.outcome_text.specs.Chosen.{chosen_of};
-ghost use Rattle.litmus_files.specs.LitmusGrammar.{HasTracer};
-ghost use Rattle.outcome_text.specs.OutcomeOrder.{HaveTracers, ending_replay, order_of_turn};
-ghost use Rattle.outcome_text.specs.OutcomeOrder.{orders_of, outcome_replay, replayed_call};
+ghost use Rattle.outcome_text.specs.OutcomeOrder.{HaveCalls, ending_replay, order_of_call, orders_of, orders_of_call};
+ghost use Rattle.outcome_text.specs.OutcomeOrder.{outcome_replay};
 ghost use Rattle.outcome_text.specs.OutcomeText.{command_of_turn};
 ghost use Rattle.replay_files.specs.Spelling.{orders_text};
+ghost use Rattle.std.specs.Prelude.{length};
 
 use crate::chosen::{chosen_run, thread_commands};
 use crate::replay_text::{write_order, write_rows};
 use litmus_files::Condition;
-use replay_files::{Command, Order};
 use std::alloc::Allocator;
-use stop_board::{NoMemory, Row};
+use stop_board::{BoardWords, NoMemory, Roster, Row};
 use stop_explorer::{Explored, FoundRun};
-use stop_program::{BoardCall, ThreadCommand, Turn, command_after};
+use stop_program::{BoardCall, RowCall, ThreadCommand, Turn, command_after, make_turn, single_calls};
 
 /// The command that a turn did, after the turns before it.
 pub(crate) fn command_of_turn<A: Allocator>(
@@ -30,89 +30,99 @@ pub(crate) fn command_of_turn<A: Allocator>(
     command_after(own, before, turn.thread)
 }
 
-/// A call as a command of a replay file. A look leaves the stop where it is, as a question for the state does.
-fn replayed_call(call: BoardCall) -> Command
-    requires { HasTracer call }
-    ensures { result ≡ replayed_call call }
-{
-    match call {
-        BoardCall::Publish(stop) => Command::Publish(stop),
-        BoardCall::State | BoardCall::Look(_) => Command::State,
-        BoardCall::Claim(tracer) => Command::Claim(tracer as u8),
-        BoardCall::Resume(tracer, how) => Command::Resume(tracer as u8, how),
-        BoardCall::Exit(death) => Command::Exit(death),
-    }
-}
-
-/// The order of a turn, if it is about a row.
-fn order_of_turn(rows: &[Row], turn: &Turn, command: Option<ThreadCommand>) -> Option<Order>
-    requires { IfSome command (λ command. HasTracer command.call) }
-    ensures { result ≡ order_of_turn rows.now turn.now command }
-{
-    let command = command?;
-    if turn.row as usize >= rows.len() {
-        return None;
-    }
-    Some(Order {
-        row: turn.row,
-        command: replayed_call(command.call),
-    })
-}
-
 /// Writes an outcome's order as a replay file: the rows, and then each turn that is about one of them. Turns about no
 /// row are left out.
-pub(crate) fn write_as_replay<A: Allocator>(
+pub(crate) fn write_as_replay<A: Allocator + Copy, B: Allocator>(
+    alloc: A,
     out: &mut String<A>,
-    rows: &[Row],
+    roster: &Roster<B>,
     commands: &[Vec<ThreadCommand, A>],
     run: &FoundRun<A>,
 ) -> Result<(), NoMemory>
-    requires { HaveTracers (commands_in commands.now) }
+    requires { HaveCalls (commands_in commands.now) }
     ensures { OnOk result (string_bytes out.new
-        ≡ string_bytes out.old ++ ending_replay rows.now (commands_in commands.now) run.now) }
+        ≡ string_bytes out.old ++ ending_replay roster.now (commands_in commands.now) run.now) }
 {
-    write_rows(out, rows)?;
-    write_orders(out, rows, commands, run.turns())
+    write_rows(out, roster.rows())?;
+    write_orders(alloc, out, roster, commands, run.turns())
 }
 
-/// Writes the orders of turns, a line each.
-fn write_orders<A: Allocator>(
+/// Writes the orders of turns, each as a line. What the end of a thread group is made of goes by the states before it, so
+/// the turns are made once more on a board.
+fn write_orders<A: Allocator + Copy, B: Allocator>(
+    alloc: A,
     out: &mut String<A>,
-    rows: &[Row],
+    roster: &Roster<B>,
     commands: &[Vec<ThreadCommand, A>],
     turns: &[Turn],
 ) -> Result<(), NoMemory>
-    requires { HaveTracers (commands_in commands.now) }
+    requires { HaveCalls (commands_in commands.now) }
     ensures { OnOk result (string_bytes out.new ≡ string_bytes out.old
-        ++ orders_text rows.now (orders_of rows.now (commands_in commands.now) turns.now)) }
+        ++ orders_text roster.now (orders_of roster.now (commands_in commands.now) turns.now)) }
 {
+    let mut before = BoardWords::new(alloc, roster)?;
+    let mut after = BoardWords::new(alloc, roster)?;
     for (i, turn) in turns.iter().enumerate() {
-        let command = command_of_turn(commands, &turns[..i], turn);
-        if let Some(order) = order_of_turn(rows, turn, command) {
-            write_order(out, rows, &order)?;
+        if let Some(command) = command_of_turn(commands, &turns[..i], turn) {
+            write_turn(alloc, out, &before, turn.row, command.call)?;
+            make_turn(&before, &mut after, turn.row, command.call);
+            before.copy_from(&after);
         }
     }
     Ok(())
 }
 
-/// The outcome that is printed with this number, as a replay file, if there is one.
-pub fn outcome_replay<A: Allocator + Copy>(
+/// Writes the orders of a call about a row, each as a line.
+fn write_turn<A: Allocator + Copy, B: Allocator>(
     alloc: A,
+    out: &mut String<A>,
+    board: &BoardWords<'_, A, B>,
+    row: u32,
+    asked: BoardCall,
+) -> Result<(), NoMemory>
+    ensures { OnOk result (string_bytes out.new ≡ string_bytes out.old
+        ++ orders_text board.now.rows (orders_of_call board.now.rows (state_by board.now.rows board.now.words) row asked)) }
+{
+    if row < board.len() {
+        let calls = single_calls(alloc, board, row, asked)?;
+        write_calls(out, board.rows(), calls.as_slice())?;
+    }
+    Ok(())
+}
+
+/// Writes calls of one row each, each as a line.
+fn write_calls<A: Allocator>(
+    out: &mut String<A>,
     rows: &[Row],
+    calls: &[RowCall],
+) -> Result<(), NoMemory>
+    ensures { OnOk result (string_bytes out.new
+        ≡ string_bytes out.old ++ orders_text rows.now (map order_of_call calls.now)) }
+{
+    for one in calls {
+        write_order(out, rows, one)?;
+    }
+    Ok(())
+}
+
+/// The outcome that is printed with this number, as a replay file, if there is one.
+pub fn outcome_replay<A: Allocator + Copy, B: Allocator>(
+    alloc: A,
+    roster: &Roster<B>,
     commands: &[Vec<ThreadCommand, A>],
     conditions: &[Condition],
     explored: &Explored<A>,
     number: usize,
 ) -> Result<Option<String<A>>, NoMemory>
-    requires { HaveTracers (commands_in commands.now) }
+    requires { HaveCalls (commands_in commands.now) }
     ensures { IfOk result (λ found. option_map string_bytes found
-        ≡ outcome_replay rows.now (commands_in commands.now) number
+        ≡ outcome_replay roster.now (commands_in commands.now) number
         (chosen_of (length commands.now) (commands_in commands.now) conditions.now explored.now.runs)) }
 {
     let Some(run) = chosen_run(alloc, commands, conditions, explored, number)? else {
         return Ok(None);
     };
     let mut out = String::new(alloc);
-    write_as_replay(&mut out, rows, commands, &run)?;
+    write_as_replay(alloc, &mut out, roster, commands, &run)?;
     Ok(Some(out))
 }

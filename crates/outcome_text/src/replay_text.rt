@@ -3,13 +3,13 @@
 ghost use Rattle.std.specs.Prelude.{◌≡◌, ◌++◌, ℕ, false, List, OnOk, string_bytes};
 ghost use Rattle.text_lines.specs.Lines.{line_text};
 ghost use Rattle.litmus_files.specs.CommandText.{board_call_words};
+ghost use Rattle.outcome_text.specs.OutcomeOrder.{order_of_call, replayed_call};
 ghost use Rattle.replay_files.specs.Spelling.{order_words, row_words, rows_text, words_about};
 
 use crate::command_text::write_call;
-use replay_files::{Command, Order};
 use std::alloc::Allocator;
 use stop_board::{NoMemory, Row};
-use stop_program::{BoardCall, Which};
+use stop_program::{BoardCall, RowCall, Which};
 
 /// Writes rows, each as its line.
 pub(crate) fn write_rows<A: Allocator>(out: &mut String<A>, rows: &[Row]) -> Result<(), NoMemory>
@@ -32,34 +32,31 @@ fn write_row<A: Allocator>(out: &mut String<A>, row: &Row) -> Result<(), NoMemor
     Ok(())
 }
 
-/// Writes a command of a replay file, as its line.
+/// Writes a call of one row as a command of a replay file, as its line.
 pub(crate) fn write_order<A: Allocator>(
     out: &mut String<A>,
     rows: &[Row],
-    order: &Order,
+    one: &RowCall,
 ) -> Result<(), NoMemory>
-    ensures { OnOk result (string_bytes out.new ≡ string_bytes out.old ++ line_text (order_words rows.now order.now)) }
+    ensures { OnOk result (string_bytes out.new
+        ≡ string_bytes out.old ++ line_text (order_words rows.now (order_of_call one.now))) }
 {
-    write_call(
-        out,
-        rows,
-        Which::Row(order.row),
-        false,
-        asked_by(order.command),
-    )?;
+    write_call(out, rows, Which::Row(one.row), false, replayed(one.call))?;
     out.push_str("\n")?;
     Ok(())
 }
 
-/// The call of a thread that asks the same, at once.
-fn asked_by(command: Command) -> BoardCall
-    ensures { (tracee : List ℕ) → board_call_words tracee false result ≡ words_about tracee command }
+/// A call as a replay file has it. A look leaves the stop where it is, as a question for the state does; the end of a
+/// thread group is no command there.
+fn replayed(asked: BoardCall) -> BoardCall
+    ensures { (tracee : List ℕ) → board_call_words tracee false result ≡ words_about tracee (replayed_call asked) }
 {
-    match command {
-        Command::Publish(stop) => BoardCall::Publish(stop),
-        Command::Claim(tracer) => BoardCall::Claim(u32::from(tracer)),
-        Command::Resume(tracer, how) => BoardCall::Resume(u32::from(tracer), how),
-        Command::Exit(death) => BoardCall::Exit(death),
-        Command::State => BoardCall::State,
+    match asked {
+        BoardCall::Look(_) | BoardCall::Kill | BoardCall::ExitGroup(_) => BoardCall::State,
+        BoardCall::Publish(_)
+        | BoardCall::State
+        | BoardCall::Claim(_)
+        | BoardCall::Resume(..)
+        | BoardCall::Exit(_) => asked,
     }
 }

@@ -40,10 +40,10 @@ pub fn search(
     // What is counted says how many places there are, and so that they are not more than the budget.
     places_have_one_number();
     let program = program_with(alloc, count, file.lines.as_slice())?;
-    let lines = program.as_slice();
+    let commands = commands_of(alloc, file.names.len() as u32, program.as_slice())?;
     let voices = file.voices.as_slice();
-    let explored = explore(alloc, &file.rows, voices, lines, budget as usize)?;
-    let commands = commands_of(alloc, file.names.len() as u32, lines)?;
+    let own = commands.as_slice();
+    let explored = explore(alloc, &file.rows, voices, own, budget as usize)?;
     let conditions = conditions_with(alloc, count, file.conditions.as_slice())?;
     Ok(Searched {
         commands,

@@ -1,14 +1,11 @@
-//! Why calls are refused for now, by the states of all rows.
+//! The states of all rows at the end of a run, and who keeps a leader from its exit there.
 
 ghost use Rattle.std.specs.Prelude.{◌≡◌};
-ghost use Rattle.std.specs.Result.{result_err};
 ghost use Rattle.stop_history.specs.History.{holding_back, holds_back};
 ghost use Rattle.stop_history.specs.Roster.{row_at};
-ghost use Rattle.stop_history.specs.Sequential.{claim_by, resume_by, running_by};
-ghost use Rattle.stop_history.specs.State.{is_alive};
 ghost use Rattle.outcome_text.specs.Waiting.{state_at};
 
-use stop_board::{Refused, Row, State, TRACERS};
+use stop_board::{Row, State, rules};
 use stop_history::is_leader;
 
 /// The state of a row, among those of all rows.
@@ -18,53 +15,6 @@ pub(crate) fn state_at(states: &[State], row: usize) -> State
     match states.get(row) {
         Some(state) => *state,
         None => State::Absent,
-    }
-}
-
-/// Why a row of this state can neither publish nor exit.
-pub(crate) fn running_refusal(state: State) -> Option<Refused>
-    ensures { result ≡ result_err (running_by state) }
-{
-    match state {
-        State::Absent => Some(Refused::NoRow),
-        State::Unborn => Some(Refused::Unborn),
-        State::Running => None,
-        State::Stopped(..) | State::Claimed(..) | State::Dead(..) | State::Reaped => {
-            Some(Refused::NotRunning)
-        }
-    }
-}
-
-/// Why a tracer's claim of a row of this state gets nothing.
-pub(crate) fn claim_refusal(tracer: u32, state: State) -> Option<Refused>
-    ensures { result ≡ result_err (claim_by tracer state) }
-{
-    if tracer >= TRACERS {
-        return Some(Refused::NoRow);
-    }
-    match state {
-        State::Absent => Some(Refused::NoRow),
-        State::Unborn => Some(Refused::Unborn),
-        State::Stopped(..) | State::Dead(..) => None,
-        State::Running | State::Claimed(..) | State::Reaped => Some(Refused::NotWaitable),
-    }
-}
-
-/// Why a tracer cannot resume a row of this state.
-pub(crate) fn resume_refusal(tracer: u32, state: State) -> Option<Refused>
-    ensures { result ≡ result_err (resume_by tracer state) }
-{
-    if tracer >= TRACERS {
-        return Some(Refused::NoRow);
-    }
-    match state {
-        State::Absent => Some(Refused::NoRow),
-        State::Unborn => Some(Refused::Unborn),
-        State::Claimed(_, holder) if holder == tracer => None,
-        State::Claimed(..) => Some(Refused::NotHolder),
-        State::Running | State::Stopped(..) | State::Dead(..) | State::Reaped => {
-            Some(Refused::NotClaimed)
-        }
     }
 }
 
@@ -84,17 +34,7 @@ fn holds_back(rows: &[Row], states: &[State], at: usize, other: usize) -> bool
 {
     other != at
         && row_at(rows, other).tgid == row_at(rows, at).tgid
-        && is_alive(state_at(states, other))
-}
-
-/// Whether a row of this state may still act.
-fn is_alive(state: State) -> bool
-    ensures { result ≡ is_alive state }
-{
-    matches!(
-        state,
-        State::Running | State::Stopped(..) | State::Claimed(..)
-    )
+        && rules::is_alive(state_at(states, other))
 }
 
 /// A row by its place; past the last one a row of no ids.

@@ -8,6 +8,7 @@
 mod board;
 mod board_words;
 pub mod laws;
+pub mod rules;
 mod waitable;
 mod words;
 mod world;

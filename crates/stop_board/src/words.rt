@@ -5,19 +5,18 @@ ghost use Rattle.std.specs.Prelude.{◌≡◌, ◌+◌, ◌<◌, ◌≤◌, ℕ,
 ghost use Rattle.stop_history.specs.Roster.{IsRoster, parent_of};
 ghost use Rattle.stop_history.specs.declared.limits.TheConstants.{MOST_ROWS};
 ghost use Rattle.stop_history.specs.History.{creates_next, holding_back, holds_back};
-ghost use Rattle.stop_history.specs.State.{is_alive};
-ghost use Rattle.stop_history.specs.Sequential.{claim_by, claim_state, exit_by, next_number, publish_by, resume_by};
-ghost use Rattle.stop_history.specs.Sequential.{resume_state, running_by, unless_held};
+ghost use Rattle.stop_history.specs.Sequential.{claim_by, exit_by, next_number, publish_by, resume_by, unless_held};
 ghost use Rattle.stop_history.specs.Word.{shows_created, opening, state_by, word_at};
 ghost use Rattle.stop_history.specs.Step.{claimed, died, published, restarted, with_word};
 ghost use Rattle.trace_record.specs.Stop.{IsStop, child_of};
 ghost use Rattle.trace_record.specs.Death.{IsDeath};
 ghost use Rattle.trace_record.specs.Resume.{IsResume};
 
+use crate::rules;
 use std::alloc::Allocator;
 use stop_history::{
-    Got, LAST_NUMBER, NoMemory, Phase, Refused, Roster, State, TRACERS, Word, claimed, died,
-    is_leader, place_of, published, restarted,
+    Got, LAST_NUMBER, NoMemory, Phase, Refused, Roster, State, Word, claimed, died, is_leader,
+    place_of, published, restarted,
 };
 use trace_record::{Death, Resume, Stop};
 
@@ -118,17 +117,7 @@ fn holds_back<A: Allocator>(roster: &Roster<A>, words: &[Word], at: usize, other
     let rows = roster.rows();
     other != at
         && rows[other].tgid == rows[at].tgid
-        && is_alive(state_of(roster, words, other as u32))
-}
-
-/// Whether a row of this state may still act.
-fn is_alive(state: State) -> bool
-    ensures { result ≡ is_alive state }
-{
-    matches!(
-        state,
-        State::Running | State::Stopped(..) | State::Claimed(..)
-    )
+        && rules::is_alive(state_of(roster, words, other as u32))
 }
 
 /// Publishes a row's next stop: its number, or why not.
@@ -146,7 +135,7 @@ pub(crate) fn publish_at<A: Allocator>(
         (word_at words.old row).number }
     ensures words { words.new ≡ with_word result words.old row (published (word_at words.old row) stop) }
 {
-    running(state_of(roster, words, row))?;
+    rules::running(state_of(roster, words, row))?;
     publish_running(roster, words, row, stop)
 }
 
@@ -206,23 +195,7 @@ pub(crate) fn claimable<A: Allocator>(
     requires { length words.now ≡ length roster.now }
     ensures { result ≡ claim_by tracer (state_by roster.now words.now row) }
 {
-    if tracer >= TRACERS {
-        return Err(Refused::NoRow);
-    }
-    waitable(state_of(roster, words, row))
-}
-
-/// What a claim of a row of this state gets, or why it gets nothing.
-fn waitable(state: State) -> Result<Got, Refused>
-    ensures { result ≡ claim_state state }
-{
-    match state {
-        State::Absent => Err(Refused::NoRow),
-        State::Unborn => Err(Refused::Unborn),
-        State::Stopped(number, status) => Ok(Got::Stop(number, status)),
-        State::Dead(number, status) => Ok(Got::Ended(number, status)),
-        State::Running | State::Claimed(..) | State::Reaped => Err(Refused::NotWaitable),
-    }
+    rules::claimable(tracer, state_of(roster, words, row))
 }
 
 /// Resumes a row that the tracer has claimed, or says why not.
@@ -255,25 +228,7 @@ pub(crate) fn resumable<A: Allocator>(
     requires { length words.now ≡ length roster.now }
     ensures { result ≡ resume_by tracer (state_by roster.now words.now row) }
 {
-    if tracer >= TRACERS {
-        return Err(Refused::NoRow);
-    }
-    held_by(tracer, state_of(roster, words, row))
-}
-
-/// Whether a tracer has claimed a row of this state, or why it cannot resume it.
-fn held_by(tracer: u32, state: State) -> Result<(), Refused>
-    ensures { result ≡ resume_state tracer state }
-{
-    match state {
-        State::Absent => Err(Refused::NoRow),
-        State::Unborn => Err(Refused::Unborn),
-        State::Claimed(_, holder) if holder == tracer => Ok(()),
-        State::Claimed(..) => Err(Refused::NotHolder),
-        State::Running | State::Stopped(..) | State::Dead(..) | State::Reaped => {
-            Err(Refused::NotClaimed)
-        }
-    }
+    rules::resumable(tracer, state_of(roster, words, row))
 }
 
 /// Lets a running row exit, or says why not: a leader waits for the other rows of its thread group.
@@ -290,7 +245,7 @@ pub(crate) fn exit_at<A: Allocator>(
         ≡ exit_by (holding_back roster.now (state_by roster.now words.old) row) (state_by roster.now words.old row) }
     ensures words { words.new ≡ with_word result words.old row (died (word_at words.old row) death) }
 {
-    running(state_of(roster, words, row))?;
+    rules::running(state_of(roster, words, row))?;
     exit_running(roster, words, row, death)
 }
 
@@ -315,18 +270,4 @@ pub(crate) fn exit_running<A: Allocator>(
     // The exit happens here.
     words[at] = died(words[at], death);
     Ok(())
-}
-
-/// Whether a row of this state runs, or why it can neither publish nor exit.
-pub(crate) fn running(state: State) -> Result<(), Refused>
-    ensures { result ≡ running_by state }
-{
-    match state {
-        State::Running => Ok(()),
-        State::Absent => Err(Refused::NoRow),
-        State::Unborn => Err(Refused::Unborn),
-        State::Stopped(..) | State::Claimed(..) | State::Dead(..) | State::Reaped => {
-            Err(Refused::NotRunning)
-        }
-    }
 }

@@ -166,9 +166,15 @@ fn order_text(
 {
     let commands = whole.commands.as_slice();
     let conditions = whole.conditions.as_slice();
-    let rows = file.rows.rows();
     let explored = &whole.explored;
-    match outcome_replay(alloc, rows, commands, conditions, explored, number as usize)? {
+    match outcome_replay(
+        alloc,
+        &file.rows,
+        commands,
+        conditions,
+        explored,
+        number as usize,
+    )? {
         Some(text) => Ok(text),
         None => Err(Failure::NoOutcome(number)),
     }

@@ -15,7 +15,8 @@ ghost use Rattle.trace_record.specs.Stop.{IsStop};
 
 use super::action::{Action, Reply};
 use super::look_at;
-use crate::words::{exit_running, publish_running, running, state_of};
+use crate::rules::running;
+use crate::words::{exit_running, publish_running, state_of};
 use std::alloc::Allocator;
 use stop_history::{Phase, Refused, Roster, Word, restart_in, taken_up};
 use trace_record::{Death, Resume, Stop};

@@ -2,7 +2,8 @@
 
 - With `--budget M`, M being its number of places, it prints the same; with one less there are too many places.
 - `--replay K` prints the order of its outcome K as a replay file, for each K; one more than there are is named.
-- `tracer replay` answers that file with the replies that the order lists: for a look or a peek with the state.
+- `tracer replay` answers that file with the replies that the order lists: for a look or a peek with the state, and for a
+  kill or an exit_group with the replies to the commands that it is made of.
 - Of a forbidden example litmus.py says how many places there are, and which budget the searches for its line need: with
   that budget it prints the same; with one less, if there are not too many places then, `forbidden` without a line.
 
@@ -25,6 +26,17 @@ def orders(text):
         yield [(*command.split(" ", 1), answer) for command, _, answer in turns]
 
 
+def ending(board, row, death):
+    """The commands, each of one row, by which a row's thread group ends, and the replies to them."""
+    for other in filter(board.is_alive, board.group(row)):
+        tid, (state, *numbers) = board.litmus.tids[other], board.state(other)
+        if state == "stopped":
+            yield f"claim {tid} 0", litmus.spell(("stop", *numbers))
+        if state != "running":
+            yield f"resume {tid} {numbers[1] if state == 'claimed' else 0} cont 0", "resumed"
+        yield f"exit {tid} {death}", "exited"
+
+
 def replay(rows, order):
     """An order as a replay file, and the replies to it. What a look leaves there, a board of litmus.py tells."""
     lines, replies, claimed = list(rows), [], {}
@@ -44,6 +56,12 @@ def replay(rows, order):
         if kind in ("look", "peek"):
             lines.append(f"state {aim}")
             replies.append(litmus.spell(board.state(row)))
+            continue
+        if kind in ("kill", "exit_group"):
+            for line, reply in ending(board, row, f"exited {rest[0]}" if rest else "killed 9"):
+                lines.append(line)
+                replies.append(reply)
+            _, board = board.call(row, kind, rest)
             continue
         if answer.startswith("stop "):
             claimed[thread] = aim
@@ -89,7 +107,7 @@ def follow(options, given, text):
     yield ["explore", "--replay", str(count + 1)], given, b"", f"tracer: no outcome {count + 1}\n".encode(), 4
 
 
-GIVEN = b"row 7 7 7 0\nthread a\n"
+GIVEN = b"row 7 7 7 0\nrow 8 7 7 7\nrow 9 7 7 7\nthread a\n"
 TEXT = b"""outcome 1 of 1
 order
 a publish 7 start: published 1
@@ -98,11 +116,46 @@ a peek group 7 2: 7 stop 1 0x80057f
 a wait any 0: 7 stop 1 0x80057f
 a resume it 0 cont 0: resumed
 a claim any 0: nothing
+a publish 7 clone 8: published 2
+a publish 8 enter: published 1
+a claim any 5: 7 stop 2 0x03057f
+a kill 8: killed
+a kill 7: dead
 
-outcomes 1, places 7
+outcomes 1, places 12
 """
-FILE = b"row 7 7 7 0\npublish 7 start\nstate 7\nstate 7\nclaim 7 0\nresume 7 0 cont 0\n"
-REPLIES = b"published 1\nstopped 1 0x80057f\nstopped 1 0x80057f\nstop 1 0x80057f\nresumed\n"
+# The last line is of a group of which nothing lives: no command of a replay is made of it.
+FILE = b"""row 7 7 7 0
+row 8 7 7 7
+row 9 7 7 7
+publish 7 start
+state 7
+state 7
+claim 7 0
+resume 7 0 cont 0
+publish 7 clone 8
+publish 8 enter
+claim 7 5
+claim 8 0
+resume 8 0 cont 0
+exit 8 killed 9
+resume 7 5 cont 0
+exit 7 killed 9
+"""
+REPLIES = b"""published 1
+stopped 1 0x80057f
+stopped 1 0x80057f
+stop 1 0x80057f
+resumed
+published 2
+published 1
+stop 2 0x03057f
+stop 1 0x00857f
+resumed
+exited
+resumed
+exited
+"""
 # An example with `--ends`, and what is printed without it.
 ENDING = b"row 7 7 7 0\nthread a\npublish 7 start\n"
 ENDS = b"1 outcomes, first 1: 7 stopped; nobody waits\noutcomes 1, places 2\n"
@@ -127,8 +180,8 @@ def is_right():
     tried = [([], GIVEN, TEXT), (["--ends"], ENDING, ENDS), ([], UNMET, NO_RUN)]
     found = [(" ".join(words), *of_it) for example in tried for words, *of_it in follow(*example)]
     return found == [
-        ("explore --budget 7", GIVEN, TEXT, b"", 0),
-        ("explore --budget 6", GIVEN, b"", TOO_MANY, 3),
+        ("explore --budget 12", GIVEN, TEXT, b"", 0),
+        ("explore --budget 11", GIVEN, b"", TOO_MANY, 3),
         ("explore --replay 1", GIVEN, FILE, b"", 0),
         ("replay", FILE, REPLIES, b"", 0),
         ("explore --replay 2", GIVEN, b"", b"tracer: no outcome 2\n", 4),

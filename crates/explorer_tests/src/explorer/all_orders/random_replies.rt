@@ -38,11 +38,12 @@ fn random_last(numbers: &mut RandomNumbers) -> Option<u32> {
     }
 }
 
-/// The status of an exit with status 0, or with another one, which nobody makes. None: any.
+/// The status of an exit with status 0, of a death by SIGKILL, or of an exit with status 1, which nobody makes. None: any.
 fn random_death(numbers: &mut RandomNumbers) -> Option<u32> {
     match numbers.below(6) {
         0 => Some(0x0000),
         1 => Some(0x0100),
+        2 => Some(0x0009),
         _ => None,
     }
 }
@@ -83,9 +84,11 @@ fn random_answer(numbers: &mut RandomNumbers, call: BoardCall) -> WantedAnswer {
         (BoardCall::State, _) => WantedAnswer::State(random_state(numbers)),
         (_, 4) => WantedAnswer::Refused(None),
         (BoardCall::Publish(_), 0) => WantedAnswer::Refused(Some(Refused::NotNext)),
-        (BoardCall::Publish(_) | BoardCall::Exit(_), 1) => {
+        (BoardCall::Publish(_) | BoardCall::Exit(_) | BoardCall::ExitGroup(_), 1) => {
             WantedAnswer::Refused(Some(Refused::NotRunning))
         }
+        (BoardCall::Kill, 0) => WantedAnswer::Dead,
+        (BoardCall::Kill, 1) => WantedAnswer::Refused(Some(Refused::Unborn)),
         (BoardCall::Publish(_), 2) => WantedAnswer::Refused(Some(Refused::Unborn)),
         (BoardCall::Publish(_), _) => WantedAnswer::Number(random_number(numbers)),
         (BoardCall::Look(_) | BoardCall::Claim(_), 0) => WantedAnswer::NoChild,
@@ -98,7 +101,10 @@ fn random_answer(numbers: &mut RandomNumbers, call: BoardCall) -> WantedAnswer {
         (BoardCall::Resume(..), 2) => WantedAnswer::Refused(Some(Refused::NotClaimed)),
         (BoardCall::Resume(..), 3) => WantedAnswer::Refused(Some(Refused::NotHolder)),
         (BoardCall::Exit(_), 2) => WantedAnswer::Refused(Some(Refused::GroupAlive(1))),
-        (BoardCall::Resume(..) | BoardCall::Exit(_), _) => WantedAnswer::Done,
+        (
+            BoardCall::Resume(..) | BoardCall::Exit(_) | BoardCall::Kill | BoardCall::ExitGroup(_),
+            _,
+        ) => WantedAnswer::Done,
     }
 }
 

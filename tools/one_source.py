@@ -22,6 +22,7 @@
 | wait flags, events | wait_flags.rt and event.rt of trace_options | docs/formats/tables.md |
 | the messages of a run | crates/tracer_cli/specs/Failure.antt | failure.rt, run_error.rt, FORMATS.md, man/tracer.1 |
 | the causes of a refusal | crates/trace_script/src/cause.rt | FORMATS.md, case-files.md, man/tracer.1 |
+| the kinds of stops | crates/trace_record/src/stop.rt | STOP_CODE and STOP_TEXT: a script that makes each, tests of each, its word |
 | the limits | limits.rt of stop_history and trace_script, pages.rt | README.md, docs/, man/tracer.1, bench/ |
 | those of litmus files, the budgets | draft.rt, grammar.rt of litmus_files; arguments.rt | the same, the help |
 | the bits of a word | layout.rt and Layout.antt of stop_history | its word.rt, docs/formats/layouts.md |
@@ -37,6 +38,19 @@ README, CALLS, RATTLE, TUTORIAL = "README.md", "docs/calls.md", "docs/RATTLE.md"
 TABLES, FORMATS, PAGE = "docs/formats/tables.md", "docs/FORMATS.md", "man/tracer.1"
 EXAMPLE, LOOP = "crates/system_tests/src/readme.rt", "crates/call_tests/src/waits/small_tracer.rt"
 FIRST_LOOP, FIRST_TEST = "bindings/rust/tests/page/tracer.rs", "bindings/rust/tests/page/tests.rs"
+STOPS = "crates/trace_record/src/stop.rt"
+# Where each kind of stop stands in code, any of the files of each; and where its word stands.
+STOP_CODE = {
+    "the machine": ["crates/trace_script/src/step/step_acts.rt", "crates/trace_script/src/machine/calls.rt"],
+    "the tests of statuses": ["crates/trace_record/src/tests.rt"],
+    "the tests of notes": ["crates/record_printer/src/text_tests/stops.rt", "crates/record_printer/src/text_tests/rows.rt"],
+    "the tests of restarts": ["crates/system_tests/src/workers/config.rt"],
+}
+STOP_TEXT = {
+    "docs/FORMATS.md": r"`WORD[ `]",
+    "man/tracer.1": r"\bWORD\b",
+    "tests/cases/replay_files.cases": r"publish \S+ WORD\b",
+}
 THREADS = "crates/call_tests/src/waits/two_tracers.rt"
 CHANGE = "crates/call_tests/src/waits/small_debugger.rt"
 LESSONS = [f"examples/rust/tutorial/src/{name}.rs" for name in ("broken", "tests", "mended", "tests")]
@@ -220,6 +234,18 @@ def cause_faults(read):
             yield f"{CASE_FILES}: neither it nor {FORMATS} has the cause {cause} of {CAUSES}"
 
 
+def stop_faults(read):
+    """Each kind of stop is made by some script, is in tests of what it means, and its word is in pages and cases."""
+    kinds = re.findall(r"^    (\w+)(?:\(\w+\))?,$", read(STOPS).split("pub enum Stop {")[1].split("\n}")[0], re.M)
+    for kind in kinds:
+        for what, files in STOP_CODE.items():
+            if not any(re.search(rf"\bStop::{kind}\b", read(file)) for file in files):
+                yield f"{files[0]}: {what} has no Stop::{kind} of {STOPS}"
+        for file, pattern in STOP_TEXT.items():
+            if not re.search(pattern.replace("WORD", kind.lower()), read(file)):
+                yield f"{file}: does not have the stop {kind.lower()} of {STOPS}"
+
+
 def message_faults(read):
     messages = re.findall(r'codes "(tracer: [^"]*?)\\n"', read(MESSAGES))
     failure, formats, page = read(FAILURE), read(FORMATS), read(PAGE)
@@ -277,6 +303,7 @@ PARTS = [
     option_faults,
     flag_faults,
     cause_faults,
+    stop_faults,
     message_faults,
     limit_faults,
     bit_faults,
@@ -322,6 +349,8 @@ CHANGES = [
     (PAGE, "and 256 tracees.", "and 64 tracees."),
     (PLAIN, "LAST_TRACER: u32 = 15;", "LAST_TRACER: u32 = 16;"),
     (PLAIN_CASE, "MOST_ROWS: usize = 256;", "MOST_ROWS: usize = 64;"),
+    (FORMATS, "`seccomp D`", "`secomp D`"),
+    ("crates/trace_script/src/step/step_acts.rt", "Stop::Seccomp", "Stop::Enter"),
     (README, "at most 64 threads and 4,096 commands.", "at most 64 threads and 4,095 commands."),
     (LITMUS_FILES, "N times, 1 to 64;", "N times, 0 to 64;"),
     (LITMUS_FILES, "at most 31 letters, digits", "at most 32 letters, digits"),

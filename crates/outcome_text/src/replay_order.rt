@@ -1,6 +1,7 @@
 //! The order of an outcome as a replay file: `tracer replay` runs it.
 
-ghost use Rattle.std.specs.Prelude.{◌≡◌, ◌++◌, IfOk, OnOk, map, option_map, string_bytes};
+ghost use Rattle.std.specs.Prelude.{◌≡◌, ◌++◌, IfOk, OnOk, length, map, option_map, string_bytes};
+ghost use Rattle.stop_board.specs.Board.{IsHeld};
 ghost use Rattle.stop_history.specs.Word.{state_by};
 ghost use Rattle.stop_program.specs.Threads.{commands_in};
 ghost use Rattle.outcome_text.specs.Chosen.{chosen_of};
@@ -8,7 +9,6 @@ ghost use Rattle.outcome_text.specs.OutcomeOrder.{HaveCalls, ending_replay, orde
 ghost use Rattle.outcome_text.specs.OutcomeOrder.{outcome_replay};
 ghost use Rattle.outcome_text.specs.OutcomeText.{command_of_turn};
 ghost use Rattle.replay_files.specs.Spelling.{orders_text};
-ghost use Rattle.std.specs.Prelude.{length};
 
 use crate::chosen::{chosen_run, thread_commands};
 use crate::replay_text::{write_order, write_rows};
@@ -16,7 +16,9 @@ use litmus_files::Condition;
 use std::alloc::Allocator;
 use stop_board::{BoardWords, NoMemory, Roster, Row};
 use stop_explorer::{Explored, FoundRun};
-use stop_program::{BoardCall, RowCall, ThreadCommand, Turn, command_after, make_turn, single_calls};
+use stop_program::{
+    BoardCall, RowCall, ThreadCommand, Turn, command_after, make_turn, single_calls,
+};
 
 /// The command that a turn did, after the turns before it.
 pub(crate) fn command_of_turn<A: Allocator>(
@@ -80,8 +82,9 @@ fn write_turn<A: Allocator + Copy, B: Allocator>(
     row: u32,
     asked: BoardCall,
 ) -> Result<(), NoMemory>
-    ensures { OnOk result (string_bytes out.new ≡ string_bytes out.old
+    ensures written { OnOk result (string_bytes out.new ≡ string_bytes out.old
         ++ orders_text board.now.rows (orders_of_call board.now.rows (state_by board.now.rows board.now.words) row asked)) }
+    ensures held { IsHeld board.now.rows board.now.words }
 {
     if row < board.len() {
         let calls = single_calls(alloc, board, row, asked)?;

@@ -11,9 +11,9 @@ use Rattle.outcome_text.proofs.replay_order.write_orders.Given as goal
 abbrev pub invariant-loop-i : goal.invariant-loop-i
 invariant-loop-i g l =
     let commands = commands_in l.commands in (
-      string_bytes l.out
-      ++ orders_text l.roster (orders_after l.roster commands (take l.i l.turns) (drop l.i l.turns))
-      ≡ string_bytes l.fn.out ++ orders_text l.roster (orders_of l.roster commands l.turns)
+    string_bytes l.out
+    ++ orders_text l.roster (orders_after l.roster commands (take l.i l.turns) (drop l.i l.turns))
+    ≡ string_bytes l.fn.out ++ orders_text l.roster (orders_of l.roster commands l.turns)
     )
     × (l.before.rows ≡ l.roster)
     × (l.after.rows ≡ l.roster)

@@ -84,6 +84,14 @@ not_more_with content count budget places voices own own_are voices_are counted 
     let above = law content.rows (is_quiet content.voices) (commands_with content count) places budget has more in
     omega (arith, above, within)
 
+-- more places than a budget are found of the same program
+pub more_with : (content : LitmusContent) (count budget : ℕ) (voices : List Voice) (own : ℕ → List ThreadCommand)
+    → own ≡ commands_with content count → voices ≡ content.voices
+    → HasMorePlaces content.rows (is_quiet voices) own budget → HasMorePlacesWith content count budget
+more_with content count budget voices own own_are voices_are more =
+    subst (λ v. HasMorePlaces content.rows (is_quiet v) (commands_with content count) budget) voices_are
+    (subst (λ o. HasMorePlaces content.rows (is_quiet voices) o budget) own_are more)
+
 -- a search with more requirements tells of fewer, where these have all replies
 pub outcomes_within : (content : LitmusContent) (count more places : ℕ) (found : List EndedRun) → count ≤ more
     → have_numbers_to count content.lines ≡ true → AreOutcomes content more found places

@@ -40,10 +40,10 @@ pub(crate) fn write_call<A: Allocator>(
             write_stop(out, stop)
         }
         BoardCall::State => write_verb(out, "state", rows, which),
-        BoardCall::Look(tracer) => write_by_tracer(out, look_verb(waits), rows, which, tracer),
-        BoardCall::Claim(tracer) => write_by_tracer(out, claim_verb(waits), rows, which, tracer),
+        BoardCall::Look(tracer) => write_with_number(out, look_verb(waits), rows, which, tracer),
+        BoardCall::Claim(tracer) => write_with_number(out, claim_verb(waits), rows, which, tracer),
         BoardCall::Resume(tracer, how) => {
-            write_by_tracer(out, "resume", rows, which, tracer)?;
+            write_with_number(out, "resume", rows, which, tracer)?;
             write_restart(out, how)
         }
         BoardCall::Exit(death) => {
@@ -52,8 +52,7 @@ pub(crate) fn write_call<A: Allocator>(
         }
         BoardCall::Kill => write_verb(out, "kill", rows, which),
         BoardCall::ExitGroup(code) => {
-            write_verb(out, "exit_group", rows, which)?;
-            write_number(out, " ", u32::from(code), "")
+            write_with_number(out, "exit_group", rows, which, u32::from(code))
         }
     }
 }
@@ -90,20 +89,20 @@ fn write_verb<A: Allocator>(
     Ok(())
 }
 
-/// The same, and the tracer that calls.
+/// Writes a call's first word, the tracee that it is about, and a number: the tracer that calls, or a code.
 #[tactic(auto, using(replay_files::proofs::Written::in_two))]
-fn write_by_tracer<A: Allocator>(
+fn write_with_number<A: Allocator>(
     out: &mut String<A>,
     verb: &str,
     rows: &[Row],
     which: Which,
-    tracer: u32,
+    number: u32,
 ) -> Result<(), NoMemory>
     ensures { OnOk result (string_bytes out.new
-        ≡ string_bytes out.old ++ (verb.now ++ spaced (tracee_word rows.now which ∷ decimal tracer ∷ []))) }
+        ≡ string_bytes out.old ++ (verb.now ++ spaced (tracee_word rows.now which ∷ decimal number ∷ []))) }
 {
     write_verb(out, verb, rows, which)?;
-    write_number(out, " ", tracer, "")?;
+    write_number(out, " ", number, "")?;
     Ok(())
 }
 

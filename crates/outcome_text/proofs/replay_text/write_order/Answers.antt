@@ -6,6 +6,6 @@ use Rattle.outcome_text.proofs.replay_text.write_order.Goals as goal
 
 pub returns : goal.returns
 returns g c =
-    let order = c.args.order.now in
-    line_written _ _ _ _ _ (c.asked_by.ensures (decimal (row_at c.args.rows.now order.row).tid))
+    let one = c.args.one.now in
+    line_written _ _ _ _ _ (c.replayed.ensures (decimal (row_at c.args.rows.now one.row).tid))
     c.in_ok-write_call.ensures c.in_ok-push_str.ensures.bytes

@@ -1,19 +1,24 @@
 -- What was found is of the program with the first n requirements.
-use Rattle.std.proofs.Common.{◌≡◌, ◌∙◌, ◌<◌, ℕ, List, ap, arith, length, subst, sym}
+use Rattle.std.proofs.Common.{Err, Result, ◌≡◌, ◌∙◌, ◌<◌, ℕ, List, ap, arith, length, subst, sym}
 use Rattle.std.proofs.Math.Path.{fun_ext}
+use Rattle.std.proofs.lemmas.Result.{err_from_is_err_and}
 use Rattle.std.specs.List.{All}
 use Rattle.stop_program.specs.declared.command.ThreadCommand.{ThreadCommand}
 use Rattle.stop_program.specs.declared.voice.Voice.{Voice}
 use Rattle.stop_program.specs.BoardCall.{IsBoardCall}
 use Rattle.stop_program.specs.Program.{Program, own_commands}
 use Rattle.stop_program.specs.Threads.{AreCommands, commands_in}
+use Rattle.stop_explorer.specs.declared.error.ExploreError.{ExploreError}
 use Rattle.litmus_files.specs.LitmusDraft.{content_in}
 use Rattle.litmus_files.specs.Required.{conditions_with, program_with}
 use Rattle.litmus_files.proofs.LitmusFiles.{length_kept}
 use Rattle.outcome_text.specs.Searched.{commands_with}
-use Rattle.outcome_text.proofs.SearchedFiles.{AreFound, not_more_with, outcomes_of}
+use Rattle.outcome_text.proofs.SearchedFiles.{AreFound, more_with, not_more_with, outcomes_of}
 use Rattle.outcome_text.proofs.Unmet.{calls_with, threads_with}
 use Rattle.outcome_text.proofs.searched.search.Goals as goal
+
+same_error : {T : Type 0} (result : Result T ExploreError) (a b : ExploreError) → result ≡ Err a → result ≡ Err b → a ≡ b
+same_error result a b first second = cc
 
 pub commands_of-requires-clause-calls : goal.commands_of-requires-clause-calls
 commands_of-requires-clause-calls c =
@@ -54,6 +59,20 @@ returns-clause-few c =
     not_more_with content c.args.count c.args.budget c.in_ok-explored.explored.places c.as_slice-voices.result.now
     (commands_in c.as_slice-own.result.now) own_are c.as_slice-voices.ensures.value c.in_ok-explored.ensures.places
     c.in_ok-explored.ensures.within c.places_have_one_number.ensures.more
+
+pub returns-in_err-explored-clause-too_many : goal.returns-in_err-explored-clause-too_many
+returns-in_err-explored-clause-too_many c = λ fault.
+    let content = content_in c.args.file.now in
+    let program_is = c.as_slice-2.ensures.value ∙ c.in_ok-program.ensures
+    ∙ ap (program_with c.args.count) c.as_slice.ensures.value in
+    let own_are : commands_in c.as_slice-own.result.now ≡ commands_with content c.args.count = fun_ext (λ thread.
+    ap (λ lists. commands_in lists thread) c.as_slice-own.ensures.value ∙ c.in_ok-commands.ensures.commands thread
+    ∙ ap (λ (p : Program). own_commands p thread) program_is) in
+    let handed = err_from_is_err_and c.from_residual-in_err-explored.result c.from_residual-in_err-explored.ensures.1 in
+    more_with content c.args.count c.args.budget c.as_slice-voices.result.now (commands_in c.as_slice-own.result.now)
+    own_are c.as_slice-voices.ensures.value
+    (c.in_err-explored.ensures.too_many
+    (ap Err (sym handed.2 ∙ same_error c.from_residual-in_err-explored.result _ _ handed.1 fault)))
 
 pub returns-clause-found : goal.returns-clause-found
 returns-clause-found c =

@@ -2,6 +2,7 @@
 mod Allowed
 pub mod Answering
 mod Births
+mod Calls
 pub mod Counting
 mod Dealing
 pub mod Entries

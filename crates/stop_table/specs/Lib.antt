@@ -1,4 +1,5 @@
 pub mod Boxed
+pub mod Calls
 pub mod Claiming
 pub mod Entry
 pub mod Group

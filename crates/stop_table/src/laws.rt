@@ -18,7 +18,9 @@ ghost use Rattle.stop_history.specs.Roster.{row_at};
 ghost use Rattle.stop_history.specs.State.{state_after};
 ghost use Rattle.stop_history.specs.Word.{Word};
 ghost use Rattle.stop_table.specs.declared.shown.Shown.TheVariants as shows;
-ghost use Rattle.stop_table.specs.Entry.{AreLegal, Entry, bare, cell_after, content_after, history_of, publish_of};
+ghost use Rattle.stop_table.specs.Calls.{ActsForAll, HasCalled, IsMadeByOne};
+ghost use Rattle.stop_table.specs.Entry.{AreLegal, Begins, Entry, GoesOn, bare, cell_after, content_after, history_of};
+ghost use Rattle.stop_table.specs.Entry.{publish_of};
 ghost use Rattle.stop_table.specs.Handle.{EndsWith, Grows, IsHolding, IsLostSince, Meets, own_events, shown_of};
 ghost use Rattle.stop_table.specs.Tracer.{is_held};
 ghost use Rattle.stop_table.specs.View.{View, actors_of, is_among};
@@ -57,6 +59,27 @@ pub fn a_meeting_keeps_events()
     ensures claims { (v w u : View) → is_among v.number v.tracers ≡ true → Meets v w u →
         AreLegal u.roster u.seen → (row : ℕ) →
         is_held v row ≡ true → cell_after u.roster u.seen row ≡ cell_after v.roster v.seen row }
+{}
+
+/// Each event of the actors of a handle that has not met another is made by one of its calls, and by no other: of what
+/// it has seen, and of each history that goes on from there without an event of its actors.
+pub fn an_own_event_is_made_by_one_call()
+    ensures { (last : View) (earlier : List View) → HasCalled last earlier →
+        (h : List Entry) → GoesOn (actors_of last) last.seen h →
+        (before : List Entry) (x : Entry) → Begins (x ∷ before) h → actors_of last (actor_of x.event) ≡ true →
+        IsMadeByOne last earlier before x }
+{}
+
+/// A history that goes on from what a merged handle has seen, without an event of its actors, goes on so from what each
+/// of the two had seen.
+pub fn both_that_met_go_on()
+    ensures { (v w u : View) → Meets v w u → (h : List Entry) → GoesOn (actors_of u) u.seen h →
+        GoesOn (actors_of v) v.seen h × GoesOn (actors_of w) w.seen h }
+{}
+
+/// A handle that acts for all tracees and for all 16 tracers made each event that it has seen.
+pub fn who_acts_for_all_made_all_events()
+    ensures { (v : View) → ActsForAll v → AreLegal v.roster v.seen → own_events v ≡ v.seen }
 {}
 
 /// Where a call lost its claim to another, the stop that the call's look had shown is claimed at that point, with its

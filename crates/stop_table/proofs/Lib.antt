@@ -1,5 +1,6 @@
 -- Other crates cite the modules that are `pub`. The others prove what this crate ensures.
 mod Allowed
+mod Alone
 pub mod Answering
 mod Births
 mod Calls

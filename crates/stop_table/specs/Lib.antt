@@ -1,3 +1,4 @@
+pub mod Alone
 pub mod Boxed
 pub mod Calls
 pub mod Claiming

@@ -1,27 +1,40 @@
 //! Laws of what the contracts tell: each function is its contract alone.
 
-ghost use Rattle.std.specs.Prelude.{◌≡◌, ◌∷◌, ◌≢◌, ◌||◌, ◌+◌, ◌<◌, ℕ, true, List, filter, is_some, if◌then◌else◌, length};
+ghost use Rattle.std.specs.Prelude.{◌≡◌, ◌∷◌, ◌≢◌, ◌||◌, ◌+◌, ◌<◌, ℕ, Bool, true, List, Some, Ok, Err, filter};
+ghost use Rattle.std.specs.Prelude.{is_some, if◌then◌else◌, length};
 ghost use Rattle.trace_pages.specs.FlatMemory.{Full, run_end};
 ghost use Rattle.trace_regs.specs.declared.regs.Regs.{Regs};
 ghost use Rattle.trace_record.specs.Content.{Content};
-ghost use Rattle.trace_record.specs.Stop.{child_of};
+ghost use Rattle.trace_record.specs.Death.{death_status};
+ghost use Rattle.trace_record.specs.Stop.{child_of, stop_status};
 ghost use Rattle.trace_record.specs.declared.death.Death.{Death};
+ghost use Rattle.trace_record.specs.declared.resume.Resume.{Resume as Restart};
+ghost use Rattle.trace_record.specs.declared.stop.Stop.{Stop};
 ghost use Rattle.stop_history.specs.declared.actor.Actor.{Actor};
+ghost use Rattle.stop_history.specs.declared.actor.Actor.TheVariants.{Tracee};
+ghost use Rattle.stop_history.specs.declared.got.Got.TheVariants as got;
+ghost use Rattle.stop_history.specs.declared.limits.TheConstants.{TRACERS};
+ghost use Rattle.stop_history.specs.declared.refused.Refused.{Refused};
+ghost use Rattle.stop_history.specs.declared.refused.Refused.TheVariants as refused;
 ghost use Rattle.stop_history.specs.declared.roster.Row.{Row};
 ghost use Rattle.stop_history.specs.declared.state.State.TheVariants as state;
 ghost use Rattle.stop_history.specs.Actor.{actor_of};
 ghost use Rattle.stop_history.specs.Event as event;
 ghost use Rattle.stop_history.specs.Event.{subject};
-ghost use Rattle.stop_history.specs.History.{IsLegal};
+ghost use Rattle.stop_history.specs.History.{IsLegal, holding_back};
 ghost use Rattle.stop_history.specs.Ranges.{AreInRange};
 ghost use Rattle.stop_history.specs.Roster.{row_at};
-ghost use Rattle.stop_history.specs.State.{state_after};
+ghost use Rattle.stop_history.specs.Sequential.{claim_answer, exit_answer, publish_answer, resume_answer};
+ghost use Rattle.stop_history.specs.State.{last_number, state_after};
 ghost use Rattle.stop_history.specs.Word.{Word};
+ghost use Rattle.stop_table.specs.declared.shown.Shown.{Shown};
 ghost use Rattle.stop_table.specs.declared.shown.Shown.TheVariants as shows;
+ghost use Rattle.stop_table.specs.Alone.{IsAnsweredAt, claim_by_shown, running_by_shown};
 ghost use Rattle.stop_table.specs.Calls.{ActsForAll, HasCalled, IsMadeByOne};
 ghost use Rattle.stop_table.specs.Entry.{AreLegal, Begins, Entry, GoesOn, bare, cell_after, content_after, history_of};
-ghost use Rattle.stop_table.specs.Entry.{publish_of};
-ghost use Rattle.stop_table.specs.Handle.{EndsWith, Grows, IsHolding, IsLostSince, Meets, own_events, shown_of};
+ghost use Rattle.stop_table.specs.Entry.{publish_of, resume_of};
+ghost use Rattle.stop_table.specs.Handle.{Claims, EndsWith, Grows, IsHolding, IsLostSince, Meets, Reaps, own_events};
+ghost use Rattle.stop_table.specs.Handle.{shown_of};
 ghost use Rattle.stop_table.specs.Tracer.{is_held};
 ghost use Rattle.stop_table.specs.View.{View, actors_of, is_among};
 ghost use Rattle.stop_table.specs.Written.{with_bytes, with_regs};
@@ -80,6 +93,53 @@ pub fn both_that_met_go_on()
 /// A handle that acts for all tracees and for all 16 tracers made each event that it has seen.
 pub fn who_acts_for_all_made_all_events()
     ensures { (v : View) → ActsForAll v → AreLegal v.roster v.seen → own_events v ≡ v.seen }
+{}
+
+/// A call that made an event was answered as one thread alone is, by the definitions of sequential answers, at the
+/// history before the event, and that history goes on by it as theirs does.
+pub fn calls_with_events_answer_as_one_thread()
+    ensures publish { (v w : View) (before : List Entry) (row : ℕ) (content : Content) →
+        EndsWith v w before (publish_of row content) →
+        IsAnsweredAt (publish_answer v.roster (history_of before) row content.stop) (Ok content.number)
+        (history_of before) (event.Publish row (last_number (history_of before) row + 1) content.stop) w }
+    ensures claim { (v w : View) (row : ℕ) (content : Content) (claims : Claims v w row content) →
+        IsAnsweredAt (claim_answer v.roster (history_of claims.0) row v.number)
+        (Ok (got.Stop content.number (stop_status content.stop)))
+        (history_of claims.0) (event.Claim row (last_number (history_of claims.0) row) v.number) w }
+    ensures reap { (v w : View) (row : ℕ) (death : Death) (number : ℕ) (reaps : Reaps v w row death number) →
+        IsAnsweredAt (claim_answer v.roster (history_of reaps.0) row v.number)
+        (Ok (got.Ended number (death_status death)))
+        (history_of reaps.0) (event.Claim row (last_number (history_of reaps.0) row) v.number) w }
+    ensures resume { (v w : View) (before : List Entry) (row number : ℕ) (how : Restart) (tracer : ℕ)
+        (content : Content) → EndsWith v w before (resume_of row number how tracer content) →
+        IsAnsweredAt (resume_answer v.roster (history_of before) row tracer) (Ok tt)
+        (history_of before) (event.Resume row (last_number (history_of before) row) how tracer) w }
+    ensures exit { (v w : View) (before : List Entry) (row : ℕ) (death : Death) →
+        EndsWith v w before (bare (event.Exit row death)) →
+        IsAnsweredAt (exit_answer v.roster (history_of before) row) (Ok tt)
+        (history_of before) (event.Exit row death) w }
+{}
+
+/// What a call that made no event was shown of a row says what one thread alone is answered at its point: a look and a
+/// claim, and a publish and an exit of a row that could not be taken up. The exit of a leader that another row holds
+/// back is refused so too, since a row that was taken up runs until its tracee makes an event.
+pub fn calls_without_events_answer_as_one_thread()
+    ensures claim { (rows : List Row) (h : List Entry) (row tracer : ℕ) (a : Shown) →
+        row < length rows → tracer < TRACERS → a ≡ shown_of (state_after rows (history_of h) row) →
+        claim_answer rows (history_of h) row tracer ≡ claim_by_shown a }
+    ensures not_running { (rows : List Row) (h : List Entry) (row : ℕ) (a : Shown) → row < length rows →
+        a ≡ shown_of (state_after rows (history_of h) row) →
+        (refusal : Refused) → running_by_shown a ≡ Err refusal →
+        ((stop : Stop) → publish_answer rows (history_of h) row stop ≡ Err refusal)
+        × (exit_answer rows (history_of h) row ≡ Err refusal) }
+    ensures held_back { (rows : List Row) (h : List Entry) (row other : ℕ) →
+        state_after rows (history_of h) row ≡ state.Running →
+        holding_back rows (state_after rows (history_of h)) row ≡ Some other →
+        exit_answer rows (history_of h) row ≡ Err (refused.GroupAlive other) }
+    ensures runs { (rows : List Row) (actors : Actor → Bool) (seen h : List Entry) (row : ℕ) → AreLegal rows h →
+        GoesOn actors seen h → actors (Tracee row) ≡ true →
+        state_after rows (history_of seen) row ≡ state.Running →
+        state_after rows (history_of h) row ≡ state.Running }
 {}
 
 /// Where a call lost its claim to another, the stop that the call's look had shown is claimed at that point, with its

@@ -13,6 +13,7 @@ fn word_of(alloc: Global, answer: Answer, done: &str) -> Result<String, AllocErr
         Answer::Got(got) => got_word(alloc, got),
         Answer::Saw(got) => got_word(alloc, got),
         Answer::Done => format!(in alloc; "{done}"),
+        Answer::Dead => format!(in alloc; "dead"),
         Answer::Nothing => format!(in alloc; "nothing"),
         Answer::NoChild => format!(in alloc; "no child"),
         Answer::Refused(refusal) => format!(in alloc; "refused {refusal:?}"),

@@ -22,7 +22,7 @@
 | wait flags, events | wait_flags.rt and event.rt of trace_options | docs/formats/tables.md |
 | the messages of a run | crates/tracer_cli/specs/Failure.antt | failure.rt, run_error.rt, FORMATS.md, man/tracer.1 |
 | the causes of a refusal | crates/trace_script/src/cause.rt | FORMATS.md, case-files.md, man/tracer.1 |
-| the kinds of stops | crates/trace_record/src/stop.rt | STOP_CODE and STOP_TEXT: a script that makes each, tests of each, its word |
+| the kinds of stops | crates/trace_record/src/stop.rt | the files of STOP_CODE and STOP_TEXT |
 | the limits | limits.rt of stop_history and trace_script, pages.rt | README.md, docs/, man/tracer.1, bench/ |
 | those of litmus files, the budgets | draft.rt, grammar.rt of litmus_files; arguments.rt | the same, the help |
 | the bits of a word | layout.rt and Layout.antt of stop_history | its word.rt, docs/formats/layouts.md |

@@ -103,7 +103,7 @@ module _ (rows : List Row) (commands : ℕ → List ThreadCommand) (turns : Log)
       ∙ (λ j. old ++ orders_text (same j) (own_is j)))
       (ap (orders_text rows) (orders_more rows commands turns i d within) ∙ text_of_both rows own rest)
 
-  -- no command was done: there is no order
+  -- a turn that did no command has no order
   pub turn_passed : (out : List ℕ) → command_of_turn commands (take i turns) (get_or turns i d) ≡ None
       → out ++ orders_text rows (orders_after rows commands (take (i + 1) turns) (drop (i + 1) turns))
       ≡ out ++ orders_text rows (orders_after rows commands (take i turns) (drop i turns))

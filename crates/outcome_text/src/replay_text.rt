@@ -46,8 +46,8 @@ pub(crate) fn write_order<A: Allocator>(
     Ok(())
 }
 
-/// A call as a replay file has it. A look leaves the stop where it is, as a question for the state does; the end of a
-/// thread group is no command there.
+/// A call as a replay file has it. A look leaves the stop where it is, as a question for the state does. A replay file
+/// has no command that ends a thread group.
 fn replayed(asked: BoardCall) -> BoardCall
     ensures { (tracee : List ℕ) → board_call_words tracee false result ≡ words_about tracee (replayed_call asked) }
 {

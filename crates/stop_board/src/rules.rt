@@ -31,8 +31,8 @@ pub fn running(state: State) -> Result<(), Refused>
     }
 }
 
-/// What a tracer's claim of a row of this state gets, or why it gets nothing: `NoRow`, also where there is no such
-/// tracer, `Unborn`, `NotWaitable`.
+/// What a tracer's claim of a row of this state gets, or why it is refused: `NoRow` (also for a tracer past the last),
+/// `Unborn`, `NotWaitable`.
 pub fn claimable(tracer: u32, state: State) -> Result<Got, Refused>
     ensures { result ≡ claim_by tracer state }
 {
@@ -55,8 +55,8 @@ fn waitable(state: State) -> Result<Got, Refused>
     }
 }
 
-/// Whether a tracer may resume a row of this state, or why not: `NoRow`, also where there is no such tracer, `Unborn`,
-/// `NotHolder`, `NotClaimed`.
+/// Whether a tracer may resume a row of this state, or why it is refused: `NoRow` (also for a tracer past the last),
+/// `Unborn`, `NotHolder`, `NotClaimed`.
 pub fn resumable(tracer: u32, state: State) -> Result<(), Refused>
     ensures { result ≡ resume_by tracer state }
 {

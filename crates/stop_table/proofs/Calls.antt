@@ -92,7 +92,7 @@ call_longer v w (inr (before, x, ends, mine)) =
     let fits = longer_on (actors_of v) v.seen before ends.goes_on in
     let long = ap length ends.seen in omega (arith, fits, long)
 
--- what was seen earlier is no longer
+-- an earlier view has seen no more events than a later one
 earlier_shorter : (last : View) (earlier : List View) → HasCalled last earlier → (i : ℕ) (w : View)
     → slice_get (last ∷ earlier) i ≡ Some w → length w.seen ≤ length last.seen
 earlier_shorter last earlier calls zero w is =

@@ -38,7 +38,8 @@ fn random_last(numbers: &mut RandomNumbers) -> Option<u32> {
     }
 }
 
-/// The status of an exit with status 0, of a death by SIGKILL, or of an exit with status 1, which nobody makes. None: any.
+/// The status of an exit with status 0, of a death by SIGKILL, or of an exit with status 1, which nobody makes. None:
+/// any.
 fn random_death(numbers: &mut RandomNumbers) -> Option<u32> {
     match numbers.below(6) {
         0 => Some(0x0000),

@@ -1,10 +1,11 @@
 //! Laws of the definitions: each function is its contract alone.
 
-ghost use Rattle.std.specs.Prelude.{◌≡◌, ◌≤◌, [], ℕ, Decides, false, true, List, Ok, Some};
+ghost use Rattle.std.specs.Prelude.{◌≡◌, ◌≤◌, [], ℕ, Decides, false, true, List, Ok, Some, map};
 ghost use Rattle.stop_program.specs.declared.answer.Answer.TheVariants as answer;
 ghost use Rattle.stop_program.specs.declared.board_call.BoardCall.{BoardCall};
 ghost use Rattle.stop_program.specs.declared.command.ThreadCommand.{ThreadCommand};
 ghost use Rattle.stop_program.specs.BoardCall.{answer_to};
+ghost use Rattle.stop_program.specs.CalledAt.{AnsweredCall, AreMadeBy, CalledAt, IsRunOf, turn_of};
 ghost use Rattle.stop_program.specs.Command.{is_lasting_refusal};
 ghost use Rattle.stop_program.specs.Program.{Log};
 ghost use Rattle.stop_program.specs.Replies.{AreSoAnswered, HaveComeTrue, done_by_thread, without_replies};
@@ -20,7 +21,7 @@ ghost use Rattle.litmus_files.specs.LitmusFile.{LitmusContent, litmus_content_of
 ghost use Rattle.litmus_files.specs.Required.{conditions_with};
 ghost use Rattle.outcome_text.specs.Waiting.{state_at, waiting_refusal};
 
-use stop_program::laws::replies_choose_runs;
+use stop_program::laws::{calls_at_points_are_a_run, replies_choose_runs};
 
 /// The refusal that a call is said to wait for is the one that it gets at each history that leaves these states, if
 /// that one may pass; and it gets each that is said.
@@ -53,6 +54,22 @@ pub fn what_is_forbidden_has_no_run()
         (conditions_with (all_required content) content.conditions) (ended_run content.rows run last) ≡ false }
 {
     replies_choose_runs();
+}
+
+/// A file is not forbidden whose commands make calls that were each answered as at a point of one history, with those
+/// answers as its replies, and whose conditions hold at the end of each run of these calls: what threads did on shared
+/// cells is never forbidden.
+pub fn what_calls_did_is_not_forbidden()
+    ensures { (content : LitmusContent) (h : History) (calls : List AnsweredCall) → CalledAt content.rows h calls →
+        AreMadeBy content.rows (commands_with content (all_required content)) calls →
+        ((ordered : List AnsweredCall) →
+        IsRunOf content.rows (commands_with content (all_required content)) h calls ordered →
+        conditions_hold (commands_with content (all_required content))
+        (conditions_with (all_required content) content.conditions)
+        (ended_run content.rows (map turn_of ordered) h) ≡ true) →
+        CanMeet content (all_required content) }
+{
+    calls_at_points_are_a_run();
 }
 
 /// An outcome that is printed of a file is a run of its program without replies: one in which each command with a reply

@@ -1,5 +1,10 @@
 //! Logs whose orders were worked out by hand.
 
+ghost use Rattle.std.specs.Prelude.{◌≤◌, IfOk, length};
+ghost use Rattle.std.specs.List.{All};
+ghost use Rattle.stop_program.specs.BoardCall.{IsBoardCall};
+ghost use Rattle.log_checker.specs.LoggedCall.{GoesOn, IsAskedWell};
+
 use crate::{CheckError, LoggedCall, Stamp, Verdict, check};
 use std::alloc::Allocator;
 use std::test::Fail;
@@ -21,7 +26,10 @@ const ROOT: Row = Row {
 const STARTED: WantedAnswer = WantedAnswer::Got(WantedGot::Stop(Some(1), Some(0x80057f)));
 
 /// A call of row 0, which was answered so.
-fn call(asked: BoardCall, answer: WantedAnswer) -> LoggedCall {
+fn call(asked: BoardCall, answer: WantedAnswer) -> LoggedCall
+    requires { IsBoardCall asked }
+    ensures { IsBoardCall result.command.call }
+{
     LoggedCall {
         command: ThreadCommand {
             which: Which::Row(0),
@@ -35,7 +43,10 @@ fn call(asked: BoardCall, answer: WantedAnswer) -> LoggedCall {
 }
 
 /// The same call with a stamp.
-fn at(begin: u64, end: u64, one: LoggedCall) -> LoggedCall {
+fn at(begin: u64, end: u64, one: LoggedCall) -> LoggedCall
+    requires { IsBoardCall one.command.call }
+    ensures { IsBoardCall result.command.call }
+{
     LoggedCall {
         stamp: Some(Stamp { begin, end }),
         ..one
@@ -43,17 +54,26 @@ fn at(begin: u64, end: u64, one: LoggedCall) -> LoggedCall {
 }
 
 /// Row 0 publishes its first stop.
-fn publish() -> LoggedCall {
+fn publish() -> LoggedCall
+    ensures { IsBoardCall result.command.call }
+{
     call(BoardCall::Publish(Stop::Start), WantedAnswer::Number(None))
 }
 
 /// A tracer claims the first stop.
-fn claim(tracer: u32) -> LoggedCall {
+fn claim(tracer: u32) -> LoggedCall
+    ensures { IsBoardCall result.command.call }
+{
     call(BoardCall::Claim(tracer), STARTED)
 }
 
 /// The calls of a thread, each of which leads on to the next one.
-fn thread_of<A: Allocator>(alloc: A, calls: &[LoggedCall]) -> Result<Vec<LoggedCall, A>, Fail> {
+fn thread_of<A: Allocator>(alloc: A, calls: &[LoggedCall]) -> Result<Vec<LoggedCall, A>, Fail>
+    requires few { length calls.now ≤ 20 }
+    requires asked { All (λ one. IsBoardCall one.command.call) calls.now }
+    ensures asked { IfOk result (λ own. IsAskedWell own.items) }
+    ensures onward { IfOk result (λ own. GoesOn own.items) }
+{
     let mut own = Vec::new(alloc);
     for at in 0..calls.len() {
         let one = calls[at];
@@ -68,27 +88,44 @@ fn thread_of<A: Allocator>(alloc: A, calls: &[LoggedCall]) -> Result<Vec<LoggedC
     Ok(own)
 }
 
-/// The order of a log of two threads over one row, within a budget; empty where there is none.
-fn order_of<A: Allocator + Copy>(
+/// What is answered of a log of two threads over one row, within a budget.
+fn verdict_of<A: Allocator + Copy>(
     alloc: A,
     first: &[LoggedCall],
     second: &[LoggedCall],
     budget: usize,
-) -> Result<Option<Vec<Turn, A>>, Fail> {
+) -> Result<Result<Verdict<A>, CheckError>, Fail>
+    requires few { length first.now ≤ 20 }
+    requires few_more { length second.now ≤ 20 }
+    requires asked { All (λ one. IsBoardCall one.command.call) first.now }
+    requires asked_too { All (λ one. IsBoardCall one.command.call) second.now }
+{
     let roster = Roster::new(alloc, &[ROOT])?;
-    let calls = vec![in alloc; thread_of(alloc, first)?, thread_of(alloc, second)?]?;
-    match check(alloc, &roster, calls.as_slice(), budget) {
-        Ok(Verdict::Allowed(turns)) => Ok(Some(turns)),
-        Ok(Verdict::Forbidden) => Ok(None),
-        Err(CheckError::TooMany) => Err(Fail::new("too many states")),
-        Err(CheckError::NoMemory) => Err(Fail::new("no memory")),
+    let one = thread_of(alloc, first)?;
+    let other = thread_of(alloc, second)?;
+    let mut calls = Vec::new(alloc);
+    calls.push(one)?;
+    calls.push(other)?;
+    Ok(check(alloc, &roster, calls.as_slice(), budget))
+}
+
+/// The order that is answered, if the log is allowed.
+fn order_in<A: Allocator>(verdict: Result<Verdict<A>, CheckError>) -> Option<Vec<Turn, A>> {
+    match verdict {
+        Ok(Verdict::Allowed(turns)) => Some(turns),
+        _ => None,
     }
+}
+
+/// Whether the log is forbidden.
+fn is_forbidden<A: Allocator>(verdict: Result<Verdict<A>, CheckError>) -> bool {
+    matches!(verdict, Ok(Verdict::Forbidden))
 }
 
 /// The first stop can be claimed only after it is published.
 #[test]
 fn a_claim_comes_after_the_stop(rt: HostRuntime) -> Result<(), Fail> {
-    let turns = order_of(rt.alloc(), &[claim(3)], &[publish()], 3)?;
+    let verdict = verdict_of(rt.alloc(), &[claim(3)], &[publish()], 3)?;
     let wanted = [
         Turn {
             thread: 1,
@@ -101,54 +138,53 @@ fn a_claim_comes_after_the_stop(rt: HostRuntime) -> Result<(), Fail> {
             answer: Answer::Got(Got::Stop(1, 0x80057f)),
         },
     ];
-    assert!(rt; turns.is_some_and(|order| order.as_slice() == wanted.as_slice()));
+    let order = order_in(verdict);
+    assert!(rt; order.is_some_and(|turns| turns.as_slice() == wanted.as_slice()));
     Ok(())
 }
 
 /// A stop is claimed by one tracer only.
 #[test]
 fn a_second_claim_is_forbidden(rt: HostRuntime) -> Result<(), Fail> {
-    let turns = order_of(rt.alloc(), &[publish(), claim(3)], &[claim(4)], 100)?;
-    assert!(rt; turns.is_none());
+    let verdict = verdict_of(rt.alloc(), &[publish(), claim(3)], &[claim(4)], 100)?;
+    assert!(rt; is_forbidden(verdict));
     Ok(())
 }
 
 /// Stamps that touch overlap; one that ends before another begins keeps its place.
 #[test]
 fn a_call_waits_for_those_that_ended(rt: HostRuntime) -> Result<(), Fail> {
-    let touch = order_of(rt.alloc(), &[at(1, 5, claim(3))], &[at(5, 6, publish())], 100)?;
-    assert!(rt; touch.is_some());
-    let later = order_of(rt.alloc(), &[at(1, 4, claim(3))], &[at(5, 6, publish())], 100)?;
-    assert!(rt; later.is_none());
+    let touch = verdict_of(rt.alloc(), &[at(1, 5, claim(3))], &[at(5, 6, publish())], 100)?;
+    assert!(rt; order_in(touch).is_some());
+    let later = verdict_of(rt.alloc(), &[at(1, 4, claim(3))], &[at(5, 6, publish())], 100)?;
+    assert!(rt; is_forbidden(later));
     Ok(())
 }
 
 /// The states are those before any turn, after the publish, and after the claim.
 #[test]
 fn a_budget_may_be_too_small(rt: HostRuntime) -> Result<(), Fail> {
-    let roster = Roster::new(rt.alloc(), &[ROOT])?;
-    let calls = vec![in rt.alloc(); thread_of(rt.alloc(), &[publish(), claim(3)])?]?;
     for budget in 0..3 {
-        let verdict = check(rt.alloc(), &roster, calls.as_slice(), budget);
+        let verdict = verdict_of(rt.alloc(), &[publish(), claim(3)], &[], budget)?;
         assert!(rt; matches!(verdict, Err(CheckError::TooMany)));
     }
-    let verdict = check(rt.alloc(), &roster, calls.as_slice(), 3);
-    assert!(rt; matches!(verdict, Ok(Verdict::Allowed(_))));
+    let verdict = verdict_of(rt.alloc(), &[publish(), claim(3)], &[], 3)?;
+    assert!(rt; order_in(verdict).is_some());
     Ok(())
 }
 
-/// The state of a row that runs is asked for after its only stop was published: no order has the reply.
+/// The tracer that claimed the stop is not told that it does not hold it, nor does a thread that is stopped exit.
 #[test]
 fn a_reply_at_the_end_is_missing(rt: HostRuntime) -> Result<(), Fail> {
     let resume = call(
         BoardCall::Resume(3, Resume { kind: Kind::Cont, signal: 0 }),
         WantedAnswer::Refused(Some(Refused::NotHolder)),
     );
-    let turns = order_of(rt.alloc(), &[publish(), claim(3), resume], &[], 100)?;
-    assert!(rt; turns.is_none());
+    let verdict = verdict_of(rt.alloc(), &[publish(), claim(3), resume], &[], 100)?;
+    assert!(rt; is_forbidden(verdict));
     let end = call(BoardCall::Exit(Death::Exited(0)), WantedAnswer::Done);
-    let turns = order_of(rt.alloc(), &[publish(), end], &[claim(4)], 100)?;
-    assert!(rt; turns.is_none());
+    let verdict = verdict_of(rt.alloc(), &[publish(), end], &[], 100)?;
+    assert!(rt; is_forbidden(verdict));
     Ok(())
 }
 

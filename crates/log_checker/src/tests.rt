@@ -53,6 +53,20 @@ fn at(begin: u64, end: u64, one: LoggedCall) -> LoggedCall
     }
 }
 
+/// The same call without a reply.
+fn unanswered(one: LoggedCall) -> LoggedCall
+    requires { IsBoardCall one.command.call }
+    ensures { IsBoardCall result.command.call }
+{
+    LoggedCall {
+        command: ThreadCommand {
+            wanted: None,
+            ..one.command
+        },
+        stamp: one.stamp,
+    }
+}
+
 /// Row 0 publishes its first stop.
 fn publish() -> LoggedCall
     ensures { IsBoardCall result.command.call }
@@ -154,9 +168,19 @@ fn a_second_claim_is_forbidden(rt: HostRuntime) -> Result<(), Fail> {
 /// Stamps that touch overlap; one that ends before another begins keeps its place.
 #[test]
 fn a_call_waits_for_those_that_ended(rt: HostRuntime) -> Result<(), Fail> {
-    let touch = verdict_of(rt.alloc(), &[at(1, 5, claim(3))], &[at(5, 6, publish())], 100)?;
+    let touch = verdict_of(
+        rt.alloc(),
+        &[at(1, 5, claim(3))],
+        &[at(5, 6, publish())],
+        100,
+    )?;
     assert!(rt; order_in(touch).is_some());
-    let later = verdict_of(rt.alloc(), &[at(1, 4, claim(3))], &[at(5, 6, publish())], 100)?;
+    let later = verdict_of(
+        rt.alloc(),
+        &[at(1, 4, claim(3))],
+        &[at(5, 6, publish())],
+        100,
+    )?;
     assert!(rt; is_forbidden(later));
     Ok(())
 }
@@ -177,7 +201,13 @@ fn a_budget_may_be_too_small(rt: HostRuntime) -> Result<(), Fail> {
 #[test]
 fn a_reply_at_the_end_is_missing(rt: HostRuntime) -> Result<(), Fail> {
     let resume = call(
-        BoardCall::Resume(3, Resume { kind: Kind::Cont, signal: 0 }),
+        BoardCall::Resume(
+            3,
+            Resume {
+                kind: Kind::Cont,
+                signal: 0,
+            },
+        ),
         WantedAnswer::Refused(Some(Refused::NotHolder)),
     );
     let verdict = verdict_of(rt.alloc(), &[publish(), claim(3), resume], &[], 100)?;
@@ -185,6 +215,17 @@ fn a_reply_at_the_end_is_missing(rt: HostRuntime) -> Result<(), Fail> {
     let end = call(BoardCall::Exit(Death::Exited(0)), WantedAnswer::Done);
     let verdict = verdict_of(rt.alloc(), &[publish(), end], &[], 100)?;
     assert!(rt; is_forbidden(verdict));
+    Ok(())
+}
+
+/// A claim that was not answered may not be made yet; but where it ended before a call that was answered, it was made.
+#[test]
+fn a_call_without_a_reply_may_be_missing(rt: HostRuntime) -> Result<(), Fail> {
+    let missing = verdict_of(rt.alloc(), &[publish()], &[unanswered(claim(3))], 2)?;
+    assert!(rt; order_in(missing).is_some_and(|turns| turns.len() == 1));
+    let early = [at(1, 2, unanswered(claim(3)))];
+    let made = verdict_of(rt.alloc(), &[at(3, 4, publish())], &early, 3)?;
+    assert!(rt; order_in(made).is_some_and(|turns| turns.len() == 2));
     Ok(())
 }
 

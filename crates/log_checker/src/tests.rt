@@ -3,9 +3,9 @@
 ghost use Rattle.std.specs.Prelude.{◌≤◌, IfOk, length};
 ghost use Rattle.std.specs.List.{All};
 ghost use Rattle.stop_program.specs.BoardCall.{IsBoardCall};
-ghost use Rattle.log_checker.specs.LoggedCall.{GoesOn, IsAskedWell};
+ghost use Rattle.log_checker.specs.LoggedCall.{IsInLine, IsAskedWell};
 
-use crate::{CheckError, LoggedCall, Stamp, Verdict, check};
+use crate::{CheckError, LoggedCall, Stamp, Verdict, check_log};
 use std::alloc::Allocator;
 use std::test::Fail;
 use stop_board::{Got, Refused, Roster, Row};
@@ -86,7 +86,7 @@ fn thread_of<A: Allocator>(alloc: A, calls: &[LoggedCall]) -> Result<Vec<LoggedC
     requires few { length calls.now ≤ 20 }
     requires asked { All (λ one. IsBoardCall one.command.call) calls.now }
     ensures asked { IfOk result (λ own. IsAskedWell own.items) }
-    ensures onward { IfOk result (λ own. GoesOn own.items) }
+    ensures onward { IfOk result (λ own. IsInLine own.items) }
 {
     let mut own = Vec::new(alloc);
     for at in 0..calls.len() {
@@ -120,7 +120,7 @@ fn verdict_of<A: Allocator + Copy>(
     let mut calls = Vec::new(alloc);
     calls.push(one)?;
     calls.push(other)?;
-    Ok(check(alloc, &roster, calls.as_slice(), budget))
+    Ok(check_log(alloc, &roster, calls.as_slice(), budget))
 }
 
 /// The order that is answered, if the log is allowed.
@@ -233,7 +233,7 @@ fn a_call_without_a_reply_may_be_missing(rt: HostRuntime) -> Result<(), Fail> {
 #[test]
 fn no_calls_are_allowed(rt: HostRuntime) -> Result<(), Fail> {
     let roster = Roster::new(rt.alloc(), &[ROOT])?;
-    let verdict = check(rt.alloc(), &roster, &[], 1);
+    let verdict = check_log(rt.alloc(), &roster, &[], 1);
     assert!(rt; matches!(verdict, Ok(Verdict::Allowed(_))));
     Ok(())
 }
